@@ -1,4 +1,4 @@
-"""Words that no page and no comment has: what to write instead is next to each."""
+"""Words that no page, no comment and no name has: what to write instead is next to each."""
 import re
 
 INSTEAD = {
@@ -21,6 +21,24 @@ INSTEAD = {
     r"at hand": "current",
     r"comes? to": "results in",
 }
+# Of names, parts between capitals and underscores; public names that others have given stay.
+IN_NAMES = {
+    "looseness": "precedence",
+    "dear": "expensive",
+    "dearest": "costliest",
+    "truth": "boolean",
+    "truths": "booleans",
+    "lent": "borrowed",
+    "behind": "after, later",
+    "beside": "next to",
+    "told": "reported",
+    "tells": "reports",
+    "goes": "proceeds, continues",
+    "stands": "is",
+}
+GIVEN = {"NotTruth", "leb_tells"}
+NAME = re.compile(r"[A-Za-z_][A-Za-z_0-9]*")
+PART = re.compile(r"[A-Z]?[a-z0-9]+|[A-Z]+(?![a-z])")
 EACH = [(re.compile(rf"\b(?:{word})\b", re.I), instead) for word, instead in INSTEAD.items()]
 CODE = re.compile(r"^```.*?^```$|`[^`\n]*`", re.M | re.S)
 
@@ -31,3 +49,12 @@ def found_in(text):
     for pattern, instead in EACH:
         for match in pattern.finditer(text):
             yield text.count("\n", 0, match.start()) + 1, match[0], instead
+
+
+def in_names(code):
+    """The names in code, without its texts and comments, that have such a part, each with its line and what to write."""
+    for match in NAME.finditer(code):
+        parts = [part.lower() for part in PART.findall(match[0])]
+        for part in parts if match[0] not in GIVEN else []:
+            if part in IN_NAMES:
+                yield code.count("\n", 0, match.start()) + 1, match[0], IN_NAMES[part]

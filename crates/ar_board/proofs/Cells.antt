@@ -386,15 +386,15 @@ is_posted named workers lock bundle runs total after worker number run old new f
     })
 
 pub not_there : (bundle : Bundle) (workers lock : ℕ) (runs : List Declared) (total number run : ℕ) (kept : Declared) → IsCell bundle workers lock (cell_of runs total) → IsReady bundle workers lock runs number run kept → IsInHistory number (cell_of runs total) → ⊥
-not_there bundle workers lock runs total number run kept is ready stands =
+not_there bundle workers lock runs total number run kept is ready is_there =
     let below = slice_get_within bundle.runs run ready.part ready.there in
     let own = times_own bundle run number (histories_of (cell_of runs total)) (histories_are bundle workers lock (cell_of runs total) is) ready.own below in
     let here = history_is runs total run kept ready.kept_there in
     let none : times_in number (numbers_of (history_at (cell_of runs total) run)) ≡ 0 = ap (λ (history : List Entry). times_in number (numbers_of history)) here ∙ ready.absent in
     omega arith
 
-pub stands : (named : Bundle) (workers lock : ℕ) (bundle : Bundle) (runs : List Declared) (stored : List Bool) (total number : ℕ) (is : Bool) → IsSoundCell named workers lock bundle runs stored total → number < length bundle.entries → is ≡ get_or stored number is → is ≡ true → IsInHistory number (cell_of runs total)
-stands named workers lock bundle runs stored total number is inside there read true_there =
+pub is_there : (named : Bundle) (workers lock : ℕ) (bundle : Bundle) (runs : List Declared) (stored : List Bool) (total number : ℕ) (is : Bool) → IsSoundCell named workers lock bundle runs stored total → number < length bundle.entries → is ≡ get_or stored number is → is ≡ true → IsInHistory number (cell_of runs total)
+is_there named workers lock bundle runs stored total number is inside there read true_there =
     let own = run_of_number bundle number inside.is_bundle there in
     let many = inside.table.as_many in
     let read_there : slice_get stored number ≡ Some is = slice_get_read stored (length stored) number is refl (omega arith) read in

@@ -31,7 +31,7 @@ stored_where bundle histories stored number is are inside there = are.each numbe
 holds : (bundle : Bundle) (histories : List (List Entry)) (receipts : List (List Receipt)) (unmet stored : List Bool) (number : ℕ) → AreAllMarked bundle histories receipts unmet → AreStored (λ number. times number histories) (replicate (length bundle.entries) false) stored → number < length bundle.entries → IsThere unmet stored number → Hold histories receipts number
 holds bundle histories receipts unmet stored number marked are inside there =
     record {
-      stands = stored_where bundle histories stored number true are inside there.stands;
+      is_there = stored_where bundle histories stored number true are inside there.is_there;
       met = λ seat at own receipt own_there at_there for_it. of_all (λ (own : List Receipt). AreMet histories own number) receipts seat own (marked.each number false there.is_met) own_there at receipt at_there for_it;
     }
 
@@ -45,7 +45,7 @@ not_held bundle histories receipts unmet stored number marked are inside unheld 
   unmet_among among = among.unmet.unmet (hold.met among.seat among.unmet.at among.own among.unmet.receipt among.there among.unmet.there among.unmet.for_it)
 
   nowhere : times number histories ≡ 0 → ⊥
-  nowhere none = let some = hold.stands in absurd (omega arith)
+  nowhere none = let some = hold.is_there in absurd (omega arith)
 
 -- what is found by the marks is the least number that isn't held
 pub first_lost : (bundle : Bundle) (histories : List (List Entry)) (receipts : List (List Receipt)) (unmet stored : List Bool) (found : Option ℕ) → AreAllMarked bundle histories receipts unmet → AreStored (λ number. times number histories) (replicate (length bundle.entries) false) stored → FirstUnheld unmet stored found → FirstLost bundle histories receipts found
@@ -67,7 +67,7 @@ once_at : (bundle : Bundle) (workers : ℕ) (whole : PerLock) (histories : List 
 once_at bundle workers whole histories run history are there = of_all (λ (history : List Entry). AtMostOnce (numbers_of history)) histories run history (so_far bundle workers whole histories are).once there
 
 is_lawful : (bundle : Bundle) (workers : ℕ) (whole : PerLock) (histories : List (List Entry)) → IsBundle bundle → AreOfCells bundle workers whole histories → ((number : ℕ) → number < length bundle.entries → 0 < times number histories) → AreLawful bundle histories
-is_lawful bundle workers whole histories is_bundle are stand =
+is_lawful bundle workers whole histories is_bundle are are_there =
     record {
       of_runs = are_histories bundle workers whole histories are;
       once = λ number inside.
@@ -78,14 +78,14 @@ is_lawful bundle workers whole histories is_bundle are stand =
           let history = entry_at histories own.0 (omega arith) in
           let here = get_or_from_slice_get histories own.0 history.0 [] history.1 in
           let most = subst (λ (history : List Entry). AtMostOnce (numbers_of history)) (sym here) (once_at bundle workers whole histories own.0 history.0 are history.1) number in
-          let some = stand number inside in
+          let some = are_there number inside in
           omega arith;
     }
 
 pub is_closed : (bundle : Bundle) (workers : ℕ) (whole : PerLock) (histories : List (List Entry)) (receipts : List (List Receipt)) → IsBundle bundle → AreOfCells bundle workers whole histories → FirstLost bundle histories receipts None → AreAsMany receipts histories → IsClosed bundle receipts histories
 is_closed bundle workers whole histories receipts is_bundle are hold as_many =
     record {
-      lawful = is_lawful bundle workers whole histories is_bundle are (λ number inside. (hold number inside).stands);
+      lawful = is_lawful bundle workers whole histories is_bundle are (λ number inside. (hold number inside).is_there);
       held = hold;
       as_many = as_many;
     }

@@ -9,7 +9,7 @@ use Rattle.ar_limits.specs.Run.{effect_of}
 use Rattle.ar_limits.specs.declared.event.Event.{Event}
 use Rattle.ar_bundle.specs.Sound.{IsBundle, FitsBundle}
 use Rattle.ar_bundle.specs.Bundle.{Bundle, events_of, finding_at, happened, run_at}
-use Rattle.ar_board.specs.Posting.{added, entry_behind, posted, with_number}
+use Rattle.ar_board.specs.Posting.{added, entry_after, posted, with_number}
 use Rattle.ar_board.specs.Core.{StepState, can_put, emptied, has_empty_hand, held, is_parked, occurrences, post_of, put, taken, times_held, times_parked, times_to_put}
 use Rattle.ar_bundle.specs.Lawful.{AreHistories, IsHistory, numbers_of, times, times_in}
 use Rattle.ar_board.specs.Private.Kept.{IsSound}
@@ -168,13 +168,13 @@ record Comes (bundle : Bundle) (run : ℕ) (history : List Entry) (number : ℕ)
   is : entry ≡ record { number = number; finding = finding; effect = effect_of part.limits (events_of bundle (numbers_of history)) event }
 
 comes : (bundle : Bundle) (run : ℕ) (history : List Entry) (number : ℕ) (entry : Entry) (finding : Option Finding) (event : Option Event) (part : Option RunPart) → finding_at bundle number ≡ finding → happened bundle number ≡ event → slice_get bundle.runs run ≡ part
-    → entry_behind bundle run history number ≡ Some entry → Comes bundle run history number entry
-comes bundle run history number entry None event part finds happens there is = absurd (let none : entry_behind bundle run history number ≡ None = rw finds refl in cc)
-comes bundle run history number entry (Some finding) None part finds happens there is = absurd (let none : entry_behind bundle run history number ≡ None = rw (finds, happens) refl in cc)
-comes bundle run history number entry (Some finding) (Some event) None finds happens there is = absurd (let none : entry_behind bundle run history number ≡ None = rw (finds, happens, there) refl in cc)
+    → entry_after bundle run history number ≡ Some entry → Comes bundle run history number entry
+comes bundle run history number entry None event part finds happens there is = absurd (let none : entry_after bundle run history number ≡ None = rw finds refl in cc)
+comes bundle run history number entry (Some finding) None part finds happens there is = absurd (let none : entry_after bundle run history number ≡ None = rw (finds, happens) refl in cc)
+comes bundle run history number entry (Some finding) (Some event) None finds happens there is = absurd (let none : entry_after bundle run history number ≡ None = rw (finds, happens, there) refl in cc)
 comes bundle run history number entry (Some finding) (Some event) (Some part) finds happens there is =
     let made : Entry = record { number = number; finding = finding; effect = effect_of part.limits (events_of bundle (numbers_of history)) event } in
-    let some_made : entry_behind bundle run history number ≡ Some made = rw (finds, happens, there) refl in
+    let some_made : entry_after bundle run history number ≡ Some made = rw (finds, happens, there) refl in
     let same : Some entry ≡ Some made = sym is ∙ some_made in
     record { part = part; finding = finding; event = event; there = there; finds = finds; happens = happens; is = cc }
 
@@ -183,12 +183,12 @@ pub record Adds (bundle : Bundle) (histories : List (List Entry)) (own : ℕ) (l
   pub are : AreHistories bundle 0 bundle.runs later
   pub times : (number : ℕ) → times number later ≡ times number histories + times_held number (Some own)
 
-adds_entry : (bundle : Bundle) (histories : List (List Entry)) (own run : ℕ) (entry : Option Entry) → IsBundle bundle → AreHistories bundle 0 bundle.runs histories → run_at bundle own ≡ Some run → entry_behind bundle run (get_or histories run []) own ≡ entry
+adds_entry : (bundle : Bundle) (histories : List (List Entry)) (own run : ℕ) (entry : Option Entry) → IsBundle bundle → AreHistories bundle 0 bundle.runs histories → run_at bundle own ≡ Some run → entry_after bundle run (get_or histories run []) own ≡ entry
     → IfSome (option_map (added histories run) entry) (Adds bundle histories own)
-adds_entry bundle histories own run None is are own_run behind = tt
-adds_entry bundle histories own run (Some entry) is are own_run behind =
+adds_entry bundle histories own run None is are own_run after = tt
+adds_entry bundle histories own run (Some entry) is are own_run after =
     let history : List Entry = get_or histories run [] in
-    let come = comes bundle run history own entry (finding_at bundle own) (happened bundle own) (slice_get bundle.runs run) refl refl refl behind in
+    let come = comes bundle run history own entry (finding_at bundle own) (happened bundle own) (slice_get bundle.runs run) refl refl refl after in
     let here : 0 + run ≡ run = omega arith in
     let before : IsHistory bundle run come.part.limits history = subst (λ (at : ℕ). IsHistory bundle at come.part.limits history) here (history_at bundle 0 run bundle.runs histories come.part are come.there) in
     let pushed = history_push bundle run come.part.limits history own come.finding come.event own_run come.finds come.happens before in
@@ -203,7 +203,7 @@ adds_entry bundle histories own run (Some entry) is are own_run behind =
 
 adds_of_run : (bundle : Bundle) (histories : List (List Entry)) (own : ℕ) (run : Option ℕ) → IsBundle bundle → AreHistories bundle 0 bundle.runs histories → run_at bundle own ≡ run → IfSome (option_and_then (with_number bundle histories own) run) (Adds bundle histories own)
 adds_of_run bundle histories own None is are own_run = tt
-adds_of_run bundle histories own (Some run) is are own_run = adds_entry bundle histories own run (entry_behind bundle run (get_or histories run []) own) is are own_run refl
+adds_of_run bundle histories own (Some run) is are own_run = adds_entry bundle histories own run (entry_after bundle run (get_or histories run []) own) is are own_run refl
 
 pub adds : (bundle : Bundle) (histories : List (List Entry)) (own : ℕ) → IsBundle bundle → AreHistories bundle 0 bundle.runs histories → IfSome (posted bundle histories own) (Adds bundle histories own)
 adds bundle histories own is are = adds_of_run bundle histories own (run_at bundle own) is are refl

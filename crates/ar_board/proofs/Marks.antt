@@ -10,7 +10,7 @@ use Rattle.ar_bundle.specs.Bundle.{Bundle, run_at}
 use Rattle.ar_bundle.specs.declared.history.Entry.{Entry}
 use Rattle.ar_board.specs.Receipts.{IsLater, IsMet}
 use Rattle.ar_board.specs.Lost.{IsUnmet}
-use Rattle.ar_board.specs.Private.Closing.{AreAllMarked, AreLast, AreMarked, AreMet, AreOwn, IsAt, IsBehind, IsLast, IsLaterOf, LastOf, MarkedAmong, MarkedAs}
+use Rattle.ar_board.specs.Private.Closing.{AreAllMarked, AreLast, AreMarked, AreMet, AreOwn, IsAt, IsAfter, IsLast, IsLaterOf, LastOf, MarkedAmong, MarkedAs}
 use Rattle.ar_board.specs.declared.cell.receipt.Receipt.{Receipt}
 use Rattle.ar_bundle.proofs.Bundles.{run_of_number}
 use Rattle.ar_bundle.proofs.HistoryLemmas.{all_push}
@@ -130,19 +130,19 @@ last_next own at receipt last before later inside read run_inside read_last chos
 
 -- ---- whether a receipt is met
 
-later_where : (earlier : List Receipt) (receipt : Receipt) (last : Option ℕ) → LastOf earlier receipt.run last → IsBehind last receipt.place → IsLater earlier receipt
-later_where earlier receipt None is behind = none earlier is where
+later_where : (earlier : List Receipt) (receipt : Receipt) (last : Option ℕ) → LastOf earlier receipt.run last → IsAfter last receipt.place → IsLater earlier receipt
+later_where earlier receipt None is later = none earlier is where
   none : (earlier : List Receipt) → AllByRecursion (λ (other : Receipt). other.run ≡ receipt.run → ⊥) earlier → IsLater earlier receipt
   none [] all = tt
   none (other ∷ earlier) all = ((λ same. absurd (all.0 same)), none earlier all.1)
-later_where earlier receipt (Some last) is behind = each earlier is.most where
+later_where earlier receipt (Some last) is later = each earlier is.most where
   each : (earlier : List Receipt) → AllByRecursion (λ (other : Receipt). other.run ≡ receipt.run → other.place ≤ last) earlier → IsLater earlier receipt
   each [] all = tt
   each (other ∷ earlier) all = ((λ same. let first = all.0 same in omega arith), each earlier all.1)
 
-behind_where : (earlier : List Receipt) (receipt : Receipt) (last : Option ℕ) → LastOf earlier receipt.run last → IsLater earlier receipt → IsBehind last receipt.place
-behind_where earlier receipt None is later = tt
-behind_where earlier receipt (Some last) is later =
+after_where : (earlier : List Receipt) (receipt : Receipt) (last : Option ℕ) → LastOf earlier receipt.run last → IsLater earlier receipt → IsAfter last receipt.place
+after_where earlier receipt None is later = tt
+after_where earlier receipt (Some last) is later =
     let below : is.receipt.place < receipt.place = of_all (λ (before : Receipt). before.run ≡ receipt.run → before.place < receipt.place) earlier is.at is.receipt later is.there is.own in
     let place = is.place in
     omega arith
@@ -199,20 +199,20 @@ new_mark histories earlier receipt true unmet = refl
 new_mark histories earlier receipt false unmet = unmet_last histories earlier receipt unmet
 
 pub marked_met : (histories : List (List Entry)) (own : List Receipt) (at : ℕ) (receipt : Receipt) (last : List (Option ℕ)) (so_far : Option ℕ) (before marks : List Bool) → at < length own → receipt ≡ slice_index_or own at receipt → receipt.run < length last → so_far ≡ get_or last receipt.run so_far → AreLast (take at own) last
-    → IsAt histories receipt × IsBehind so_far receipt.place → AreMarked histories (take at own) before marks → AreMarked histories (take (at + 1) own) before marks
+    → IsAt histories receipt × IsAfter so_far receipt.place → AreMarked histories (take at own) before marks → AreMarked histories (take (at + 1) own) before marks
 marked_met histories own at receipt last so_far before marks inside read run_inside read_last are met marked =
     let place = are.each receipt.run so_far (slice_get_read last (length last) receipt.run so_far refl run_inside read_last) in
-    let is : IsMet histories (take at own) receipt = record { stands = met.0; later = later_where (take at own) receipt so_far place met.1 } in
+    let is : IsMet histories (take at own) receipt = record { is_there = met.0; later = later_where (take at own) receipt so_far place met.1 } in
     subst (λ (own : List Receipt). AreMarked histories own before marks) (sym (take_next own at receipt inside read)) (record {
       as_many = marked.as_many;
       each = λ number was mark there there_too. kept_mark histories (take at own) receipt number was mark (λ for_it. is) (marked.each number was mark there there_too);
     })
 
 pub marked_unmet : (histories : List (List Entry)) (own : List Receipt) (at : ℕ) (receipt : Receipt) (last : List (Option ℕ)) (so_far : Option ℕ) (before marks : List Bool) → at < length own → receipt ≡ slice_index_or own at receipt → receipt.run < length last → so_far ≡ get_or last receipt.run so_far → AreLast (take at own) last
-    → (IsAt histories receipt × IsBehind so_far receipt.place → ⊥) → receipt.number < length marks → AreMarked histories (take at own) before marks → AreMarked histories (take (at + 1) own) before (set marks receipt.number true)
+    → (IsAt histories receipt × IsAfter so_far receipt.place → ⊥) → receipt.number < length marks → AreMarked histories (take at own) before marks → AreMarked histories (take (at + 1) own) before (set marks receipt.number true)
 marked_unmet histories own at receipt last so_far before marks inside read run_inside read_last are unmet number_inside marked =
     let place = are.each receipt.run so_far (slice_get_read last (length last) receipt.run so_far refl run_inside read_last) in
-    let is_not : IsMet histories (take at own) receipt → ⊥ = λ met. unmet (met.stands, behind_where (take at own) receipt so_far place met.later) in
+    let is_not : IsMet histories (take at own) receipt → ⊥ = λ met. unmet (met.is_there, after_where (take at own) receipt so_far place met.later) in
     subst (λ (own : List Receipt). AreMarked histories own before (set marks receipt.number true)) (sym (take_next own at receipt inside read)) (record {
       as_many = length-set marks receipt.number true ∙ marked.as_many;
       each = λ number was mark there there_too.

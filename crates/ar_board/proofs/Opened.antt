@@ -88,7 +88,7 @@ all_empty [] empty = tt
 all_empty (own ∷ kept) empty = (empty 0 own refl, all_empty kept (λ run other there. empty (suc run) other there))
 
 -- a run of a cell is one that was opened
-record Stands (bundle : Bundle) (workers lock run : ℕ) (runs : List Declared) (own : KeptRun) : Type 0 where
+record IsThere (bundle : Bundle) (workers lock run : ℕ) (runs : List Declared) (own : KeptRun) : Type 0 where
   kept : Declared
   there : slice_get runs run ≡ Some kept
   is : own ≡ kept_of kept
@@ -96,7 +96,7 @@ record Stands (bundle : Bundle) (workers lock run : ℕ) (runs : List Declared) 
   part_there : slice_get bundle.runs run ≡ Some part
   opened : IsOpened part.limits (room_under bundle lock run) workers kept
 
-standing : (bundle : Bundle) (workers lock run : ℕ) (runs : List Declared) (own : KeptRun) → AreOpened bundle workers lock (length bundle.runs) runs → slice_get (map kept_of runs) run ≡ Some own → Stands bundle workers lock run runs own
+standing : (bundle : Bundle) (workers lock run : ℕ) (runs : List Declared) (own : KeptRun) → AreOpened bundle workers lock (length bundle.runs) runs → slice_get (map kept_of runs) run ≡ Some own → IsThere bundle workers lock run runs own
 standing bundle workers lock run runs own opened there =
     let inside = slice_get_within (map kept_of runs) run own there in
     let long = length-map runs kept_of in
@@ -115,7 +115,7 @@ standing bundle workers lock run runs own opened there =
 pub is_empty : (bundle : Bundle) (workers lock total : ℕ) (runs : List Declared) → AreOpened bundle workers lock (length bundle.runs) runs → total ≡ 0 → IsEmpty (cell_of runs total)
 is_empty bundle workers lock total runs opened none =
     record {
-      histories = all_empty (map kept_of runs) (λ run own there. let stands = standing bundle workers lock run runs own opened there in ap (λ (kept : KeptRun). kept.history) stands.is ∙ stands.opened.entries);
+      histories = all_empty (map kept_of runs) (λ run own there. let is_there = standing bundle workers lock run runs own opened there in ap (λ (kept : KeptRun). kept.history) is_there.is ∙ is_there.opened.entries);
       total = none;
     }
 
@@ -124,10 +124,10 @@ is_cell bundle workers lock total runs opened none =
     record {
       as_many = length-map runs kept_of ∙ opened.as_many;
       each = λ run part own part_there there.
-          let stands = standing bundle workers lock run runs own opened there in
-          let same : stands.part ≡ part = (let both = sym stands.part_there ∙ part_there in cc) in
-          subst (IsKept bundle workers lock run part.limits) (sym stands.is) (subst (λ (part : RunPart). IsKept bundle workers lock run part.limits (kept_of stands.kept)) same (empty_run bundle workers lock run (room_under bundle lock run) stands.part stands.kept stands.opened));
-      counted = none ∙ sym (none_counted (map kept_of runs) (λ run own there. let stands = standing bundle workers lock run runs own opened there in ap (λ (kept : KeptRun). kept.history) stands.is ∙ stands.opened.entries));
+          let is_there = standing bundle workers lock run runs own opened there in
+          let same : is_there.part ≡ part = (let both = sym is_there.part_there ∙ part_there in cc) in
+          subst (IsKept bundle workers lock run part.limits) (sym is_there.is) (subst (λ (part : RunPart). IsKept bundle workers lock run part.limits (kept_of is_there.kept)) same (empty_run bundle workers lock run (room_under bundle lock run) is_there.part is_there.kept is_there.opened));
+      counted = none ∙ sym (none_counted (map kept_of runs) (λ run own there. let is_there = standing bundle workers lock run runs own opened there in ap (λ (kept : KeptRun). kept.history) is_there.is ∙ is_there.opened.entries));
     }
 
 no_table : (bundle : Bundle) (workers lock total : ℕ) (runs : List Declared) → IsBundle bundle → AreOpened bundle workers lock (length bundle.runs) runs → IsTable bundle (cell_of runs total) (replicate (length bundle.entries) false)

@@ -50,13 +50,13 @@ turned bundle state run number is sound in_order below there marked later posts 
     let longer : length (get_or later run []) ≡ suc (length history) = ap (λ (history : List Entry). length history) now ∙ (let pushed = length_push history some.0 in omega arith) in
     let next : AreInOrder bundle later = subst (AreInOrder bundle) (sym same) (longer_in_order bundle run state.histories some.0 inside in_order (there ∙ ap Some (sym some.2))) in
     let before : lacking bundle state run ≡ number ∷ drop (suc (length history)) own = lacking_is bundle state run (in_order run) ∙ front_there (length history) number own there in
-    let behind : lacking bundle (parked_moved state number (Some later)) run ≡ drop (suc (length history)) own = lacking_is bundle (parked_moved state number (Some later)) run (next run) ∙ ap (λ (k : ℕ). drop k own) longer in
+    let after : lacking bundle (parked_moved state number (Some later)) run ≡ drop (suc (length history)) own = lacking_is bundle (parked_moved state number (Some later)) run (next run) ∙ ap (λ (k : ℕ). drop k own) longer in
     record {
       sound = moved_sound bundle state number (Some later) marked (subst (λ (posted : Option (List (List Entry))). IfSome posted (Adds bundle state.histories number)) posts (adds bundle state.histories number is sound.histories)) sound;
       in_order = next;
       same =
-          ap (settled_numbers bundle (parked_moved state number (Some later))) behind
+          ap (settled_numbers bundle (parked_moved state number (Some later))) after
           ∙ (sym (moves_first bundle state number (drop (suc (length history)) own) later marked posts)
           ∙ ap (settled_numbers bundle state) (sym before));
-      fewer = ap (λ (numbers : List ℕ). suc (length numbers)) behind ∙ ap (λ (numbers : List ℕ). length numbers) (sym before);
+      fewer = ap (λ (numbers : List ℕ). suc (length numbers)) after ∙ ap (λ (numbers : List ℕ). length numbers) (sym before);
     }

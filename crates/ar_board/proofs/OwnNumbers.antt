@@ -15,21 +15,21 @@ use Rattle.ar_bundle.proofs.HistoryLemmas.{numbers_push, times_by}
 
 -- ---- they rise
 
-behind_by_test : (from low : ℕ) (rest : List ℕ) (test : Bool) → low < from → AllByRecursion (λ number. low < number) rest → AllByRecursion (λ number. low < number) (if test then from ∷ rest else rest)
-behind_by_test from low rest true behind all = (behind, all)
-behind_by_test from low rest false behind all = all
+after_by_test : (from low : ℕ) (rest : List ℕ) (test : Bool) → low < from → AllByRecursion (λ number. low < number) rest → AllByRecursion (λ number. low < number) (if test then from ∷ rest else rest)
+after_by_test from low rest true later all = (later, all)
+after_by_test from low rest false later all = all
 
-all_behind : (run from low : ℕ) (entries : List EventPart) → low < from → AllByRecursion (λ number. low < number) (own_from run from entries)
-all_behind run from low [] behind = tt
-all_behind run from low (entry ∷ entries) behind = behind_by_test from low (own_from run (suc from) entries) (entry.run == run) behind (all_behind run (suc from) low entries (omega arith))
+all_after : (run from low : ℕ) (entries : List EventPart) → low < from → AllByRecursion (λ number. low < number) (own_from run from entries)
+all_after run from low [] later = tt
+all_after run from low (entry ∷ entries) later = after_by_test from low (own_from run (suc from) entries) (entry.run == run) later (all_after run (suc from) low entries (omega arith))
 
 rise_by_test : (from : ℕ) (rest : List ℕ) (test : Bool) → AllByRecursion (λ number. from < number) rest → Rise rest → Rise (if test then from ∷ rest else rest)
-rise_by_test from rest true behind rise = (behind, rise)
-rise_by_test from rest false behind rise = rise
+rise_by_test from rest true later rise = (later, rise)
+rise_by_test from rest false later rise = rise
 
 own_rise : (run from : ℕ) (entries : List EventPart) → Rise (own_from run from entries)
 own_rise run from [] = tt
-own_rise run from (entry ∷ entries) = rise_by_test from (own_from run (suc from) entries) (entry.run == run) (all_behind run (suc from) from entries (omega arith)) (own_rise run (suc from) entries)
+own_rise run from (entry ∷ entries) = rise_by_test from (own_from run (suc from) entries) (entry.run == run) (all_after run (suc from) from entries (omega arith)) (own_rise run (suc from) entries)
 
 all_take : (P : ℕ → Type 0) (k : ℕ) (numbers : List ℕ) → AllByRecursion P numbers → AllByRecursion P (take k numbers)
 all_take P zero numbers all = tt
@@ -47,32 +47,32 @@ first_rise bundle run history has = subst Rise (sym has) (rise_take (length hist
 -- ---- each of them is the run's
 
 -- where a number of a run is among entries that are numbered from one on
-record Stands (run from number : ℕ) (entries : List EventPart) : Type 0 where
+record IsThere (run from number : ℕ) (entries : List EventPart) : Type 0 where
   place : ℕ
   is : number ≡ from + place
   own : option_map (λ (entry : EventPart). entry.run) (slice_get entries place) ≡ Some run
 
-stands_later : (run from number : ℕ) (entry : EventPart) (entries : List EventPart) → Stands run (suc from) number entries → Stands run from number (entry ∷ entries)
-stands_later run from number entry entries stands = let at = stands.is in record { place = suc stands.place; is = omega arith; own = stands.own }
+is_there_later : (run from number : ℕ) (entry : EventPart) (entries : List EventPart) → IsThere run (suc from) number entries → IsThere run from number (entry ∷ entries)
+is_there_later run from number entry entries is_there = let at = is_there.is in record { place = suc is_there.place; is = omega arith; own = is_there.own }
 
-stands_by_test : (run from number place : ℕ) (entry : EventPart) (entries : List EventPart) (test : Bool) → (entry.run == run) ≡ test → ((place : ℕ) → slice_get (own_from run (suc from) entries) place ≡ Some number → Stands run (suc from) number entries)
-    → slice_get (if test then from ∷ own_from run (suc from) entries else own_from run (suc from) entries) place ≡ Some number → Stands run from number (entry ∷ entries)
-stands_by_test run from number zero entry entries true is later there =
+is_there_by_test : (run from number place : ℕ) (entry : EventPart) (entries : List EventPart) (test : Bool) → (entry.run == run) ≡ test → ((place : ℕ) → slice_get (own_from run (suc from) entries) place ≡ Some number → IsThere run (suc from) number entries)
+    → slice_get (if test then from ∷ own_from run (suc from) entries else own_from run (suc from) entries) place ≡ Some number → IsThere run from number (entry ∷ entries)
+is_there_by_test run from number zero entry entries true is later there =
     let same : from ≡ number = cc in
     let own : entry.run ≡ run = grind (arith, nat_tests) in
     record { place = 0; is = omega arith; own = ap Some own }
-stands_by_test run from number (suc place) entry entries true is later there = stands_later run from number entry entries (later place there)
-stands_by_test run from number place entry entries false is later there = stands_later run from number entry entries (later place there)
+is_there_by_test run from number (suc place) entry entries true is later there = is_there_later run from number entry entries (later place there)
+is_there_by_test run from number place entry entries false is later there = is_there_later run from number entry entries (later place there)
 
-own_stands : (run from number place : ℕ) (entries : List EventPart) → slice_get (own_from run from entries) place ≡ Some number → Stands run from number entries
-own_stands run from number place [] there = absurd cc
-own_stands run from number place (entry ∷ entries) there = stands_by_test run from number place entry entries (entry.run == run) refl (λ place there. own_stands run (suc from) number place entries there) there
+own_is_there : (run from number place : ℕ) (entries : List EventPart) → slice_get (own_from run from entries) place ≡ Some number → IsThere run from number entries
+own_is_there run from number place [] there = absurd cc
+own_is_there run from number place (entry ∷ entries) there = is_there_by_test run from number place entry entries (entry.run == run) refl (λ place there. own_is_there run (suc from) number place entries there) there
 
 pub own_is_of : (bundle : Bundle) (run number place : ℕ) → slice_get (own_numbers bundle run) place ≡ Some number → run_at bundle number ≡ Some run
 own_is_of bundle run number place there =
-    let stands = own_stands run 0 number place bundle.entries there in
-    let same : number ≡ stands.place = (let is = stands.is in omega arith) in
-    ap (run_at bundle) same ∙ stands.own
+    let is_there = own_is_there run 0 number place bundle.entries there in
+    let same : number ≡ is_there.place = (let is = is_there.is in omega arith) in
+    ap (run_at bundle) same ∙ is_there.own
 
 -- ---- those that a history lacks
 
@@ -98,8 +98,8 @@ rest_is_lacked (suc k) [] rise = refl
 rest_is_lacked (suc k) (first ∷ own) rise =
     let before : List ℕ = take k own in
     let like : (first == first) ≡ true = grind (arith, nat_tests) in
-    let stands : (times_in first (first ∷ before) == 0) ≡ false = ap (λ (times : ℕ). times == 0) (times_by first first before true like) ∙ grind (arith, nat_tests) in
-    let left_out : filter (λ number. times_in number (first ∷ before) == 0) (first ∷ own) ≡ filter (λ number. times_in number (first ∷ before) == 0) own = rw stands refl in
+    let is_there : (times_in first (first ∷ before) == 0) ≡ false = ap (λ (times : ℕ). times == 0) (times_by first first before true like) ∙ grind (arith, nat_tests) in
+    let left_out : filter (λ number. times_in number (first ∷ before) == 0) (first ∷ own) ≡ filter (λ number. times_in number (first ∷ before) == 0) own = rw is_there refl in
     left_out
     ∙ (filter_same (λ number. times_in number (first ∷ before) == 0) (λ number. times_in number before == 0) own (lower_stays first before own rise.0)
     ∙ rest_is_lacked k own rise.1)

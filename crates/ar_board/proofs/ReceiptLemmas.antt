@@ -39,18 +39,18 @@ module _ (receipt : Receipt) where
   first_by before rest true same true is_less = inl (λ same. grind (arith, nat_tests))
   first_by before rest true same false is_less = inr (record { at = 0; before = before; there = refl; same_run = grind (arith, nat_tests); greater = grind (arith, nat_tests) })
 
-  behind_or_not : (earlier : List Receipt) → IsLater earlier receipt ⊎ IsOutOfOrder earlier receipt
-  behind_or_not [] = inl tt
-  behind_or_not (before ∷ rest) =
+  after_or_not : (earlier : List Receipt) → IsLater earlier receipt ⊎ IsOutOfOrder earlier receipt
+  after_or_not [] = inl tt
+  after_or_not (before ∷ rest) =
       ⊎_elim
-      (λ (first : before.run ≡ receipt.run → before.place < receipt.place). ⊎_elim (λ (others : IsLater rest receipt). inl (first, others)) (λ (out : IsOutOfOrder rest receipt). inr (later before rest out)) (behind_or_not rest))
+      (λ (first : before.run ≡ receipt.run → before.place < receipt.place). ⊎_elim (λ (others : IsLater rest receipt). inl (first, others)) (λ (out : IsOutOfOrder rest receipt). inr (later before rest out)) (after_or_not rest))
       (λ (out : IsOutOfOrder (before ∷ rest) receipt). inr out)
       (first_by before rest (before.run == receipt.run) refl (nat_lt before.place receipt.place) refl)
 
-  behind_each : (earlier : List Receipt) (at : ℕ) (before : Receipt) → IsLater earlier receipt → slice_get earlier at ≡ Some before → before.run ≡ receipt.run → before.place < receipt.place
-  behind_each [] at before behind there same = absurd cc
-  behind_each (first ∷ rest) zero before behind there same = let is : first ≡ before = cc in subst (λ (before : Receipt). before.run ≡ receipt.run → before.place < receipt.place) is behind.0 same
-  behind_each (first ∷ rest) (suc at) before behind there same = behind_each rest at before behind.1 there same
+  after_each : (earlier : List Receipt) (at : ℕ) (before : Receipt) → IsLater earlier receipt → slice_get earlier at ≡ Some before → before.run ≡ receipt.run → before.place < receipt.place
+  after_each [] at before after there same = absurd cc
+  after_each (first ∷ rest) zero before after there same = let is : first ≡ before = cc in subst (λ (before : Receipt). before.run ≡ receipt.run → before.place < receipt.place) is after.0 same
+  after_each (first ∷ rest) (suc at) before after there same = after_each rest at before after.1 there same
 
 missing_or_elsewhere : (histories : List (List Entry)) (receipt : Receipt) (many : ℕ) → times_in receipt.number (numbers_at histories receipt.run) ≡ many → slice_get (numbers_at histories receipt.run) receipt.place ≢ Some receipt.number → IsMissing histories receipt ⊎ IsElsewhere histories receipt
 missing_or_elsewhere histories receipt zero is apart = inl is
@@ -59,8 +59,8 @@ missing_or_elsewhere histories receipt (suc many) is apart = inr (record { there
 pub met_or_not : (histories : List (List Entry)) (earlier : List Receipt) (receipt : Receipt) → IsMet histories earlier receipt ⊎ (IsMissing histories receipt ⊎ (IsElsewhere histories receipt ⊎ IsOutOfOrder earlier receipt))
 met_or_not histories earlier receipt =
     ⊎_elim
-    (λ (stands : slice_get (numbers_at histories receipt.run) receipt.place ≡ Some receipt.number).
-    ⊎_elim (λ (behind : IsLater earlier receipt). inl (record { stands = stands; later = behind })) (λ (out : IsOutOfOrder earlier receipt). inr (inr (inr out))) (behind_or_not receipt earlier))
+    (λ (is_there : slice_get (numbers_at histories receipt.run) receipt.place ≡ Some receipt.number).
+    ⊎_elim (λ (after : IsLater earlier receipt). inl (record { is_there = is_there; later = after })) (λ (out : IsOutOfOrder earlier receipt). inr (inr (inr out))) (after_or_not receipt earlier))
     (λ (apart : slice_get (numbers_at histories receipt.run) receipt.place ≢ Some receipt.number).
     ⊎_elim (λ (missing : IsMissing histories receipt). inr (inl missing)) (λ (elsewhere : IsElsewhere histories receipt). inr (inr (inl elsewhere)))
     (missing_or_elsewhere histories receipt (times_in receipt.number (numbers_at histories receipt.run)) refl apart))
@@ -68,6 +68,6 @@ met_or_not histories earlier receipt =
 
 pub met_has_no_cause : (histories : List (List Entry)) (earlier : List Receipt) (receipt : Receipt) → IsMet histories earlier receipt → (IsMissing histories receipt ⊎ (IsElsewhere histories receipt ⊎ IsOutOfOrder earlier receipt)) → ⊥
 met_has_no_cause histories earlier receipt met =
-    ⊎_elim (λ (missing : IsMissing histories receipt). let there = counted_at receipt.number receipt.place (numbers_at histories receipt.run) met.stands in omega arith)
-    (⊎_elim (λ (elsewhere : IsElsewhere histories receipt). elsewhere.apart met.stands)
-    (λ (out : IsOutOfOrder earlier receipt). let less = behind_each receipt earlier out.at out.before met.later out.there out.same_run in let greater = out.greater in omega arith))
+    ⊎_elim (λ (missing : IsMissing histories receipt). let there = counted_at receipt.number receipt.place (numbers_at histories receipt.run) met.is_there in omega arith)
+    (⊎_elim (λ (elsewhere : IsElsewhere histories receipt). elsewhere.apart met.is_there)
+    (λ (out : IsOutOfOrder earlier receipt). let less = after_each receipt earlier out.at out.before met.later out.there out.same_run in let greater = out.greater in omega arith))

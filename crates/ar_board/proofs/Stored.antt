@@ -132,9 +132,9 @@ pub first_nowhere : (unmet stored : List Bool) (number : ℕ) → number < lengt
 first_nowhere unmet stored number inside stored_inside is earlier = record { there = inside; unheld = inr (marked_at stored number false stored_inside is); earlier = earlier }
 
 pub there_next : (unmet stored : List Bool) (number : ℕ) → number < length unmet → number < length stored → get_or unmet number false ≡ false → get_or stored number false ≡ true → ((other : ℕ) → other < number → IsThere unmet stored other) → (other : ℕ) → other < number + 1 → IsThere unmet stored other
-there_next unmet stored number inside stored_inside met stands earlier other below = by_test (number == other) refl where
+there_next unmet stored number inside stored_inside met is_there earlier other below = by_test (number == other) refl where
   by_test : (test : Bool) → (number == other) ≡ test → IsThere unmet stored other
   by_test true same =
       let equal : number ≡ other = grind (arith, nat_tests) in
-      subst (IsThere unmet stored) equal (record { is_met = marked_at unmet number false inside met; stands = marked_at stored number true stored_inside stands })
+      subst (IsThere unmet stored) equal (record { is_met = marked_at unmet number false inside met; is_there = marked_at stored number true stored_inside is_there })
   by_test false apart = let less : other < number = grind (arith, nat_tests) in earlier other less

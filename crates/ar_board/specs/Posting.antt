@@ -25,8 +25,8 @@ entry_posted bundle run history number finding event =
     option_map (λ part. entry_with number finding part.limits (events_of bundle (numbers_of history)) event)
     (slice_get bundle.runs run)
 
-abbrev pub entry_behind : Bundle → (run : ℕ) → List Entry → (number : EventNumber) → Option Entry
-entry_behind bundle run history number =
+abbrev pub entry_after : Bundle → (run : ℕ) → List Entry → (number : EventNumber) → Option Entry
+entry_after bundle run history number =
     option_and_then (λ finding. option_and_then (entry_posted bundle run history number finding) (happened bundle
     number)) (finding_at bundle number)
 
@@ -36,7 +36,7 @@ added histories run entry = set histories run (get_or histories run [] ++ entry 
 
 abbrev pub with_number : Bundle → List (List Entry) → (number run : ℕ) → Option (List (List Entry))
 with_number bundle histories number run =
-    option_map (added histories run) (entry_behind bundle run (get_or histories run []) number)
+    option_map (added histories run) (entry_after bundle run (get_or histories run []) number)
 
 abbrev pub posted : Bundle → List (List Entry) → (number : EventNumber) → Option (List (List Entry))
 posted bundle histories number = option_and_then (with_number bundle histories number) (run_at bundle number)

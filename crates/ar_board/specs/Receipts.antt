@@ -39,13 +39,13 @@ IsLater earlier receipt = AllByRecursion (λ before. before.run ≡ receipt.run 
 
 -- the number is at the receipt's position, which is later than those of the worker's earlier receipts for the run
 pub record IsMet (histories : List (List Entry)) (earlier : List Receipt) (receipt : Receipt) : Type 0 where
-  pub stands : slice_get (numbers_at histories receipt.run) receipt.place ≡ Some receipt.number
+  pub is_there : slice_get (numbers_at histories receipt.run) receipt.place ≡ Some receipt.number
   pub later : IsLater earlier receipt
 
 -- histories hold a number where it is in one of them, and each receipt for it is met, whichever seat has it; these
 -- are the receipts of each seat, in the order in which they were given
 pub record Hold (histories : List (List Entry)) (receipts : List (List Receipt)) (number : ℕ) : Type 0 where
-  pub stands : 0 < times number histories
+  pub is_there : 0 < times number histories
   pub met : (seat at : ℕ) (own : List Receipt) (receipt : Receipt) → slice_get receipts seat ≡ Some own
       → slice_get own at ≡ Some receipt
       → receipt.number ≡ number → IsMet histories (take at own) receipt

@@ -83,8 +83,8 @@ impl<'b, M: BundleName, L: LockNames> Board<'b, M, L> {
         Ok((board, seats))
     }
 
-    /// A worker's finding of a number moves to the end of its run's history, and its seat has one receipt
-    /// more. Out of memory is never returned.
+    /// Adds a worker's finding of a number to the end of its run's history, under the run's lock, and gives the
+    /// worker's seat a receipt: the run, the number and the place of the entry. It takes no memory.
     ///
     /// # Errors
     ///

@@ -4,7 +4,7 @@ ghost use Rattle.std.specs.Prelude.{◌≡◌, ◌<◌, ◌≤◌, ◌↔◌, fa
 ghost use Rattle.std.specs.List.{AllByRecursion};
 ghost use Rattle.ar_bundle.specs.Sound.{IsBundle};
 ghost use Rattle.ar_bundle.specs.Lawful.{numbers_of, times, times_in};
-ghost use Rattle.ar_board.specs.Private.Closing.{AreAllMarked, AreInside, AreMarked, AreOwn, AreStored, FirstLost, FirstUnheld, IsAt, IsBehind, IsLaterOf, IsReady, lists_of};
+ghost use Rattle.ar_board.specs.Private.Closing.{AreAllMarked, AreInside, AreMarked, AreOwn, AreStored, FirstLost, FirstUnheld, IsAt, IsAfter, IsLaterOf, IsReady, lists_of};
 
 use crate::Receipt;
 use ar_bundle::{Bundle, BundleName, Entry, History};
@@ -113,13 +113,13 @@ fn note_unmet<M: BundleName>(histories: &[History], own: &[Receipt], unmet: &mut
 /// Whether a receipt's number is at its position, after the last position so far.
 fn is_met(histories: &[History], receipt: &Receipt, last: Option<usize>) -> bool
     requires there { receipt.now.run < length histories.now }
-    ensures { IsTrue result ↔ (IsAt histories.now receipt.now × IsBehind last receipt.now.place) }
+    ensures { IsTrue result ↔ (IsAt histories.now receipt.now × IsAfter last receipt.now.place) }
 {
-    let is_behind = match last {
+    let is_after = match last {
         Some(last) => last < receipt.place,
         None => true,
     };
-    is_behind && is_at(histories, receipt)
+    is_after && is_at(histories, receipt)
 }
 
 /// Whether a receipt's number is at its position.

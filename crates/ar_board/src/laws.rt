@@ -46,8 +46,8 @@ pub fn ordered_histories_rise()
         → AllRise (after_steps bundle places true (opening bundle workers) steps).histories }
 {}
 
-/// There the least number that a run's history lacks isn't parked: a parked number waits for a lower
-/// one of its run.
+/// In an ordered core the least number that a run's history lacks isn't parked: a parked number waits for a lower one
+/// of its run.
 pub fn parked_numbers_wait()
     ensures { (bundle : Bundle) (workers places run number : ℕ) (others : List ℕ) (steps : List CoreStep)
         → IsBundle bundle

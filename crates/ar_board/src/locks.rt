@@ -18,7 +18,7 @@ pub struct Blanks {
 }
 
 impl Blanks {
-    /// Of ledgers with `parts` parts each.
+    /// Four new ledgers of `parts` parts each, which no lock has yet.
     pub fn new(parts: u64) -> Blanks
         ensures { AreOf (lock_names result) parts result }
     {

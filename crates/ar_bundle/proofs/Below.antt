@@ -86,15 +86,15 @@ pub not_yet : (bundle : Bundle) (run upto number : ℕ) → upto ≤ number → 
 not_yet bundle run upto number further = never number (below bundle run upto) (all_unlike number upto (below bundle run upto) further (are_below bundle run upto))
 
 -- another number comes after
-behind_other : (number last : ℕ) (numbers : List ℕ) → last ≢ number → times_in number (numbers ++ last ∷ []) ≡ times_in number numbers
-behind_other number last numbers away =
+after_other : (number last : ℕ) (numbers : List ℕ) → last ≢ number → times_in number (numbers ++ last ∷ []) ≡ times_in number numbers
+after_other number last numbers away =
     let none : times_in number (last ∷ []) ≡ 0 = never number (last ∷ []) (away, tt) in
     let pushed = times_push number last numbers in
     omega arith
 
 -- the number itself comes after
-behind_own : (number last : ℕ) (numbers : List ℕ) → (last == number) ≡ true → times_in number numbers ≡ 0 → times_in number (numbers ++ last ∷ []) ≡ 1
-behind_own number last numbers test none =
+after_own : (number last : ℕ) (numbers : List ℕ) → (last == number) ≡ true → times_in number numbers ≡ 0 → times_in number (numbers ++ last ∷ []) ≡ 1
+after_own number last numbers test none =
     let one : times_in number (last ∷ []) ≡ 1 = times_by number last [] true test in
     let pushed = times_push number last numbers in
     omega arith
@@ -110,7 +110,7 @@ step_by_own : (bundle : Bundle) (run upto number of : ℕ) (test : Bool) → run
 step_by_own bundle run upto number of true there test apart =
     let same : of ≡ run = grind (arith, nat_tests) in
     let here : run_at bundle upto ≡ Some run = there ∙ ap Some same in
-    ap (times_in number) (own_is bundle run upto here) ∙ behind_other number upto (below bundle run upto) (apart here)
+    ap (times_in number) (own_is bundle run upto here) ∙ after_other number upto (below bundle run upto) (apart here)
 step_by_own bundle run upto number of false there test apart =
     let away : of ≢ run = grind (arith, nat_tests) in
     ap (times_in number) (other_is bundle run upto of there away)
@@ -132,7 +132,7 @@ once_by_test : (bundle : Bundle) (run upto number : ℕ) (test : Bool) → (upto
 once_by_test bundle run upto number true test is small earlier =
     let same : upto ≡ number = grind (arith, nat_tests) in
     let here : run_at bundle upto ≡ Some run = ap (run_at bundle) same ∙ is in
-    ap (times_in number) (own_is bundle run upto here) ∙ behind_own number upto (below bundle run upto) test (not_yet bundle run upto number (omega arith))
+    ap (times_in number) (own_is bundle run upto here) ∙ after_own number upto (below bundle run upto) test (not_yet bundle run upto number (omega arith))
 once_by_test bundle run upto number false test is small earlier =
     let apart : upto ≢ number = grind (arith, nat_tests) in
     stays bundle run upto number (λ here. apart) ∙ earlier (omega arith)

@@ -66,5 +66,5 @@ are_lawful bundle states histories is grown =
     }
 
 -- after the last number
-pub lawful_behind : (bundle : Bundle) (number : ℕ) (states : List Standing) (histories : List (List Entry)) → IsBundle bundle → number ≡ length bundle.entries → AreGrown bundle number 0 bundle.runs states histories → AreLawful bundle histories
-lawful_behind bundle number states histories is all grown = are_lawful bundle states histories is (subst (λ number. AreGrown bundle number 0 bundle.runs states histories) all grown)
+pub lawful_after : (bundle : Bundle) (number : ℕ) (states : List Standing) (histories : List (List Entry)) → IsBundle bundle → number ≡ length bundle.entries → AreGrown bundle number 0 bundle.runs states histories → AreLawful bundle histories
+lawful_after bundle number states histories is all grown = are_lawful bundle states histories is (subst (λ number. AreGrown bundle number 0 bundle.runs states histories) all grown)

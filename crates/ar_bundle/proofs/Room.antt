@@ -156,24 +156,24 @@ all_inside bundle run [] all = tt
 all_inside bundle run (entry ∷ history) all = let found = all.0 in (number_inside bundle entry.number run found.own, all_inside bundle run history all.1)
 
 own_by_test : (bundle : Bundle) (run number : ℕ) (entry : Entry) (history : List Entry) (test : Bool) → (entry.number == number) ≡ test → run_at bundle entry.number ≡ Some run → 0 < times_in number (numbers_of (entry ∷ history)) → (0 < times_in number (numbers_of history) → run_at bundle number ≡ Some run) → run_at bundle number ≡ Some run
-own_by_test bundle run number entry history true is own stands later =
+own_by_test bundle run number entry history true is own is_there later =
     let same : entry.number ≡ number = grind (arith, nat_tests) in
     subst (λ (number : ℕ). run_at bundle number ≡ Some run) same own
-own_by_test bundle run number entry history false is own stands later =
+own_by_test bundle run number entry history false is own is_there later =
     let rest : times_in number (numbers_of (entry ∷ history)) ≡ times_in number (numbers_of history) = rw is refl in
     later (omega arith)
 
 -- a number that is there is one of the run
-own_where_it_stands : (bundle : Bundle) (run number : ℕ) (history : List Entry) → AllByRecursion (IsFound bundle run) history → 0 < times_in number (numbers_of history) → run_at bundle number ≡ Some run
-own_where_it_stands bundle run number [] all stands = absurd (omega arith)
-own_where_it_stands bundle run number (entry ∷ history) all stands =
+own_where_it_is : (bundle : Bundle) (run number : ℕ) (history : List Entry) → AllByRecursion (IsFound bundle run) history → 0 < times_in number (numbers_of history) → run_at bundle number ≡ Some run
+own_where_it_is bundle run number [] all is_there = absurd (omega arith)
+own_where_it_is bundle run number (entry ∷ history) all is_there =
     let found = all.0 in
-    own_by_test bundle run number entry history (entry.number == number) refl found.own stands (own_where_it_stands bundle run number history all.1)
+    own_by_test bundle run number entry history (entry.number == number) refl found.own is_there (own_where_it_is bundle run number history all.1)
 
 most_by_times : (bundle : Bundle) (run number times : ℕ) (history : List Entry) → AllByRecursion (IsFound bundle run) history → times_in number (numbers_of history) ≡ times → times ≤ 1 → times_in number (numbers_of history) ≤ of_run run (run_at bundle number)
 most_by_times bundle run number zero history all is once = omega arith
 most_by_times bundle run number (suc times) history all is once =
-    let own = own_where_it_stands bundle run number history all (omega arith) in
+    let own = own_where_it_is bundle run number history all (omega arith) in
     let one = own_counts run (run_at bundle number) own in
     omega arith
 

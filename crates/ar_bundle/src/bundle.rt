@@ -168,12 +168,14 @@ impl Bundle {
         }
     }
 
+    /// The metrics of its template, in their order.
     pub fn metrics(&self) -> &[MetricPart]
         ensures { result.now ≡ self.now.metrics }
     {
         &self.metrics
     }
 
+    /// Its runs, in their order; and that it is a bundle, which a caller may need to know.
     pub fn runs(&self) -> &[RunPart]
         ensures runs { result.now ≡ self.now.runs }
         ensures bundle { IsBundle self.now }
@@ -181,6 +183,7 @@ impl Bundle {
         &self.runs
     }
 
+    /// Its measurements and stops, each at its number.
     pub fn entries(&self) -> &[EventPart]
         ensures { result.now ≡ self.now.entries }
     {

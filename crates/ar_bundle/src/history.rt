@@ -50,6 +50,7 @@ impl History {
         Ok(())
     }
 
+    /// Its entries, in the order in which they were added.
     pub fn entries(&self) -> &[Entry]
         ensures { result.now ≡ self.now }
     {
@@ -88,6 +89,7 @@ impl Model for Histories {
 }
 
 impl Histories {
+    /// Each run's history, at the index of the run.
     pub fn runs(&self) -> &[History]
         ensures { result.now ≡ self.now }
     {

@@ -17,7 +17,7 @@ pub struct Runs {
 }
 
 impl Runs {
-    /// Those to which nothing has happened.
+    /// The bundle's runs before any event: each with its metrics' limits and an empty history.
     #[tactic(auto, using(crate::proofs::Grown::positive))]
     pub fn open(alloc: Global, bundle: &Bundle) -> Result<Runs, AllocError>
         requires { IsBundle bundle.now }

@@ -6,7 +6,7 @@ use Rattle.ar_value.specs.declared.operator.UnaryOperator.TheVariants as unary
 use Rattle.ar_value.specs.Answer.{◌>>=◌}
 use Rattle.ar_value.specs.Arithmetic.{decimal_of_whole}
 use Rattle.ar_value.specs.Fits.{fits}
-use Rattle.ar_value.specs.Kind.{Kind, nil, shaped, common, fits_kind, is_decimal, merge, plain, turned_beside, whole_as_decimal, truth_kind}
+use Rattle.ar_value.specs.Kind.{Kind, nil, shaped, common, fits_kind, is_decimal, merge, plain, converted_next_to, whole_as_decimal, boolean_kind}
 use Rattle.ar_value.specs.Shape.{Shape}
 use Rattle.ar_value.specs.Shape as shapes
 use Rattle.ar_value.specs.Value.{Value}
@@ -17,13 +17,13 @@ use Rattle.ar_check.specs.Check.{choice_in, choice_of, common_default, default_o
 use Rattle.ar_value.specs.Operators.{Failure, Meaning}
 use Rattle.ar_tree.specs.Meaning.{mean}
 use Rattle.ar_value.specs.Operators as operators
-use Rattle.ar_check.specs.Operand.{Operand, is_truth, is_whole, made_plain, turned}
+use Rattle.ar_check.specs.Operand.{Operand, is_boolean, is_whole, unwrapped, converted}
 use Rattle.ar_tree.specs.Typed.{Typed}
 use Rattle.ar_tree.specs.Typed as typed
 use Rattle.ar_check.proofs.Means.{Means, MeansKind, Sound, either_means, means_then, wanted}
 use Rattle.ar_check.proofs.Operands.{is_true}
-use Rattle.ar_check.proofs.OperatorKinds.{truth_then}
-use Rattle.ar_check.proofs.Sums.{turned_means}
+use Rattle.ar_check.proofs.OperatorKinds.{boolean_then}
+use Rattle.ar_check.proofs.Sums.{converted_means}
 
 -- ---- kinds in common
 
@@ -114,18 +114,18 @@ by_nil kind v w false is h k = h is
 
 module _ (result : Value) (here : Option Value) where
   -- a tree next to a decimal, or next to something else
-  turned_shape : (turns : Bool) (shape : Shape) (tree : Typed) → MeansKind (shaped shape) (mean result here tree)
+  converted_shape : (turns : Bool) (shape : Shape) (tree : Typed) → MeansKind (shaped shape) (mean result here tree)
       → MeansKind (if turns then shaped (whole_as_decimal shape) else shaped shape) (mean result here (if turns && is_whole (plain shape) then typed.unary unary.ToDecimal tree else tree))
-  turned_shape false shape tree h = h
-  turned_shape true shapes.whole tree h = turned_means result here tree h
-  turned_shape true (shapes.optional shapes.whole) tree h = means_then _ _ (mean result here tree) operators.to_decimal h optional_turns
-  turned_shape true shape tree h = h
+  converted_shape false shape tree h = h
+  converted_shape true shapes.whole tree h = converted_means result here tree h
+  converted_shape true (shapes.optional shapes.whole) tree h = means_then _ _ (mean result here tree) operators.to_decimal h optional_turns
+  converted_shape true shape tree h = h
 
   -- a tree next to another means what its kind is converted to
-  turned_kind : (other kind : Kind) (tree : Typed) → MeansKind kind (mean result here tree) → MeansKind (turned_beside other kind) (mean result here (turned other kind tree))
-  turned_kind nil kind tree h = h
-  turned_kind (shaped other) nil tree h = h
-  turned_kind (shaped other) (shaped shape) tree h = turned_shape (is_decimal other) shape tree h
+  converted_kind : (other kind : Kind) (tree : Typed) → MeansKind kind (mean result here tree) → MeansKind (converted_next_to other kind) (mean result here (converted other kind tree))
+  converted_kind nil kind tree h = h
+  converted_kind (shaped other) nil tree h = h
+  converted_kind (shaped other) (shaped shape) tree h = converted_shape (is_decimal other) shape tree h
 
   -- the first side of a default: plain where it isn't nil
   pub unless_nil : (kind : Kind) (tree : Typed) → MeansKind kind (mean result here tree) → Means (UnlessNil (plain_kind kind)) (mean result here tree)
@@ -133,43 +133,43 @@ module _ (result : Value) (here : Option Value) where
   unless_nil (shaped shape) tree h = means_some (λ v. fits v shape ≡ true) (UnlessNil (shaped (plain shape))) (mean result here tree) (λ v fit some. not_nil_fits v shape fit some) h
 
   -- likewise next to a decimal, or next to something else
-  turned_plain : (turns : Bool) (shape : Shape) (tree : Typed) → Means (UnlessNil (shaped shape)) (mean result here tree)
+  converted_plain : (turns : Bool) (shape : Shape) (tree : Typed) → Means (UnlessNil (shaped shape)) (mean result here tree)
       → Means (UnlessNil (if turns then shaped (whole_as_decimal shape) else shaped shape)) (mean result here (if turns && is_whole (plain shape) then typed.unary unary.ToDecimal tree else tree))
-  turned_plain false shape tree h = h
-  turned_plain true shapes.whole tree h = means_then (UnlessNil (shaped shapes.whole)) (UnlessNil (shaped shapes.decimal)) (mean result here tree) operators.to_decimal h whole_turns
-  turned_plain true (shapes.optional shapes.whole) tree h =
+  converted_plain false shape tree h = h
+  converted_plain true shapes.whole tree h = means_then (UnlessNil (shaped shapes.whole)) (UnlessNil (shaped shapes.decimal)) (mean result here tree) operators.to_decimal h whole_turns
+  converted_plain true (shapes.optional shapes.whole) tree h =
       means_then (UnlessNil (shaped (shapes.optional shapes.whole))) (UnlessNil (shaped (shapes.optional shapes.decimal))) (mean result here tree) operators.to_decimal h optional_whole_turns
-  turned_plain true shape tree h = h
+  converted_plain true shape tree h = h
 
   -- likewise next to the kind of what replaces nil
-  turned_unless_nil : (other kind : Kind) (tree : Typed) → Means (UnlessNil kind) (mean result here tree) → Means (UnlessNil (turned_beside other kind)) (mean result here (turned other kind tree))
-  turned_unless_nil nil kind tree h = h
-  turned_unless_nil (shaped other) nil tree h = h
-  turned_unless_nil (shaped other) (shaped shape) tree h = turned_plain (is_decimal other) shape tree h
+  converted_unless_nil : (other kind : Kind) (tree : Typed) → Means (UnlessNil kind) (mean result here tree) → Means (UnlessNil (converted_next_to other kind)) (mean result here (converted other kind tree))
+  converted_unless_nil nil kind tree h = h
+  converted_unless_nil (shaped other) nil tree h = h
+  converted_unless_nil (shaped other) (shaped shape) tree h = converted_plain (is_decimal other) shape tree h
 
   -- ---- choices
 
   -- either branch of one kind
-  pub choice_means : (kind : Kind) (condition met unmet : Typed) → MeansKind truth_kind (mean result here condition) → MeansKind kind (mean result here met) → MeansKind kind (mean result here unmet)
-      → MeansKind kind (mean result here (typed.choice condition met unmet))
-  choice_means kind condition met unmet h k l =
-      truth_then kind (mean result here condition) (λ b. if b then mean result here met else mean result here unmet) h
-      (λ b. either_means kind b (mean result here met) (mean result here unmet) k l)
+  pub choice_means : (kind : Kind) (condition then_branch else_branch : Typed) → MeansKind boolean_kind (mean result here condition) → MeansKind kind (mean result here then_branch) → MeansKind kind (mean result here else_branch)
+      → MeansKind kind (mean result here (typed.choice condition then_branch else_branch))
+  choice_means kind condition then_branch else_branch h k l =
+      boolean_then kind (mean result here condition) (λ b. if b then mean result here then_branch else mean result here else_branch) h
+      (λ b. either_means kind b (mean result here then_branch) (mean result here else_branch) k l)
 
   -- a choice, where the branches have a kind in common
-  choice_found : (at : ℕ) (found : Option Kind) (left right : Kind) (condition : Operand) (met unmet : Typed) → merge left right ≡ found → Sound result here condition
-      → MeansKind left (mean result here met) → MeansKind right (mean result here unmet) → IfOk (choice_in at found (is_truth condition) (typed.choice (made_plain condition) met unmet)) (Sound result here)
-  choice_found at None left right condition met unmet is h k l = tt
-  choice_found at (Some kind) left right condition met unmet is h k l =
-      wanted result here at (is_truth condition) (typed.choice (made_plain condition) met unmet) kind
-      (λ holds. choice_means kind (made_plain condition) met unmet (is_true result here condition h holds)
-      (means_more left kind (left_fits left right kind is) (mean result here met) k) (means_more right kind (right_fits left right kind is) (mean result here unmet) l))
+  choice_found : (at : ℕ) (found : Option Kind) (left right : Kind) (condition : Operand) (then_branch else_branch : Typed) → merge left right ≡ found → Sound result here condition
+      → MeansKind left (mean result here then_branch) → MeansKind right (mean result here else_branch) → IfOk (choice_in at found (is_boolean condition) (typed.choice (unwrapped condition) then_branch else_branch)) (Sound result here)
+  choice_found at None left right condition then_branch else_branch is h k l = tt
+  choice_found at (Some kind) left right condition then_branch else_branch is h k l =
+      wanted result here at (is_boolean condition) (typed.choice (unwrapped condition) then_branch else_branch) kind
+      (λ holds. choice_means kind (unwrapped condition) then_branch else_branch (is_true result here condition h holds)
+      (means_more left kind (left_fits left right kind is) (mean result here then_branch) k) (means_more right kind (right_fits left right kind is) (mean result here else_branch) l))
 
   -- a choice means its kind
-  pub choice_sound : (at : ℕ) (condition met unmet : Operand) → Sound result here condition → Sound result here met → Sound result here unmet → IfOk (choice_of at condition met unmet) (Sound result here)
-  choice_sound at condition met unmet h k l =
-      choice_found at (common met.kind unmet.kind) (turned_beside unmet.kind met.kind) (turned_beside met.kind unmet.kind) condition
-      (turned unmet.kind met.kind met.tree) (turned met.kind unmet.kind unmet.tree) refl h (turned_kind unmet.kind met.kind met.tree k) (turned_kind met.kind unmet.kind unmet.tree l)
+  pub choice_sound : (at : ℕ) (condition then_branch else_branch : Operand) → Sound result here condition → Sound result here then_branch → Sound result here else_branch → IfOk (choice_of at condition then_branch else_branch) (Sound result here)
+  choice_sound at condition then_branch else_branch h k l =
+      choice_found at (common then_branch.kind else_branch.kind) (converted_next_to else_branch.kind then_branch.kind) (converted_next_to then_branch.kind else_branch.kind) condition
+      (converted else_branch.kind then_branch.kind then_branch.tree) (converted then_branch.kind else_branch.kind else_branch.tree) refl h (converted_kind else_branch.kind then_branch.kind then_branch.tree k) (converted_kind then_branch.kind else_branch.kind else_branch.tree l)
 
   -- ---- defaults
 
@@ -190,13 +190,13 @@ module _ (result : Value) (here : Option Value) where
 
   -- a default, where the first is always nil or has a shape
   default_kinds : (at : ℕ) (plain of_other : Kind) (first other : Typed) → Means (UnlessNil plain) (mean result here first) → MeansKind of_other (mean result here other)
-      → IfOk (in_common at (typed.binary binary.Default (turned of_other plain first) (turned plain of_other other)) (common_default plain of_other)) (Sound result here)
+      → IfOk (in_common at (typed.binary binary.Default (converted of_other plain first) (converted plain of_other other)) (common_default plain of_other)) (Sound result here)
   default_kinds at nil nil first other h k = otherwise_means nil nil nil first other h k (λ v fit. fit) (λ v fit. fit)
   default_kinds at nil (shaped shape) first other h k =
       otherwise_means (shaped shape) (shaped shape) (shaped shape) first other (means_some (UnlessNil nil) (UnlessNil (shaped shape)) (mean result here first) (nil_kind shape) h) k (λ v fit. fit) (λ v fit. fit)
   default_kinds at (shaped shape) of_other first other h k =
-      default_found at (common (shaped shape) of_other) (turned_beside of_other (shaped shape)) (turned_beside (shaped shape) of_other) (turned of_other (shaped shape) first)
-      (turned (shaped shape) of_other other) refl (turned_unless_nil of_other (shaped shape) first h) (turned_kind (shaped shape) of_other other k)
+      default_found at (common (shaped shape) of_other) (converted_next_to of_other (shaped shape)) (converted_next_to (shaped shape) of_other) (converted of_other (shaped shape) first)
+      (converted (shaped shape) of_other other) refl (converted_unless_nil of_other (shaped shape) first h) (converted_kind (shaped shape) of_other other k)
 
   -- a default means its kind
   pub default_sound : (at : ℕ) (first other : Operand) → Sound result here first → Sound result here other → IfOk (default_of at first other) (Sound result here)

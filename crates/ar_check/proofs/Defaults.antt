@@ -13,22 +13,22 @@ use Rattle.ar_tree.specs.Typed as typed
 -- a value that isn't nil stays
 kept : (value other : Value) → value ≢ values.nil → (if is_nil value then other else value) ≡ value
 kept values.nil other there = absurd (there refl)
-kept (values.bool truth) other there = refl
+kept (values.bool boolean) other there = refl
 kept (values.whole whole) other there = refl
 kept (values.decimal millionths) other there = refl
 kept (values.text letters) other there = refl
 kept (values.list items) other there = refl
 kept (values.object record_fields) other there = refl
 
-pub is_the_value : (result : Value) (here : Option Value) (operand stand_in : Typed) (value other : Value)
-    → mean result here operand ≡ Ok value → value ≢ values.nil → mean result here stand_in ≡ Ok other
-    → mean result here (typed.binary binary.Default operand stand_in) ≡ Ok value
-is_the_value result here operand stand_in value other of there beside = rw (of, beside, kept value other there) refl
+pub is_the_value : (result : Value) (here : Option Value) (operand substitute : Typed) (value other : Value)
+    → mean result here operand ≡ Ok value → value ≢ values.nil → mean result here substitute ≡ Ok other
+    → mean result here (typed.binary binary.Default operand substitute) ≡ Ok value
+is_the_value result here operand substitute value other of there next_to = rw (of, next_to, kept value other there) refl
 
 same : (meaning : Meaning) → (meaning >>= λ other. Ok (if is_nil values.nil then other else values.nil)) ≡ meaning
 same (Ok value) = refl
 same (Err failure) = refl
 
-pub is_the_other : (result : Value) (here : Option Value) (operand stand_in : Typed)
-    → mean result here operand ≡ Ok values.nil → mean result here (typed.binary binary.Default operand stand_in) ≡ mean result here stand_in
-is_the_other result here operand stand_in of = rw of (same (mean result here stand_in))
+pub is_the_other : (result : Value) (here : Option Value) (operand substitute : Typed)
+    → mean result here operand ≡ Ok values.nil → mean result here (typed.binary binary.Default operand substitute) ≡ mean result here substitute
+is_the_other result here operand substitute of = rw of (same (mean result here substitute))

@@ -2,10 +2,10 @@
 use Rattle.std.proofs.Common.{◌≡◌, ℕ, suc, true, List, [], ◌∷◌, length, Option, Some, None, Result, Ok, refl, ◌∙◌, ap, sym, subst, inl, inr}
 use Rattle.ar_value.specs.declared.operator.UnaryOperator.TheVariants as unary
 use Rattle.ar_value.specs.Answer.{◌>>=◌}
-use Rattle.ar_value.specs.Kind.{Kind, nil, shaped, plain, scalar_shape, truth_kind}
+use Rattle.ar_value.specs.Kind.{Kind, nil, shaped, plain, scalar_shape, boolean_kind}
 use Rattle.ar_value.specs.Shape.{Shape}
 use Rattle.ar_value.specs.Shape as shapes
-use Rattle.ar_tree.specs.Expression.{Expression, Expressions, place_of, expression_count}
+use Rattle.ar_tree.specs.Expression.{Expression, Expressions, offset_of, expression_count}
 use Rattle.ar_tree.specs.Expression as trees
 use Rattle.ar_tree.specs.declared.tree.Literal.TheVariants as literals
 use Rattle.ar_check.specs.Check.{Item, binary_of, choice_of, common_of, common_scalar, default_of, field_of, given, index_of, is_nil_literal, innermost, item_of, items_typed, len_of, list_literal_of, no_scalar, over_items, predicate_of, typed_of, unary_of}
@@ -48,9 +48,9 @@ module _ (result : Shape) where
   as_many : (item : Option Shape) (around : ℕ) (items : Expressions) (found : List Item) → items_typed result item around items ≡ Ok found → length found ≡ expression_count items
   as_many item around trees.none found h = length_by [] found 0 h refl
   as_many item around (trees.more first others) found h =
-      let operand = from_bind (typed_of result item around first) (λ operand. items_typed result item around others >>= λ items. Ok (item_of (place_of first) operand ∷ items)) found h in
-      let items = from_bind (items_typed result item around others) (λ items. Ok (item_of (place_of first) operand.0 ∷ items)) found operand.2 in
-      length_by (item_of (place_of first) operand.0 ∷ items.0) found (suc (expression_count others)) items.2 (ap suc (as_many item around others items.0 items.1))
+      let operand = from_bind (typed_of result item around first) (λ operand. items_typed result item around others >>= λ items. Ok (item_of (offset_of first) operand ∷ items)) found h in
+      let items = from_bind (items_typed result item around others) (λ items. Ok (item_of (offset_of first) operand.0 ∷ items)) found operand.2 in
+      length_by (item_of (offset_of first) operand.0 ∷ items.0) found (suc (expression_count others)) items.2 (ap suc (as_many item around others items.0 items.1))
 
   -- what items have in common, by another name
   in_common_by : (item : Option Shape) (around : ℕ) (items : Expressions) (of shape : Shape) → of ≡ shape → HaveInCommon result item around items of → HaveInCommon result item around items shape
@@ -105,11 +105,11 @@ module _ (result : Shape) where
         let a = from_bind (typed_of result item around left) (λ first. typed_of result item around right >>= binary_of at operator (side_by (is_nil_literal left) (is_nil_literal right)) first) found h in
         let b = from_bind (typed_of result item around right) (binary_of at operator (side_by (is_nil_literal left) (is_nil_literal right)) a.0) found a.2 in
         operator_has result item around at operator left right a.0 b.0 found (tree_has item around left a.0 a.1) (tree_has item around right b.0 b.1) b.2
-    tree_has item around (trees.ChoiceAt at condition met unmet) found h =
-        let a = from_bind (typed_of result item around condition) (λ first. typed_of result item around met >>= λ second. typed_of result item around unmet >>= choice_of at first second) found h in
-        let b = from_bind (typed_of result item around met) (λ second. typed_of result item around unmet >>= choice_of at a.0 second) found a.2 in
-        let c = from_bind (typed_of result item around unmet) (choice_of at a.0 b.0) found b.2 in
-        choice_has result item around at condition met unmet a.0 b.0 c.0 found (tree_has item around condition a.0 a.1) (tree_has item around met b.0 b.1) (tree_has item around unmet c.0 c.1) c.2
+    tree_has item around (trees.ChoiceAt at condition then_branch else_branch) found h =
+        let a = from_bind (typed_of result item around condition) (λ first. typed_of result item around then_branch >>= λ second. typed_of result item around else_branch >>= choice_of at first second) found h in
+        let b = from_bind (typed_of result item around then_branch) (λ second. typed_of result item around else_branch >>= choice_of at a.0 second) found a.2 in
+        let c = from_bind (typed_of result item around else_branch) (choice_of at a.0 b.0) found b.2 in
+        choice_has result item around at condition then_branch else_branch a.0 b.0 c.0 found (tree_has item around condition a.0 a.1) (tree_has item around then_branch b.0 b.1) (tree_has item around else_branch c.0 c.1) c.2
     tree_has item around (trees.ListAt at items) found h =
         let a = from_bind (items_typed result item around items) (λ items. list_literal_of at items (no_scalar items)) found h in
         let b = list_found at a.0 (no_scalar a.0) found a.2 in
@@ -118,8 +118,8 @@ module _ (result : Shape) where
         let a = from_bind (typed_of result item around list) (len_of at) found h in
         len_has result item around at list a.0 found (tree_has item around list a.0 a.1) a.2
     tree_has item around (trees.IsNilAt at operand) found h =
-        let a = from_bind (typed_of result item around operand) (λ operand. given (typed.unary unary.IsNil operand.tree) truth_kind) found h in
-        by_kind result item around (trees.IsNilAt at operand) truth_kind found.kind (given_kind (typed.unary unary.IsNil a.0.tree) truth_kind found a.2) (typing.of_nil_test (tree_has item around operand a.0 a.1))
+        let a = from_bind (typed_of result item around operand) (λ operand. given (typed.unary unary.IsNil operand.tree) boolean_kind) found h in
+        by_kind result item around (trees.IsNilAt at operand) boolean_kind found.kind (given_kind (typed.unary unary.IsNil a.0.tree) boolean_kind found a.2) (typing.of_nil_test (tree_has item around operand a.0 a.1))
     tree_has item around (trees.DefaultAt at operand otherwise) found h =
         let a = from_bind (typed_of result item around operand) (λ first. typed_of result item around otherwise >>= default_of at first) found h in
         let b = from_bind (typed_of result item around otherwise) (default_of at a.0) found a.2 in
@@ -135,12 +135,12 @@ module _ (result : Shape) where
         → HaveInCommon result item around items (scalar_shape one)
     items_have item around trees.none found h one is = absurd (nothing_common found one h is)
     items_have item around (trees.more first trees.none) found h one is =
-        let a = from_bind (typed_of result item around first) (λ operand. Ok (item_of (place_of first) operand ∷ [])) found h in
-        one_has item around first a.0 one (tree_has item around first a.0 a.1) (common_by (item_of (place_of first) a.0 ∷ []) found one a.2 is)
+        let a = from_bind (typed_of result item around first) (λ operand. Ok (item_of (offset_of first) operand ∷ [])) found h in
+        one_has item around first a.0 one (tree_has item around first a.0 a.1) (common_by (item_of (offset_of first) a.0 ∷ []) found one a.2 is)
     items_have item around (trees.more first (trees.more second others)) found h one is =
-        let a = from_bind (typed_of result item around first) (λ operand. items_typed result item around (trees.more second others) >>= λ items. Ok (item_of (place_of first) operand ∷ items)) found h in
-        let b = from_bind (items_typed result item around (trees.more second others)) (λ items. Ok (item_of (place_of first) a.0 ∷ items)) found a.2 in
-        let c = common_parts (item_of (place_of first) a.0) b.0 (expression_count others) one (as_many item around (trees.more second others) b.0 b.1) (common_by (item_of (place_of first) a.0 ∷ b.0) found one b.2 is) in
+        let a = from_bind (typed_of result item around first) (λ operand. items_typed result item around (trees.more second others) >>= λ items. Ok (item_of (offset_of first) operand ∷ items)) found h in
+        let b = from_bind (items_typed result item around (trees.more second others)) (λ items. Ok (item_of (offset_of first) a.0 ∷ items)) found a.2 in
+        let c = common_parts (item_of (offset_of first) a.0) b.0 (expression_count others) one (as_many item around (trees.more second others) b.0 b.1) (common_by (item_of (offset_of first) a.0 ∷ b.0) found one b.2 is) in
         more_has item around first (trees.more second others) a.0 c.0 c.1 one (tree_has item around first a.0 a.1) c.2 (items_have item around (trees.more second others) b.0 b.1 c.1 c.3) c.4
 
   -- ---- what has a row is typed
@@ -154,11 +154,11 @@ module _ (result : Shape) where
   one_typed : (item : Option Shape) (around : ℕ) (only : Expression) (of : Shape) → IsTyped (typed_of result item around only) (shaped of) → IsScalar (plain of) → AreTyped item around (trees.more only trees.none) (plain of)
   one_typed item around only of h is =
       let one = scalars_row is in
-      let first = item_of (place_of only) (operand h.0 (shaped of)) in
+      let first = item_of (offset_of only) (operand h.0 (shaped of)) in
       let known : first.scalar ≡ Some one.0 = is_scalar (plain of) one.0 one.1 in (
         first ∷ [],
         one.0,
-        into_bind (typed_of result item around only) (λ operand. Ok (item_of (place_of only) operand ∷ [])) (operand h.0 (shaped of)) (first ∷ []) h.1 refl,
+        into_bind (typed_of result item around only) (λ operand. Ok (item_of (offset_of only) operand ∷ [])) (operand h.0 (shaped of)) (first ∷ []) h.1 refl,
         no_scalar_more first [] one.0 known refl,
         known,
         one.1,
@@ -169,12 +169,12 @@ module _ (result : Shape) where
       → InCommon (plain of) shape both → AreTyped item around (trees.more first others) both
   more_typed item around first others of shape both h k is =
       let row = commons_row is in
-      let one = item_of (place_of first) (operand h.0 (shaped of)) in
+      let one = item_of (offset_of first) (operand h.0 (shaped of)) in
       let known : one.scalar ≡ Some row.0 = is_scalar (plain of) row.0 row.3 in
       let same : k.1 ≡ row.1 = same_scalar k.1 row.1 (sym k.5 ∙ row.4) in (
         one ∷ k.0,
         row.2,
-        into_bind (typed_of result item around first) (λ operand. items_typed result item around others >>= λ items. Ok (item_of (place_of first) operand ∷ items)) (operand h.0 (shaped of)) (one ∷ k.0) h.1
+        into_bind (typed_of result item around first) (λ operand. items_typed result item around others >>= λ items. Ok (item_of (offset_of first) operand ∷ items)) (operand h.0 (shaped of)) (one ∷ k.0) h.1
             (into_bind (items_typed result item around others) (λ items. Ok (one ∷ items)) k.0 (one ∷ k.0) k.2 refl),
         no_scalar_more one k.0 row.0 known k.3,
         common_whole one k.0 row.0 row.1 row.2 known (k.4 ∙ ap Some same) row.6,
@@ -198,20 +198,20 @@ module _ (result : Shape) where
     tree_typed (typing.of_index {at = at} h k l whole) = index_typed at _ _ _ _ _ _ (tree_typed h) k (tree_typed l) whole
     tree_typed (typing.of_sign {at = at} {operator = operator} {of = of} {shape = shape} h row) =
         then_typed _ (unary_of at operator) (shaped of) (shaped shape) (tree_typed h) (λ tree. sign_typed at row of tree refl)
-    tree_typed (typing.of_operator {at = at} {operator = operator} {left = left} {right = right} {of = of} {beside = beside} {shape = shape} h k row) =
-        both_typed _ _ (binary_of at operator (side_by (is_nil_literal left) (is_nil_literal right))) (shaped of) (shaped beside) (shaped shape) (tree_typed h) (tree_typed k)
-        (λ first second. operator_typed at (is_nil_literal left) (is_nil_literal right) row of beside first second refl refl)
-    tree_typed (typing.nil_on_the_left {item = item} {around = around} {at = at} {place = place} {operator = operator} {right = right} {kind = kind} equality h) =
-        then_typed (typed_of result item around right) (binary_of at operator (side_by true (is_nil_literal right)) (operand (typed.literal literals.Nil) nil)) kind truth_kind (tree_typed h)
+    tree_typed (typing.of_operator {at = at} {operator = operator} {left = left} {right = right} {of = of} {next_to = next_to} {shape = shape} h k row) =
+        both_typed _ _ (binary_of at operator (side_by (is_nil_literal left) (is_nil_literal right))) (shaped of) (shaped next_to) (shaped shape) (tree_typed h) (tree_typed k)
+        (λ first second. operator_typed at (is_nil_literal left) (is_nil_literal right) row of next_to first second refl refl)
+    tree_typed (typing.nil_on_the_left {item = item} {around = around} {at = at} {offset = offset} {operator = operator} {right = right} {kind = kind} equality h) =
+        then_typed (typed_of result item around right) (binary_of at operator (side_by true (is_nil_literal right)) (operand (typed.literal literals.Nil) nil)) kind boolean_kind (tree_typed h)
         (λ tree. nil_typed at true (is_nil_literal right) equality (operand (typed.literal literals.Nil) nil) (operand tree kind) (inl refl))
-    tree_typed (typing.nil_on_the_right {item = item} {around = around} {at = at} {place = place} {operator = operator} {left = left} {kind = kind} equality h) =
-        then_typed (typed_of result item around left) (λ first. binary_of at operator (side_by (is_nil_literal left) true) first (operand (typed.literal literals.Nil) nil)) kind truth_kind (tree_typed h)
+    tree_typed (typing.nil_on_the_right {item = item} {around = around} {at = at} {offset = offset} {operator = operator} {left = left} {kind = kind} equality h) =
+        then_typed (typed_of result item around left) (λ first. binary_of at operator (side_by (is_nil_literal left) true) first (operand (typed.literal literals.Nil) nil)) kind boolean_kind (tree_typed h)
         (λ tree. nil_typed at (is_nil_literal left) true equality (operand tree kind) (operand (typed.literal literals.Nil) nil) (inr refl))
     tree_typed (typing.of_choice {at = at} h is k l found) = choice_typed at _ _ _ _ _ _ _ (tree_typed h) is (tree_typed k) (tree_typed l) found
     tree_typed (typing.of_list {item = item} {around = around} {at = at} {items = items} {shape = shape} h) = items_list item around at items shape (are_typed h)
     tree_typed (typing.of_len {at = at} h k) = len_typed at _ _ _ _ (tree_typed h) k
     tree_typed (typing.of_nil_test {item = item} {around = around} {operand = operand} {kind = kind} h) =
-        then_typed (typed_of result item around operand) (λ operand. given (typed.unary unary.IsNil operand.tree) truth_kind) kind truth_kind (tree_typed h) (λ tree. (typed.unary unary.IsNil tree, refl))
+        then_typed (typed_of result item around operand) (λ operand. given (typed.unary unary.IsNil operand.tree) boolean_kind) kind boolean_kind (tree_typed h) (λ tree. (typed.unary unary.IsNil tree, refl))
     tree_typed (typing.of_default {at = at} h k row) = default_typed at _ _ _ _ _ (tree_typed h) (tree_typed k) row
     tree_typed (typing.of_predicate {item = item} {around = around} {at = at} {predicate = predicate} {items = items} {body = body} h k less l is row) =
         predicate_typed at around predicate (typed_of result item around items) (λ shape. typed_of result (Some shape) (suc around) body) _ _ _ _ _ (tree_typed h) k less (tree_typed l) is row

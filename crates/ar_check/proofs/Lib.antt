@@ -18,4 +18,4 @@ pub mod ConstructTables
 pub mod KindTable
 pub mod Conditions
 pub mod Turns
-pub mod Places
+pub mod Offsets

@@ -46,7 +46,7 @@ common_of_more first second items = joined_more first.scalar second.scalar items
 
 -- a scalar's shape is one
 scalar_row : (scalar : Scalar) → IsScalar (scalar_shape scalar)
-scalar_row scalars.Bool = typing.is_truth
+scalar_row scalars.Bool = typing.is_boolean
 scalar_row scalars.Whole = typing.is_number typing.is_whole
 scalar_row scalars.Decimal = typing.is_number typing.is_decimal
 scalar_row scalars.Text = typing.is_text
@@ -57,14 +57,14 @@ scalar_row_of scalar shape h = rw h (scalar_row scalar)
 
 -- what is a scalar has one
 pub scalars_row : {shape : Shape} → IsScalar shape → (scalar : Scalar) × (shape ≡ scalar_shape scalar)
-scalars_row typing.is_truth = (scalars.Bool, refl)
+scalars_row typing.is_boolean = (scalars.Bool, refl)
 scalars_row (typing.is_number typing.is_whole) = (scalars.Whole, refl)
 scalars_row (typing.is_number typing.is_decimal) = (scalars.Decimal, refl)
 scalars_row typing.is_text = (scalars.Text, refl)
 
 -- two scalars and what they have in common
 common_row : (m n both : Scalar) → common_scalar (Some m) (Some n) ≡ Some both → InCommon (scalar_shape m) (scalar_shape n) (scalar_shape both)
-common_row scalars.Bool scalars.Bool scalars.Bool h = typing.two_truths
+common_row scalars.Bool scalars.Bool scalars.Bool h = typing.two_booleans
 common_row scalars.Whole scalars.Whole scalars.Whole h = typing.two_numbers typing.of_wholes
 common_row scalars.Whole scalars.Decimal scalars.Decimal h = typing.two_numbers typing.of_decimal_right
 common_row scalars.Decimal scalars.Whole scalars.Decimal h = typing.two_numbers (typing.of_decimal_left typing.is_whole)
@@ -82,7 +82,7 @@ AreCommon left right both = (m n scalar : Scalar) × (left ≡ scalar_shape m) �
 
 -- the rows of what has something in common
 pub commons_row : {left right both : Shape} → InCommon left right both → AreCommon left right both
-commons_row typing.two_truths = (scalars.Bool, scalars.Bool, scalars.Bool, refl, refl, refl, refl)
+commons_row typing.two_booleans = (scalars.Bool, scalars.Bool, scalars.Bool, refl, refl, refl, refl)
 commons_row (typing.two_numbers typing.of_wholes) = (scalars.Whole, scalars.Whole, scalars.Whole, refl, refl, refl, refl)
 commons_row (typing.two_numbers (typing.of_decimal_left typing.is_whole)) = (scalars.Decimal, scalars.Whole, scalars.Decimal, refl, refl, refl, refl)
 commons_row (typing.two_numbers (typing.of_decimal_left typing.is_decimal)) = (scalars.Decimal, scalars.Decimal, scalars.Decimal, refl, refl, refl, refl)
@@ -132,9 +132,9 @@ in_common_found at items (Some scalar) found h = (scalar, refl, given_kind _ (sh
 in_common_found at items None found h = absurd (cc)
 
 -- what a list literal's items have in common
-pub list_found : (at : ℕ) (items : List Item) (place : Option ℕ) (found : Operand) → list_literal_of at items place ≡ Ok found
+pub list_found : (at : ℕ) (items : List Item) (offset : Option ℕ) (found : Operand) → list_literal_of at items offset ≡ Ok found
     → (scalar : Scalar) × (common_of items ≡ Some scalar) × (shaped (shapes.list (scalar_shape scalar) (length items)) ≡ found.kind)
-list_found at items (Some place) found h = absurd (cc)
+list_found at items (Some offset) found h = absurd (cc)
 list_found at items None found h = in_common_found at items (common_of items) found h
 
 -- where items have a scalar in common, it is given

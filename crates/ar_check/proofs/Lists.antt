@@ -9,7 +9,7 @@ use Rattle.ar_value.specs.Shape.{Shape}
 use Rattle.ar_value.specs.Shape as shapes
 use Rattle.ar_value.specs.Value.{Value, Items, count}
 use Rattle.ar_value.specs.Value as values
-use Rattle.ar_check.specs.Check.{Item, common_of, common_scalar, common_with, list_in_common, list_literal_of, turned_item}
+use Rattle.ar_check.specs.Check.{Item, common_of, common_scalar, common_with, list_in_common, list_literal_of, converted_item}
 use Rattle.ar_value.specs.Operators.{Failure, Meaning}
 use Rattle.ar_tree.specs.Meaning.{items_mean, mean}
 use Rattle.ar_value.specs.Operators as operators
@@ -19,7 +19,7 @@ use Rattle.ar_value.specs.declared.operator.Scalar.{Scalar}
 use Rattle.ar_value.specs.declared.operator.Scalar.TheVariants as scalars
 use Rattle.ar_check.proofs.Means.{Means, MeansKind, Sound, both, both_hold, means_then}
 use Rattle.ar_check.proofs.Operands.{MeansScalar, on_bool, on_decimal, on_whole}
-use Rattle.ar_check.proofs.Sums.{turned_means}
+use Rattle.ar_check.proofs.Sums.{converted_means}
 
 -- whether an item suits a list of scalars
 abbrev pub suits : Scalar → Option Scalar → Bool
@@ -95,14 +95,14 @@ module _ (result : Value) (here : Option Value) where
   ItemsMean (item ∷ items) = MeansScalar item.scalar (mean result here item.tree) × ItemsMean items
 
   -- an item that suits a list of scalars means that scalar, once it is converted
-  turned_item_means : (scalar : Scalar) (of : Option Scalar) (tree : Typed) → suits scalar of ≡ true → MeansScalar of (mean result here tree)
-      → MeansKind (shaped (scalar_shape scalar)) (mean result here (turned_item scalar of tree))
-  turned_item_means scalars.Bool (Some scalars.Bool) tree is h = h
-  turned_item_means scalars.Whole (Some scalars.Whole) tree is h = h
-  turned_item_means scalars.Decimal (Some scalars.Whole) tree is h = turned_means result here tree h
-  turned_item_means scalars.Decimal (Some scalars.Decimal) tree is h = h
-  turned_item_means scalars.Text (Some scalars.Text) tree is h = h
-  turned_item_means scalar of tree is h = absurd (cc)
+  converted_item_means : (scalar : Scalar) (of : Option Scalar) (tree : Typed) → suits scalar of ≡ true → MeansScalar of (mean result here tree)
+      → MeansKind (shaped (scalar_shape scalar)) (mean result here (converted_item scalar of tree))
+  converted_item_means scalars.Bool (Some scalars.Bool) tree is h = h
+  converted_item_means scalars.Whole (Some scalars.Whole) tree is h = h
+  converted_item_means scalars.Decimal (Some scalars.Whole) tree is h = converted_means result here tree h
+  converted_item_means scalars.Decimal (Some scalars.Decimal) tree is h = h
+  converted_item_means scalars.Text (Some scalars.Text) tree is h = h
+  converted_item_means scalar of tree is h = absurd (cc)
 
   -- n values, each of which fits
   abbrev pub Fill : Shape → ℕ → Items → Type 0
@@ -119,12 +119,12 @@ module _ (result : Value) (here : Option Value) where
 
   -- the items of a list literal have their values
   items_means : (scalar : Scalar) (items : List Item) → all_suit scalar items ≡ true → ItemsMean items
-      → Means (Fill (scalar_shape scalar) (length items)) (items_mean result here (typeds (map (λ item. turned_item scalar item.scalar item.tree) items)))
+      → Means (Fill (scalar_shape scalar) (length items)) (items_mean result here (typeds (map (λ item. converted_item scalar item.scalar item.tree) items)))
   items_means scalar [] is h = (refl, refl)
   items_means scalar (item ∷ items) is h =
       let parts = both_hold (suits scalar item.scalar) (all_suit scalar items) is in
-      more_mean scalar (length items) (turned_item scalar item.scalar item.tree) (typeds (map (λ item. turned_item scalar item.scalar item.tree) items))
-      (turned_item_means scalar item.scalar item.tree parts.0 h.0) (items_means scalar items parts.1 h.1)
+      more_mean scalar (length items) (converted_item scalar item.scalar item.tree) (typeds (map (λ item. converted_item scalar item.scalar item.tree) items))
+      (converted_item_means scalar item.scalar item.tree parts.0 h.0) (items_means scalar items parts.1 h.1)
 
   -- a list as long as the literal isn't too long
   pub as_long : (m n : ℕ) → m ≡ n → nat_le m n ≡ true
@@ -132,9 +132,9 @@ module _ (result : Value) (here : Option Value) where
 
   -- a list literal of scalars means a list of them
   list_means : (scalar : Scalar) (items : List Item) → common_of items ≡ Some scalar → ItemsMean items
-      → MeansKind (shaped (shapes.list (scalar_shape scalar) (length items))) (mean result here (typed.listed scalar (typeds (map (λ item. turned_item scalar item.scalar item.tree) items))))
+      → MeansKind (shaped (shapes.list (scalar_shape scalar) (length items))) (mean result here (typed.listed scalar (typeds (map (λ item. converted_item scalar item.scalar item.tree) items))))
   list_means scalar items is h =
-      means_then (Fill (scalar_shape scalar) (length items)) _ (items_mean result here (typeds (map (λ item. turned_item scalar item.scalar item.tree) items))) (λ vs. Ok (values.list vs))
+      means_then (Fill (scalar_shape scalar) (length items)) _ (items_mean result here (typeds (map (λ item. converted_item scalar item.scalar item.tree) items))) (λ vs. Ok (values.list vs))
       (items_means scalar items (common_suits scalar items is) h)
       (λ vs all. both (nat_le (count vs) (length items)) (all_items (λ v. fits v (scalar_shape scalar)) vs) (as_long (count vs) (length items) all.0) all.1)
 
@@ -144,6 +144,6 @@ module _ (result : Value) (here : Option Value) where
   in_common_sound at items None is h = tt
 
   -- a list literal means its kind
-  pub list_sound : (at : ℕ) (items : List Item) (place : Option ℕ) → ItemsMean items → IfOk (list_literal_of at items place) (Sound result here)
-  list_sound at items (Some place) h = tt
+  pub list_sound : (at : ℕ) (items : List Item) (offset : Option ℕ) → ItemsMean items → IfOk (list_literal_of at items offset) (Sound result here)
+  list_sound at items (Some offset) h = tt
   list_sound at items None h = in_common_sound at items (common_of items) refl h

@@ -3,7 +3,7 @@ use Rattle.std.proofs.Common.{◌≡◌, ℕ, Bool, true, false, Option, Some, N
 use Rattle.std.specs.Prelude.{◌&&◌, if◌then◌else◌}
 use Rattle.ar_value.specs.Answer.{◌>>=◌}
 use Rattle.ar_value.specs.Fits.{fits}
-use Rattle.ar_value.specs.Kind.{Kind, fits_kind, truth_kind}
+use Rattle.ar_value.specs.Kind.{Kind, fits_kind, boolean_kind}
 use Rattle.ar_value.specs.Shape.{Shape}
 use Rattle.ar_value.specs.Value.{Value}
 use Rattle.ar_check.specs.Check.{where_wanted}
@@ -34,8 +34,8 @@ IsThere (Some shape) None = ⊥
 IsThere None value = Unit {0}
 
 -- an operand is a boolean
-abbrev pub IsTruth : Value → Option Value → Operand → Type 0
-IsTruth result here operand = (operand.kind ≡ truth_kind) × MeansKind truth_kind (mean result here operand.tree)
+abbrev pub IsBoolean : Value → Option Value → Operand → Type 0
+IsBoolean result here operand = (operand.kind ≡ boolean_kind) × MeansKind boolean_kind (mean result here operand.tree)
 
 -- what a meaning leads to, where each value that it may be leads there
 pub means_then : {A B : Type 0} (P : A → Type 0) (Q : B → Type 0) (m : Result A Failure) (f : A → Result B Failure) → Means P m → ((x : A) → P x → Means Q (f x)) → Means Q (m >>= f)
@@ -64,9 +64,9 @@ both true b p q = q
 both false b p q = p
 
 -- the one or the other, by a test
-pub either_means : (kind : Kind) (test : Bool) (met unmet : Meaning) → MeansKind kind met → MeansKind kind unmet → MeansKind kind (if test then met else unmet)
-either_means kind true met unmet p q = p
-either_means kind false met unmet p q = q
+pub either_means : (kind : Kind) (test : Bool) (then_branch else_branch : Meaning) → MeansKind kind then_branch → MeansKind kind else_branch → MeansKind kind (if test then then_branch else else_branch)
+either_means kind true then_branch else_branch p q = p
+either_means kind false then_branch else_branch p q = q
 
 -- what is given where operands are what is required
 pub wanted : (result : Value) (here : Option Value) (at : ℕ) (is_wanted : Bool) (tree : Typed) (kind : Kind)
@@ -75,10 +75,10 @@ wanted result here at true tree kind h = h refl
 wanted result here at false tree kind h = tt
 
 -- a boolean, where operands are what is required
-pub truth_wanted : (result : Value) (here : Option Value) (at : ℕ) (is_wanted : Bool) (tree : Typed) → (is_wanted ≡ true → MeansKind truth_kind (mean result here tree)) → IfOk (where_wanted at is_wanted tree truth_kind) (IsTruth result here)
-truth_wanted result here at true tree h = (refl, h refl)
-truth_wanted result here at false tree h = tt
+pub boolean_wanted : (result : Value) (here : Option Value) (at : ℕ) (is_wanted : Bool) (tree : Typed) → (is_wanted ≡ true → MeansKind boolean_kind (mean result here tree)) → IfOk (where_wanted at is_wanted tree boolean_kind) (IsBoolean result here)
+boolean_wanted result here at true tree h = (refl, h refl)
+boolean_wanted result here at false tree h = tt
 
 -- a boolean means its kind
-pub is_sound : (result : Value) (here : Option Value) (operand : Operand) → IsTruth result here operand → Sound result here operand
+pub is_sound : (result : Value) (here : Option Value) (operand : Operand) → IsBoolean result here operand → Sound result here operand
 is_sound result here operand h = rw h.0 h.1

@@ -4,7 +4,7 @@ use Rattle.std.specs.Prelude.{◌&&◌, if◌then◌else◌, option_and_then}
 use Rattle.std.specs.Str.{bytes_eq}
 use Rattle.std.proofs.lemmas.Slice.Eq.{bytes_eq-Decides}
 use Rattle.ar_value.specs.Fits.{all_items, fields_fit, fits}
-use Rattle.ar_value.specs.Kind.{Kind, common, nil, shaped, plain, scalar_shape, truth_kind}
+use Rattle.ar_value.specs.Kind.{Kind, common, nil, shaped, plain, scalar_shape, boolean_kind}
 use Rattle.ar_value.specs.Shape.{Shape, FieldShapes}
 use Rattle.ar_value.specs.Shape as shapes
 use Rattle.ar_value.specs.Value.{Value, Items, Fields, count, value_named}
@@ -18,7 +18,7 @@ use Rattle.ar_value.specs.Operators.{Failure, Meaning}
 use Rattle.ar_tree.specs.Meaning.{mean}
 use Rattle.ar_value.specs.Operators as operators
 use Rattle.ar_value.proofs.Merges.{common_with_itself}
-use Rattle.ar_check.specs.Operand.{Operand, made_plain, numbers, numbers_in, plain_of, plain_tree, scalar, scalar_of, is_bool, is_text_operand, is_text_scalar, is_truth}
+use Rattle.ar_check.specs.Operand.{Operand, unwrapped, numbers, numbers_in, plain_of, plain_tree, scalar, scalar_of, is_bool, is_text_operand, is_text_scalar, is_boolean}
 use Rattle.ar_tree.specs.Typed.{Typed}
 use Rattle.ar_tree.specs.Typed as typed
 use Rattle.ar_value.specs.declared.operator.Numbers.{Numbers}
@@ -95,9 +95,9 @@ numbers_of_scalar (Some scalars.Text) m h = tt
 numbers_of_scalar None m h = tt
 
 -- scalars that are booleans
-truth_of_scalar : (scalar : Option Scalar) (m : Meaning) → MeansScalar scalar m → is_bool scalar ≡ true → MeansKind truth_kind m
-truth_of_scalar (Some scalars.Bool) m h is = h
-truth_of_scalar scalar m h is = absurd (cc)
+boolean_of_scalar : (scalar : Option Scalar) (m : Meaning) → MeansScalar scalar m → is_bool scalar ≡ true → MeansKind boolean_kind m
+boolean_of_scalar (Some scalars.Bool) m h is = h
+boolean_of_scalar scalar m h is = absurd (cc)
 
 -- scalars that are texts
 text_of_scalar : (scalar : Option Scalar) (m : Meaning) → MeansScalar scalar m → is_text_scalar scalar ≡ true → MeansKind (shaped shapes.text) m
@@ -148,7 +148,7 @@ module _ (result : Value) (here : Option Value) where
   tree_is_plain (shaped shape) tree h = h
 
   -- an unwrapped operand means its plain kind
-  pub is_plain : (operand : Operand) → Sound result here operand → MeansKind (plain_kind operand.kind) (mean result here (made_plain operand))
+  pub is_plain : (operand : Operand) → Sound result here operand → MeansKind (plain_kind operand.kind) (mean result here (unwrapped operand))
   is_plain operand h = tree_is_plain operand.kind operand.tree h
 
   -- what has a plain kind is the scalar of that kind
@@ -157,24 +157,24 @@ module _ (result : Value) (here : Option Value) where
   kind_is_scalar (shaped shape) m h = scalar_of_shape (plain shape) m h
 
   -- an unwrapped operand is the scalar that its kind says
-  pub is_scalar : (operand : Operand) → Sound result here operand → MeansScalar (scalar operand) (mean result here (made_plain operand))
-  is_scalar operand h = kind_is_scalar operand.kind (mean result here (made_plain operand)) (is_plain operand h)
+  pub is_scalar : (operand : Operand) → Sound result here operand → MeansScalar (scalar operand) (mean result here (unwrapped operand))
+  is_scalar operand h = kind_is_scalar operand.kind (mean result here (unwrapped operand)) (is_plain operand h)
 
   -- an unwrapped operand has the numbers that its kind says
-  pub are_numbers : (operand : Operand) → Sound result here operand → MeansNumbers (numbers operand) (mean result here (made_plain operand))
-  are_numbers operand h = numbers_of_scalar (scalar operand) (mean result here (made_plain operand)) (is_scalar operand h)
+  pub are_numbers : (operand : Operand) → Sound result here operand → MeansNumbers (numbers operand) (mean result here (unwrapped operand))
+  are_numbers operand h = numbers_of_scalar (scalar operand) (mean result here (unwrapped operand)) (is_scalar operand h)
 
   -- an operand of the kind of booleans, unwrapped, is one
-  pub is_true : (operand : Operand) → Sound result here operand → is_truth operand ≡ true → MeansKind truth_kind (mean result here (made_plain operand))
-  is_true operand h is = truth_of_scalar (scalar operand) (mean result here (made_plain operand)) (is_scalar operand h) is
+  pub is_true : (operand : Operand) → Sound result here operand → is_boolean operand ≡ true → MeansKind boolean_kind (mean result here (unwrapped operand))
+  is_true operand h is = boolean_of_scalar (scalar operand) (mean result here (unwrapped operand)) (is_scalar operand h) is
 
   -- an operand of the kind of texts, unwrapped, is one
-  pub is_letters : (operand : Operand) → Sound result here operand → is_text_operand operand ≡ true → MeansKind (shaped shapes.text) (mean result here (made_plain operand))
-  is_letters operand h is = text_of_scalar (scalar operand) (mean result here (made_plain operand)) (is_scalar operand h) is
+  pub is_letters : (operand : Operand) → Sound result here operand → is_text_operand operand ≡ true → MeansKind (shaped shapes.text) (mean result here (unwrapped operand))
+  is_letters operand h is = text_of_scalar (scalar operand) (mean result here (unwrapped operand)) (is_scalar operand h) is
 
   -- an operand of the kind of wholes, unwrapped, is one
-  pub is_index : (operand : Operand) → Sound result here operand → is_whole_number (scalar operand) ≡ true → MeansKind (shaped shapes.whole) (mean result here (made_plain operand))
-  is_index operand h is = whole_of_scalar (scalar operand) (mean result here (made_plain operand)) (is_scalar operand h) is
+  pub is_index : (operand : Operand) → Sound result here operand → is_whole_number (scalar operand) ≡ true → MeansKind (shaped shapes.whole) (mean result here (unwrapped operand))
+  is_index operand h is = whole_of_scalar (scalar operand) (mean result here (unwrapped operand)) (is_scalar operand h) is
 
   -- ---- leaves
 

@@ -5,14 +5,14 @@ use Rattle.ar_value.specs.declared.operator.BinaryOperator.{BinaryOperator}
 use Rattle.ar_value.specs.declared.operator.BinaryOperator.TheVariants as binary
 use Rattle.ar_value.specs.declared.operator.UnaryOperator.TheVariants as unary
 use Rattle.ar_value.specs.Answer.{◌>>=◌}
-use Rattle.ar_value.specs.Kind.{Kind, shaped, plain, scalar_shape, truth_kind}
+use Rattle.ar_value.specs.Kind.{Kind, shaped, plain, scalar_shape, boolean_kind}
 use Rattle.ar_value.specs.Shape.{Shape}
 use Rattle.ar_value.specs.Shape as shapes
 use Rattle.ar_tree.specs.declared.tree.Comparison.TheVariants as comparisons
 use Rattle.ar_tree.specs.declared.tree.Binary.{Binary}
 use Rattle.ar_tree.specs.declared.tree.Binary.TheVariants as binaries
 use Rattle.ar_check.specs.Check.{Answer, arithmetic_kind, arithmetic_on, binary_of, equal_of, equality_of, in_of, item_shape, member_of, negated, ordering_of, ordered_of, same_family, calculation_of, arithmetic_in, compared_of, where_there, text_test_of, where_wanted, widened}
-use Rattle.ar_check.specs.Operand.{Operand, operand, scalar_family, is_text_operand, is_truth, made_plain, numbers, plain_of, scalar, scalar_of}
+use Rattle.ar_check.specs.Operand.{Operand, operand, scalar_family, is_text_operand, is_boolean, unwrapped, numbers, plain_of, scalar, scalar_of}
 use Rattle.ar_tree.specs.Typed.{Typed}
 use Rattle.ar_tree.specs.Typed as typed
 use Rattle.ar_check.specs.Typing.{InCommon, IsEquality, IsNumber, IsScalar, Operates, OperatesOnOne, SameFamily, SumOf}
@@ -28,7 +28,7 @@ use Rattle.ar_value.specs.declared.operator.Scalar.TheVariants as scalars
 use Rattle.ar_value.specs.declared.operator.TextTest.{TextTest}
 use Rattle.ar_check.proofs.Means.{both_hold}
 use Rattle.ar_check.proofs.Means as means
-use Rattle.ar_check.proofs.Tables.{IsTyped, are_numbers, bind_typed, from_bind, given_kind, is_scalar, items_are, kind_of_numbers, list_within, number_scalar, number_shape, numbers_within, same_kind, scalar_within, shape_of_scalar, text_is, text_within, then_typed, truth_is, truth_within, wanted_kind, wanted_typed}
+use Rattle.ar_check.proofs.Tables.{IsTyped, are_numbers, bind_typed, from_bind, given_kind, is_scalar, items_are, kind_of_numbers, list_within, number_scalar, number_shape, numbers_within, same_kind, scalar_within, shape_of_scalar, text_is, text_within, then_typed, boolean_is, boolean_within, wanted_kind, wanted_typed}
 use Rattle.ar_check.specs.Private.Inside.{side_by}
 
 -- ---- the rows of scalars
@@ -58,7 +58,7 @@ summed_row typing.of_decimal_right = (Wholes, Decimals, refl, refl, refl)
 
 -- scalars of one family
 family_row : (m n : Scalar) → same_family (scalar_family m) (scalar_family n) ≡ true → SameFamily (scalar_shape m) (scalar_shape n)
-family_row scalars.Bool scalars.Bool h = typing.truths
+family_row scalars.Bool scalars.Bool h = typing.booleans
 family_row scalars.Whole scalars.Whole h = typing.numbers typing.is_whole typing.is_whole
 family_row scalars.Whole scalars.Decimal h = typing.numbers typing.is_whole typing.is_decimal
 family_row scalars.Decimal scalars.Whole h = typing.numbers typing.is_decimal typing.is_whole
@@ -76,7 +76,7 @@ numbers_family Decimals Decimals = refl
 -- what is of one family are two scalars
 families_row : {left right : Shape} → SameFamily left right
     → (m n : Scalar) × (left ≡ scalar_shape m) × (right ≡ scalar_shape n) × (same_family (scalar_family m) (scalar_family n) ≡ true)
-families_row typing.truths = (scalars.Bool, scalars.Bool, refl, refl, refl)
+families_row typing.booleans = (scalars.Bool, scalars.Bool, refl, refl, refl)
 families_row (typing.numbers left right) =
     let m = numbers_row left in let n = numbers_row right in (number_scalar m.0, number_scalar n.0, m.1, n.1, numbers_family m.0 n.0)
 families_row typing.texts = (scalars.Text, scalars.Text, refl, refl, refl)
@@ -141,16 +141,16 @@ arithmetic_typed at operator m n a b left right h k is = rw h (rw k (there_typed
 
 -- an operator has a row for two kinds
 abbrev pub Applies : Binary → Kind → Kind → Kind → Type 0
-Applies operator left right kind = (of beside shape : Shape) × (left ≡ shaped of) × (right ≡ shaped beside) × (shaped shape ≡ kind) × Operates operator (plain of) (plain beside) shape
+Applies operator left right kind = (of next_to shape : Shape) × (left ≡ shaped of) × (right ≡ shaped next_to) × (shaped shape ≡ kind) × Operates operator (plain of) (plain next_to) shape
 
 -- the row of an operator, by other names
-row_by : (operator : Binary) (p q of beside shape : Shape) → of ≡ p → beside ≡ q → Operates operator p q shape → Operates operator of beside shape
-row_by operator p q of beside shape h k row = rw h (rw k row)
+row_by : (operator : Binary) (p q of next_to shape : Shape) → of ≡ p → next_to ≡ q → Operates operator p q shape → Operates operator of next_to shape
+row_by operator p q of next_to shape h k row = rw h (rw k row)
 
 -- arithmetic has a row
 sum_applies : (at : ℕ) (operator : Arithmetic) (left right found : Operand) → calculation_of at operator left right ≡ Ok found → Applies (arithmetic_operator operator) left.kind right.kind found.kind
 sum_applies at operator left right found h =
-    let sum = arithmetic_found at operator (numbers left) (numbers right) (made_plain left) (made_plain right) found h in
+    let sum = arithmetic_found at operator (numbers left) (numbers right) (unwrapped left) (unwrapped right) found h in
     let first = numbers_within left.kind sum.0 sum.2 in
     let second = numbers_within right.kind sum.1 sum.3 in
     let kind : shaped (arithmetic_shape operator (widened sum.0 sum.1)) ≡ found.kind = rw (sym (kind_of_arithmetic operator (widened sum.0 sum.1))) sum.5 in (
@@ -179,15 +179,15 @@ order_row GreaterOrEqual left right = typing.greater_or_equal left right
 
 -- what an order gives
 ordered_found : (at : ℕ) (order : Order) (m n : Option Numbers) (left right : Typed) (found : Operand) → ordered_of at order m n left right ≡ Ok found
-    → (a b : Numbers) × (m ≡ Some a) × (n ≡ Some b) × (truth_kind ≡ found.kind)
-ordered_found at order (Some a) (Some b) left right found h = (a, b, refl, refl, given_kind _ truth_kind found h)
+    → (a b : Numbers) × (m ≡ Some a) × (n ≡ Some b) × (boolean_kind ≡ found.kind)
+ordered_found at order (Some a) (Some b) left right found h = (a, b, refl, refl, given_kind _ boolean_kind found h)
 ordered_found at order (Some a) None left right found h = absurd (cc)
 ordered_found at order None n left right found h = absurd (cc)
 
 -- an order has a row
 order_applies : (at : ℕ) (order : Order) (left right found : Operand) → ordering_of at order left right ≡ Ok found → Applies (order_operator order) left.kind right.kind found.kind
 order_applies at order left right found h =
-    let ordered = ordered_found at order (numbers left) (numbers right) (made_plain left) (made_plain right) found h in
+    let ordered = ordered_found at order (numbers left) (numbers right) (unwrapped left) (unwrapped right) found h in
     let first = numbers_within left.kind ordered.0 ordered.2 in
     let second = numbers_within right.kind ordered.1 ordered.3 in (
       first.0,
@@ -203,9 +203,9 @@ order_applies at order left right found h =
 
 -- what equality gives
 equal_found : (at : ℕ) (m n : Option Scalar) (left right : Typed) (found : Operand) → equal_of at m n left right ≡ Ok found
-    → (a b : Scalar) × (m ≡ Some a) × (n ≡ Some b) × (same_family (scalar_family a) (scalar_family b) ≡ true) × (truth_kind ≡ found.kind)
+    → (a b : Scalar) × (m ≡ Some a) × (n ≡ Some b) × (same_family (scalar_family a) (scalar_family b) ≡ true) × (boolean_kind ≡ found.kind)
 equal_found at (Some a) (Some b) left right found h =
-    let given = wanted_kind at (same_family (scalar_family a) (scalar_family b)) _ truth_kind found h in (a, b, refl, refl, given.0, given.1)
+    let given = wanted_kind at (same_family (scalar_family a) (scalar_family b)) _ boolean_kind found h in (a, b, refl, refl, given.0, given.1)
 equal_found at (Some a) None left right found h = absurd (cc)
 equal_found at None n left right found h = absurd (cc)
 
@@ -232,9 +232,9 @@ equal_applies at operator equality left right found h =
 
 -- what membership gives
 member_found : (at : ℕ) (m n : Option Scalar) (left right : Typed) (found : Operand) → member_of at m n left right ≡ Ok found
-    → (a b : Scalar) × (m ≡ Some a) × (n ≡ Some b) × (same_family (scalar_family a) (scalar_family b) ≡ true) × (truth_kind ≡ found.kind)
+    → (a b : Scalar) × (m ≡ Some a) × (n ≡ Some b) × (same_family (scalar_family a) (scalar_family b) ≡ true) × (boolean_kind ≡ found.kind)
 member_found at (Some a) (Some b) left right found h =
-    let given = wanted_kind at (same_family (scalar_family a) (scalar_family b)) _ truth_kind found h in (a, b, refl, refl, given.0, given.1)
+    let given = wanted_kind at (same_family (scalar_family a) (scalar_family b)) _ boolean_kind found h in (a, b, refl, refl, given.0, given.1)
 member_found at (Some a) None left right found h = absurd (cc)
 member_found at None n left right found h = absurd (cc)
 
@@ -249,15 +249,15 @@ member_row is_in same = typing.within same
 member_row is_not_in same = typing.not_within same
 
 -- one family, by other names
-family_by : (of beside p q : Shape) → of ≡ p → beside ≡ q → SameFamily p q → SameFamily of beside
-family_by of beside p q h k same = rw h (rw k same)
+family_by : (of next_to p q : Shape) → of ≡ p → next_to ≡ q → SameFamily p q → SameFamily of next_to
+family_by of next_to p q h k same = rw h (rw k same)
 
 -- membership has a row
 in_applies : (at : ℕ) (operator : Binary) → IsMembership operator → (left right found : Operand) → in_of at left right ≡ Ok found → Applies operator left.kind right.kind found.kind
 in_applies at operator membership left right found h =
-    let item = from_bind (item_shape at (plain_of right.kind)) (λ shape. member_of at (scalar left) (scalar_of (plain shape)) left.tree (made_plain right)) found h in
+    let item = from_bind (item_shape at (plain_of right.kind)) (λ shape. member_of at (scalar left) (scalar_of (plain shape)) left.tree (unwrapped right)) found h in
     let second = list_within at right.kind item.0 item.1 in
-    let member = member_found at (scalar left) (scalar_of (plain item.0)) left.tree (made_plain right) found item.2 in
+    let member = member_found at (scalar left) (scalar_of (plain item.0)) left.tree (unwrapped right) found item.2 in
     let first = scalar_within left.kind member.0 member.2 in
     let same = family_by (plain first.0) (plain item.0) (scalar_shape member.0) (scalar_shape member.1) first.2 (shape_of_scalar (plain item.0) member.1 member.3) (family_row member.0 member.1 member.4) in (
       first.0,
@@ -277,19 +277,19 @@ negated_applies operator left right found answer applies h =
     subst (λ kind. Applies operator left.kind right.kind kind) (given_kind (typed.unary unary.Not condition.0.tree) condition.0.kind found condition.2) (applies condition.0 condition.1)
 
 -- `and` and `or` are of two booleans
-truths_apply : (at : ℕ) (operator : Binary) (left right found : Operand) (tree : Typed) → Operates operator shapes.bool shapes.bool shapes.bool
-    → where_wanted at (is_truth left && is_truth right) tree truth_kind ≡ Ok found → Applies operator left.kind right.kind found.kind
-truths_apply at operator left right found tree row h =
-    let given = wanted_kind at (is_truth left && is_truth right) tree truth_kind found h in
-    let sides = both_hold (is_truth left) (is_truth right) given.0 in
-    let first = truth_within left.kind sides.0 in
-    let second = truth_within right.kind sides.1 in
+booleans_apply : (at : ℕ) (operator : Binary) (left right found : Operand) (tree : Typed) → Operates operator shapes.bool shapes.bool shapes.bool
+    → where_wanted at (is_boolean left && is_boolean right) tree boolean_kind ≡ Ok found → Applies operator left.kind right.kind found.kind
+booleans_apply at operator left right found tree row h =
+    let given = wanted_kind at (is_boolean left && is_boolean right) tree boolean_kind found h in
+    let sides = both_hold (is_boolean left) (is_boolean right) given.0 in
+    let first = boolean_within left.kind sides.0 in
+    let second = boolean_within right.kind sides.1 in
     (first.0, second.0, shapes.bool, first.1, second.1, given.1, row_by operator shapes.bool shapes.bool (plain first.0) (plain second.0) shapes.bool first.2 second.2 row)
 
 -- a test of texts has a row
 texts_apply : (at : ℕ) (test : TextTest) (left right found : Operand) → text_test_of at test left right ≡ Ok found → Applies (binaries.TextTest test) left.kind right.kind found.kind
 texts_apply at test left right found h =
-    let given = wanted_kind at (is_text_operand left && is_text_operand right) (typed.binary (binary.TextTest test) (made_plain left) (made_plain right)) truth_kind found h in
+    let given = wanted_kind at (is_text_operand left && is_text_operand right) (typed.binary (binary.TextTest test) (unwrapped left) (unwrapped right)) boolean_kind found h in
     let sides = both_hold (is_text_operand left) (is_text_operand right) given.0 in
     let first = text_within left.kind sides.0 in
     let second = text_within right.kind sides.1 in
@@ -298,8 +298,8 @@ texts_apply at test left right found h =
 -- an operator that is no equality has a row for what it is given
 pub operator_applies : (at : ℕ) (operator : Binary) (nil_left nil_right : Bool) (left right found : Operand)
     → binary_of at operator (side_by nil_left nil_right) left right ≡ Ok found → IsEquality operator ⊎ Applies operator left.kind right.kind found.kind
-operator_applies at binaries.Or nil_left nil_right left right found h = inr (truths_apply at binaries.Or left right found _ typing.either h)
-operator_applies at binaries.And nil_left nil_right left right found h = inr (truths_apply at binaries.And left right found _ typing.both h)
+operator_applies at binaries.Or nil_left nil_right left right found h = inr (booleans_apply at binaries.Or left right found _ typing.either h)
+operator_applies at binaries.And nil_left nil_right left right found h = inr (booleans_apply at binaries.And left right found _ typing.both h)
 operator_applies at (binaries.Comparison comparisons.Equal) nil_left nil_right left right found h = inl typing.is_equal
 operator_applies at (binaries.Comparison comparisons.NotEqual) nil_left nil_right left right found h = inl typing.is_unequal
 operator_applies at (binaries.Comparison comparisons.Less) nil_left nil_right left right found h = inr (order_applies at Less left right found h)
@@ -318,13 +318,13 @@ operator_applies at binaries.Remainder nil_left nil_right left right found h = i
 -- ---- what has a row is typed
 
 -- arithmetic of two numbers
-sum_typed : (at : ℕ) (operator : Arithmetic) (of beside : Shape) (left right : Typed) (m n : Numbers) → plain of ≡ number_shape m → plain beside ≡ number_shape n → is_some (arithmetic_in (widened m n) operator) ≡ true
-    → IsTyped (calculation_of at operator (operand left (shaped of)) (operand right (shaped beside))) (shaped (arithmetic_shape operator (widened m n)))
-sum_typed at operator of beside left right m n h k is =
-    same_kind (calculation_of at operator (operand left (shaped of)) (operand right (shaped beside))) (arithmetic_kind operator (widened m n)) (shaped (arithmetic_shape operator (widened m n)))
+sum_typed : (at : ℕ) (operator : Arithmetic) (of next_to : Shape) (left right : Typed) (m n : Numbers) → plain of ≡ number_shape m → plain next_to ≡ number_shape n → is_some (arithmetic_in (widened m n) operator) ≡ true
+    → IsTyped (calculation_of at operator (operand left (shaped of)) (operand right (shaped next_to))) (shaped (arithmetic_shape operator (widened m n)))
+sum_typed at operator of next_to left right m n h k is =
+    same_kind (calculation_of at operator (operand left (shaped of)) (operand right (shaped next_to))) (arithmetic_kind operator (widened m n)) (shaped (arithmetic_shape operator (widened m n)))
     (kind_of_arithmetic operator (widened m n))
-    (arithmetic_typed at operator (numbers (operand left (shaped of))) (numbers (operand right (shaped beside))) m n (made_plain (operand left (shaped of))) (made_plain (operand right (shaped beside)))
-    (are_numbers (plain of) m h) (are_numbers (plain beside) n k) is)
+    (arithmetic_typed at operator (numbers (operand left (shaped of))) (numbers (operand right (shaped next_to))) m n (unwrapped (operand left (shaped of))) (unwrapped (operand right (shaped next_to)))
+    (are_numbers (plain of) m h) (are_numbers (plain next_to) n k) is)
 
 -- what there is of decimals there is of wholes, too
 there_in : (operator : Arithmetic) → is_some (arithmetic_in Decimals operator) ≡ true → (numbers : Numbers) → is_some (arithmetic_in numbers operator) ≡ true
@@ -333,50 +333,50 @@ there_in operator h Decimals = h
 
 -- sums, differences and products
 added_typed : (at : ℕ) (operator : Arithmetic) → ((numbers : Numbers) → arithmetic_shape operator numbers ≡ number_shape numbers) → ((numbers : Numbers) → is_some (arithmetic_in numbers operator) ≡ true)
-    → {p q both : Shape} → SumOf p q both → (of beside : Shape) (left right : Typed) → plain of ≡ p → plain beside ≡ q
-    → IsTyped (calculation_of at operator (operand left (shaped of)) (operand right (shaped beside))) (shaped both)
-added_typed at operator shape there sum of beside left right h k =
+    → {p q both : Shape} → SumOf p q both → (of next_to : Shape) (left right : Typed) → plain of ≡ p → plain next_to ≡ q
+    → IsTyped (calculation_of at operator (operand left (shaped of)) (operand right (shaped next_to))) (shaped both)
+added_typed at operator shape there sum of next_to left right h k =
     let row = summed_row sum in
-    same_kind (calculation_of at operator (operand left (shaped of)) (operand right (shaped beside))) (shaped (arithmetic_shape operator (widened row.0 row.1))) _
-    (ap shaped (shape (widened row.0 row.1) ∙ sym row.4)) (sum_typed at operator of beside left right row.0 row.1 (h ∙ row.2) (k ∙ row.3) (there (widened row.0 row.1)))
+    same_kind (calculation_of at operator (operand left (shaped of)) (operand right (shaped next_to))) (shaped (arithmetic_shape operator (widened row.0 row.1))) _
+    (ap shaped (shape (widened row.0 row.1) ∙ sym row.4)) (sum_typed at operator of next_to left right row.0 row.1 (h ∙ row.2) (k ∙ row.3) (there (widened row.0 row.1)))
 
 -- the order of two numbers
-ordered_typed : (at : ℕ) (order : Order) (m n : Option Numbers) (a b : Numbers) (left right : Typed) → m ≡ Some a → n ≡ Some b → IsTyped (ordered_of at order m n left right) truth_kind
+ordered_typed : (at : ℕ) (order : Order) (m n : Option Numbers) (a b : Numbers) (left right : Typed) → m ≡ Some a → n ≡ Some b → IsTyped (ordered_of at order m n left right) boolean_kind
 ordered_typed at order m n a b left right h k = rw h (rw k (typed.binary (binary.Compare (compared_of a b) order) left right, refl))
 
 -- likewise of two operands
-order_typed : (at : ℕ) (order : Order) {p q : Shape} → IsNumber p → IsNumber q → (of beside : Shape) (left right : Typed) → plain of ≡ p → plain beside ≡ q
-    → IsTyped (ordering_of at order (operand left (shaped of)) (operand right (shaped beside))) truth_kind
-order_typed at order first second of beside left right h k =
+order_typed : (at : ℕ) (order : Order) {p q : Shape} → IsNumber p → IsNumber q → (of next_to : Shape) (left right : Typed) → plain of ≡ p → plain next_to ≡ q
+    → IsTyped (ordering_of at order (operand left (shaped of)) (operand right (shaped next_to))) boolean_kind
+order_typed at order first second of next_to left right h k =
     let m = numbers_row first in let n = numbers_row second in
-    ordered_typed at order (numbers (operand left (shaped of))) (numbers (operand right (shaped beside))) m.0 n.0 (made_plain (operand left (shaped of))) (made_plain (operand right (shaped beside)))
-    (are_numbers (plain of) m.0 (h ∙ m.1)) (are_numbers (plain beside) n.0 (k ∙ n.1))
+    ordered_typed at order (numbers (operand left (shaped of))) (numbers (operand right (shaped next_to))) m.0 n.0 (unwrapped (operand left (shaped of))) (unwrapped (operand right (shaped next_to)))
+    (are_numbers (plain of) m.0 (h ∙ m.1)) (are_numbers (plain next_to) n.0 (k ∙ n.1))
 
 -- equality of two scalars
-equal_typed : (at : ℕ) (m n : Option Scalar) (a b : Scalar) (left right : Typed) → m ≡ Some a → n ≡ Some b → same_family (scalar_family a) (scalar_family b) ≡ true → IsTyped (equal_of at m n left right) truth_kind
-equal_typed at m n a b left right h k is = rw h (rw k (wanted_typed at (same_family (scalar_family a) (scalar_family b)) _ truth_kind is))
+equal_typed : (at : ℕ) (m n : Option Scalar) (a b : Scalar) (left right : Typed) → m ≡ Some a → n ≡ Some b → same_family (scalar_family a) (scalar_family b) ≡ true → IsTyped (equal_of at m n left right) boolean_kind
+equal_typed at m n a b left right h k is = rw h (rw k (wanted_typed at (same_family (scalar_family a) (scalar_family b)) _ boolean_kind is))
 
 -- equality, also with nil
-equality_typed : (at : ℕ) (nil_left nil_right : Bool) {p q : Shape} → SameFamily p q → (of beside : Shape) (left right : Typed) → plain of ≡ p → plain beside ≡ q
-    → IsTyped (equality_of at (side_by nil_left nil_right) (operand left (shaped of)) (operand right (shaped beside))) truth_kind
-equality_typed at true nil_right same of beside left right h k = (typed.unary unary.IsNil right, refl)
-equality_typed at false true same of beside left right h k = (typed.unary unary.IsNil left, refl)
-equality_typed at false false same of beside left right h k =
+equality_typed : (at : ℕ) (nil_left nil_right : Bool) {p q : Shape} → SameFamily p q → (of next_to : Shape) (left right : Typed) → plain of ≡ p → plain next_to ≡ q
+    → IsTyped (equality_of at (side_by nil_left nil_right) (operand left (shaped of)) (operand right (shaped next_to))) boolean_kind
+equality_typed at true nil_right same of next_to left right h k = (typed.unary unary.IsNil right, refl)
+equality_typed at false true same of next_to left right h k = (typed.unary unary.IsNil left, refl)
+equality_typed at false false same of next_to left right h k =
     let row = families_row same in
-    equal_typed at (scalar (operand left (shaped of))) (scalar (operand right (shaped beside))) row.0 row.1 left right (is_scalar (plain of) row.0 (h ∙ row.2)) (is_scalar (plain beside) row.1 (k ∙ row.3)) row.4
+    equal_typed at (scalar (operand left (shaped of))) (scalar (operand right (shaped next_to))) row.0 row.1 left right (is_scalar (plain of) row.0 (h ∙ row.2)) (is_scalar (plain next_to) row.1 (k ∙ row.3)) row.4
 
 -- membership of a scalar
-member_typed : (at : ℕ) (m n : Option Scalar) (a b : Scalar) (left right : Typed) → m ≡ Some a → n ≡ Some b → same_family (scalar_family a) (scalar_family b) ≡ true → IsTyped (member_of at m n left right) truth_kind
-member_typed at m n a b left right h k is = rw h (rw k (wanted_typed at (same_family (scalar_family a) (scalar_family b)) _ truth_kind is))
+member_typed : (at : ℕ) (m n : Option Scalar) (a b : Scalar) (left right : Typed) → m ≡ Some a → n ≡ Some b → same_family (scalar_family a) (scalar_family b) ≡ true → IsTyped (member_of at m n left right) boolean_kind
+member_typed at m n a b left right h k is = rw h (rw k (wanted_typed at (same_family (scalar_family a) (scalar_family b)) _ boolean_kind is))
 
 -- likewise in a list
-in_typed : (at : ℕ) {p item : Shape} {max : ℕ} → SameFamily p (plain item) → (of beside : Shape) (left right : Typed) → plain of ≡ p → plain beside ≡ shapes.list item max
-    → IsTyped (in_of at (operand left (shaped of)) (operand right (shaped beside))) truth_kind
-in_typed at {item = item} {max = max} same of beside left right h k =
+in_typed : (at : ℕ) {p item : Shape} {max : ℕ} → SameFamily p (plain item) → (of next_to : Shape) (left right : Typed) → plain of ≡ p → plain next_to ≡ shapes.list item max
+    → IsTyped (in_of at (operand left (shaped of)) (operand right (shaped next_to))) boolean_kind
+in_typed at {item = item} {max = max} same of next_to left right h k =
     let row = families_row same in
-    bind_typed (item_shape at (Some (plain beside))) (λ shape. member_of at (scalar (operand left (shaped of))) (scalar_of (plain shape)) left (made_plain (operand right (shaped beside)))) item truth_kind
-    (items_are at (plain beside) item max k)
-    (member_typed at (scalar (operand left (shaped of))) (scalar_of (plain item)) row.0 row.1 left (made_plain (operand right (shaped beside)))
+    bind_typed (item_shape at (Some (plain next_to))) (λ shape. member_of at (scalar (operand left (shaped of))) (scalar_of (plain shape)) left (unwrapped (operand right (shaped next_to)))) item boolean_kind
+    (items_are at (plain next_to) item max k)
+    (member_typed at (scalar (operand left (shaped of))) (scalar_of (plain item)) row.0 row.1 left (unwrapped (operand right (shaped next_to)))
     (is_scalar (plain of) row.0 (h ∙ row.2)) (is_scalar (plain item) row.1 row.3) row.4)
 
 -- what is negated keeps its kind
@@ -384,39 +384,39 @@ pub negated_typed : (answer : Answer) (kind : Kind) → IsTyped answer kind → 
 negated_typed answer kind h = then_typed answer negated kind kind h (λ tree. (typed.unary unary.Not tree, refl))
 
 -- two booleans
-truths_typed : (at : ℕ) (of beside : Shape) (tree left right : Typed) → plain of ≡ shapes.bool → plain beside ≡ shapes.bool
-    → IsTyped (where_wanted at (is_truth (operand left (shaped of)) && is_truth (operand right (shaped beside))) tree truth_kind) truth_kind
-truths_typed at of beside tree left right h k =
-    wanted_typed at (is_truth (operand left (shaped of)) && is_truth (operand right (shaped beside))) tree truth_kind
-    (means.both (is_truth (operand left (shaped of))) (is_truth (operand right (shaped beside))) (truth_is (plain of) h) (truth_is (plain beside) k))
+booleans_typed : (at : ℕ) (of next_to : Shape) (tree left right : Typed) → plain of ≡ shapes.bool → plain next_to ≡ shapes.bool
+    → IsTyped (where_wanted at (is_boolean (operand left (shaped of)) && is_boolean (operand right (shaped next_to))) tree boolean_kind) boolean_kind
+booleans_typed at of next_to tree left right h k =
+    wanted_typed at (is_boolean (operand left (shaped of)) && is_boolean (operand right (shaped next_to))) tree boolean_kind
+    (means.both (is_boolean (operand left (shaped of))) (is_boolean (operand right (shaped next_to))) (boolean_is (plain of) h) (boolean_is (plain next_to) k))
 
 -- two texts
-texts_typed : (at : ℕ) (test : TextTest) (of beside : Shape) (left right : Typed) → plain of ≡ shapes.text → plain beside ≡ shapes.text
-    → IsTyped (text_test_of at test (operand left (shaped of)) (operand right (shaped beside))) truth_kind
-texts_typed at test of beside left right h k =
-    wanted_typed at (is_text_operand (operand left (shaped of)) && is_text_operand (operand right (shaped beside)))
-    (typed.binary (binary.TextTest test) (made_plain (operand left (shaped of))) (made_plain (operand right (shaped beside)))) truth_kind
-    (means.both (is_text_operand (operand left (shaped of))) (is_text_operand (operand right (shaped beside))) (text_is (plain of) h) (text_is (plain beside) k))
+texts_typed : (at : ℕ) (test : TextTest) (of next_to : Shape) (left right : Typed) → plain of ≡ shapes.text → plain next_to ≡ shapes.text
+    → IsTyped (text_test_of at test (operand left (shaped of)) (operand right (shaped next_to))) boolean_kind
+texts_typed at test of next_to left right h k =
+    wanted_typed at (is_text_operand (operand left (shaped of)) && is_text_operand (operand right (shaped next_to)))
+    (typed.binary (binary.TextTest test) (unwrapped (operand left (shaped of))) (unwrapped (operand right (shaped next_to)))) boolean_kind
+    (means.both (is_text_operand (operand left (shaped of))) (is_text_operand (operand right (shaped next_to))) (text_is (plain of) h) (text_is (plain next_to) k))
 
 -- an operator with a row for two operands is typed
-pub operator_typed : (at : ℕ) (nil_left nil_right : Bool) {operator : Binary} {p q shape : Shape} → Operates operator p q shape → (of beside : Shape) (left right : Typed) → plain of ≡ p → plain beside ≡ q
-    → IsTyped (binary_of at operator (side_by nil_left nil_right) (operand left (shaped of)) (operand right (shaped beside))) (shaped shape)
-operator_typed at nil_left nil_right (typing.add sum) of beside left right h k = added_typed at Add (λ n. refl) (there_in Add refl) sum of beside left right h k
-operator_typed at nil_left nil_right (typing.subtract sum) of beside left right h k = added_typed at Subtract (λ n. refl) (there_in Subtract refl) sum of beside left right h k
-operator_typed at nil_left nil_right (typing.multiply sum) of beside left right h k = added_typed at Multiply (λ n. refl) (there_in Multiply refl) sum of beside left right h k
-operator_typed at nil_left nil_right (typing.divide first second) of beside left right h k =
-    let m = numbers_row first in let n = numbers_row second in sum_typed at Divide of beside left right m.0 n.0 (h ∙ m.1) (k ∙ n.1) (there_in Divide refl (widened m.0 n.0))
-operator_typed at nil_left nil_right typing.remainder of beside left right h k = sum_typed at Remainder of beside left right Wholes Wholes h k refl
-operator_typed at nil_left nil_right (typing.less first second) of beside left right h k = order_typed at Less first second of beside left right h k
-operator_typed at nil_left nil_right (typing.less_or_equal first second) of beside left right h k = order_typed at LessOrEqual first second of beside left right h k
-operator_typed at nil_left nil_right (typing.greater first second) of beside left right h k = order_typed at Greater first second of beside left right h k
-operator_typed at nil_left nil_right (typing.greater_or_equal first second) of beside left right h k = order_typed at GreaterOrEqual first second of beside left right h k
-operator_typed at nil_left nil_right (typing.equal same) of beside left right h k = equality_typed at nil_left nil_right same of beside left right h k
-operator_typed at nil_left nil_right (typing.not_equal same) of beside left right h k =
-    negated_typed (equality_of at (side_by nil_left nil_right) (operand left (shaped of)) (operand right (shaped beside))) truth_kind (equality_typed at nil_left nil_right same of beside left right h k)
-operator_typed at nil_left nil_right typing.both of beside left right h k = truths_typed at of beside _ left right h k
-operator_typed at nil_left nil_right typing.either of beside left right h k = truths_typed at of beside _ left right h k
-operator_typed at nil_left nil_right (typing.within same) of beside left right h k = in_typed at same of beside left right h k
-operator_typed at nil_left nil_right (typing.not_within same) of beside left right h k =
-    negated_typed (in_of at (operand left (shaped of)) (operand right (shaped beside))) truth_kind (in_typed at same of beside left right h k)
-operator_typed at nil_left nil_right (typing.text_test test) of beside left right h k = texts_typed at test of beside left right h k
+pub operator_typed : (at : ℕ) (nil_left nil_right : Bool) {operator : Binary} {p q shape : Shape} → Operates operator p q shape → (of next_to : Shape) (left right : Typed) → plain of ≡ p → plain next_to ≡ q
+    → IsTyped (binary_of at operator (side_by nil_left nil_right) (operand left (shaped of)) (operand right (shaped next_to))) (shaped shape)
+operator_typed at nil_left nil_right (typing.add sum) of next_to left right h k = added_typed at Add (λ n. refl) (there_in Add refl) sum of next_to left right h k
+operator_typed at nil_left nil_right (typing.subtract sum) of next_to left right h k = added_typed at Subtract (λ n. refl) (there_in Subtract refl) sum of next_to left right h k
+operator_typed at nil_left nil_right (typing.multiply sum) of next_to left right h k = added_typed at Multiply (λ n. refl) (there_in Multiply refl) sum of next_to left right h k
+operator_typed at nil_left nil_right (typing.divide first second) of next_to left right h k =
+    let m = numbers_row first in let n = numbers_row second in sum_typed at Divide of next_to left right m.0 n.0 (h ∙ m.1) (k ∙ n.1) (there_in Divide refl (widened m.0 n.0))
+operator_typed at nil_left nil_right typing.remainder of next_to left right h k = sum_typed at Remainder of next_to left right Wholes Wholes h k refl
+operator_typed at nil_left nil_right (typing.less first second) of next_to left right h k = order_typed at Less first second of next_to left right h k
+operator_typed at nil_left nil_right (typing.less_or_equal first second) of next_to left right h k = order_typed at LessOrEqual first second of next_to left right h k
+operator_typed at nil_left nil_right (typing.greater first second) of next_to left right h k = order_typed at Greater first second of next_to left right h k
+operator_typed at nil_left nil_right (typing.greater_or_equal first second) of next_to left right h k = order_typed at GreaterOrEqual first second of next_to left right h k
+operator_typed at nil_left nil_right (typing.equal same) of next_to left right h k = equality_typed at nil_left nil_right same of next_to left right h k
+operator_typed at nil_left nil_right (typing.not_equal same) of next_to left right h k =
+    negated_typed (equality_of at (side_by nil_left nil_right) (operand left (shaped of)) (operand right (shaped next_to))) boolean_kind (equality_typed at nil_left nil_right same of next_to left right h k)
+operator_typed at nil_left nil_right typing.both of next_to left right h k = booleans_typed at of next_to _ left right h k
+operator_typed at nil_left nil_right typing.either of next_to left right h k = booleans_typed at of next_to _ left right h k
+operator_typed at nil_left nil_right (typing.within same) of next_to left right h k = in_typed at same of next_to left right h k
+operator_typed at nil_left nil_right (typing.not_within same) of next_to left right h k =
+    negated_typed (in_of at (operand left (shaped of)) (operand right (shaped next_to))) boolean_kind (in_typed at same of next_to left right h k)
+operator_typed at nil_left nil_right (typing.text_test test) of next_to left right h k = texts_typed at test of next_to left right h k

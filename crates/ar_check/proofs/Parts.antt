@@ -8,7 +8,7 @@ use Rattle.ar_value.specs.declared.operator.BinaryOperator.TheVariants as binary
 use Rattle.ar_value.specs.declared.operator.UnaryOperator.TheVariants as unary
 use Rattle.ar_value.specs.Answer.{◌>>=◌}
 use Rattle.ar_value.specs.Fits.{all_items, fits}
-use Rattle.ar_value.specs.Kind.{Kind, nil, shaped, plain, fits_kind, truth_kind}
+use Rattle.ar_value.specs.Kind.{Kind, nil, shaped, plain, fits_kind, boolean_kind}
 use Rattle.ar_value.specs.Shape.{Shape, FieldShapes}
 use Rattle.ar_value.specs.Shape as shapes
 use Rattle.ar_value.specs.Value.{Value, Items, Fields, count, value_named}
@@ -19,11 +19,11 @@ use Rattle.ar_value.specs.Shape.{shape_named}
 use Rattle.ar_value.specs.Operators.{Failure, Meaning}
 use Rattle.ar_tree.specs.Meaning.{mean}
 use Rattle.ar_value.specs.Operators as operators
-use Rattle.ar_check.specs.Operand.{Operand, scalar_family, made_plain, plain_of, scalar, scalar_of}
+use Rattle.ar_check.specs.Operand.{Operand, scalar_family, unwrapped, plain_of, scalar, scalar_of}
 use Rattle.ar_tree.specs.Typed.{Typed}
 use Rattle.ar_tree.specs.Typed as typed
 use Rattle.ar_value.specs.declared.operator.Scalar.{Scalar}
-use Rattle.ar_check.proofs.Means.{MeansKind, Sound, IsThere, IsTruth, truth_wanted, answers, means_then, both_hold, wanted, both}
+use Rattle.ar_check.proofs.Means.{MeansKind, Sound, IsThere, IsBoolean, boolean_wanted, answers, means_then, both_hold, wanted, both}
 use Rattle.ar_check.proofs.Operands.{is_index, is_plain, named_fits, on_list, on_object, on_whole, there_fits}
 
 -- ---- items
@@ -102,13 +102,13 @@ last false true c h = refl
 last false false c h = h
 
 of_family : (family : Family) (value : Value) (items : Items) → operators.are_in_family family (values.item value items) ≡ true → operators.of_one_family value items ≡ true
-of_family families.Truth value items h = rw h refl
+of_family families.Boolean value items h = rw h refl
 of_family families.Number value items h =
-    middle (operators.are_in_family families.Truth (values.item value items)) (operators.are_in_family families.Number (values.item value items)) (operators.are_in_family families.Text (values.item value items)) h
+    middle (operators.are_in_family families.Boolean (values.item value items)) (operators.are_in_family families.Number (values.item value items)) (operators.are_in_family families.Text (values.item value items)) h
 of_family families.Text value items h =
-    last (operators.are_in_family families.Truth (values.item value items)) (operators.are_in_family families.Number (values.item value items)) (operators.are_in_family families.Text (values.item value items)) h
+    last (operators.are_in_family families.Boolean (values.item value items)) (operators.are_in_family families.Number (values.item value items)) (operators.are_in_family families.Text (values.item value items)) h
 
-pub kinded_means : (is_kinded : Bool) (b : Bool) → is_kinded ≡ true → MeansKind truth_kind (operators.where_kinded is_kinded (values.bool b))
+pub kinded_means : (is_kinded : Bool) (b : Bool) → is_kinded ≡ true → MeansKind boolean_kind (operators.where_kinded is_kinded (values.bool b))
 kinded_means true b h = refl
 kinded_means false b h = absurd cc
 
@@ -133,17 +133,17 @@ module _ (result : Value) (here : Option Value) where
       (λ items short all. on_whole (λ i. MeansKind (shaped shape) (operators.index_in (values.list items) i)) (λ w. item_fits shape items w all) i whole) v fit))
 
   -- a list, unwrapped
-  pub plain_list : (list : Operand) (shape : Shape) → (of : ListOf list.kind shape) → Sound result here list → MeansKind (shaped (shapes.list shape of.0)) (mean result here (made_plain list))
+  pub plain_list : (list : Operand) (shape : Shape) → (of : ListOf list.kind shape) → Sound result here list → MeansKind (shaped (shapes.list shape of.0)) (mean result here (unwrapped list))
   plain_list list shape of h =
-      let plain : MeansKind (plain_kind list.kind) (mean result here (made_plain list)) = is_plain result here list h in
+      let plain : MeansKind (plain_kind list.kind) (mean result here (unwrapped list)) = is_plain result here list h in
       rw of.1 at plain
 
   -- an index means its kind
   pub index_sound : (at : ℕ) (list index : Operand) → Sound result here list → Sound result here index → IfOk (index_of at list index) (Sound result here)
   index_sound at list index h k =
       answers _ _ (item_shape at (plain_of list.kind)) _ (is_list at list.kind)
-      (λ shape of. wanted result here at (is_whole_number (scalar index)) (typed.binary binary.Index (made_plain list) (made_plain index)) (shaped shape)
-      (λ is. index_means shape of.0 (made_plain list) (made_plain index) (plain_list list shape of h) (is_index result here index k is)))
+      (λ shape of. wanted result here at (is_whole_number (scalar index)) (typed.binary binary.Index (unwrapped list) (unwrapped index)) (shaped shape)
+      (λ is. index_means shape of.0 (unwrapped list) (unwrapped index) (plain_list list shape of h) (is_index result here index k is)))
 
   -- a length is a whole
   pub len_means : (shape : Shape) (max : ℕ) (list : Typed) → MeansKind (shaped (shapes.list shape max)) (mean result here list) → MeansKind (shaped shapes.whole) (mean result here (typed.unary unary.Len list))
@@ -153,36 +153,36 @@ module _ (result : Value) (here : Option Value) where
   -- a length means its kind
   pub len_sound : (at : ℕ) (list : Operand) → Sound result here list → IfOk (len_of at list) (Sound result here)
   len_sound at list h =
-      answers _ _ (item_shape at (plain_of list.kind)) _ (is_list at list.kind) (λ shape of. len_means shape of.0 (made_plain list) (plain_list list shape of h))
+      answers _ _ (item_shape at (plain_of list.kind)) _ (is_list at list.kind) (λ shape of. len_means shape of.0 (unwrapped list) (plain_list list shape of h))
 
   -- ---- membership
 
   -- membership in a list of scalars of a family is a boolean
   member_means : (family : Family) (kind : Kind) (shape : Shape) (max : ℕ) (operand list : Typed) → ((v : Value) → fits_kind v kind ≡ true → operators.is_in_family family v ≡ true)
       → ((v : Value) → fits v shape ≡ true → operators.is_in_family family v ≡ true) → MeansKind kind (mean result here operand) → MeansKind (shaped (shapes.list shape max)) (mean result here list)
-      → MeansKind truth_kind (mean result here (typed.binary binary.IsIn operand list))
+      → MeansKind boolean_kind (mean result here (typed.binary binary.IsIn operand list))
   member_means family kind shape max operand list in_operand in_items h k =
       means_then _ _ (mean result here operand) (λ value. mean result here list >>= λ v. operators.is_among value v) h
       (λ value fit. means_then _ _ (mean result here list) (λ v. operators.is_among value v) k
-      (λ v is. on_list (λ v. MeansKind truth_kind (operators.is_among value v)) shape max
+      (λ v is. on_list (λ v. MeansKind boolean_kind (operators.is_among value v)) shape max
       (λ items short all. kinded_means (operators.of_one_family value items) (operators.has_item value items)
       (of_family family value items (both (operators.is_in_family family value) (operators.are_in_family family items) (in_operand value fit) (all_in_family family shape items in_items all)))) v is))
 
   -- membership of scalars of one family is a boolean
   member_sound : (at : ℕ) (m n : Option Scalar) (left : Operand) (list : Typed) (shape : Shape) (max : ℕ) → scalar left ≡ m → scalar_of (plain shape) ≡ n → Sound result here left
-      → MeansKind (shaped (shapes.list shape max)) (mean result here list) → IfOk (member_of at m n left.tree list) (IsTruth result here)
+      → MeansKind (shaped (shapes.list shape max)) (mean result here list) → IfOk (member_of at m n left.tree list) (IsBoolean result here)
   member_sound at (Some m) (Some n) left list shape max of_m of_n h k =
-      truth_wanted result here at (same_family (scalar_family m) (scalar_family n)) (typed.binary binary.IsIn left.tree list)
+      boolean_wanted result here at (same_family (scalar_family m) (scalar_family n)) (typed.binary binary.IsIn left.tree list)
       (λ is. member_means (scalar_family m) left.kind shape max left.tree list (kind_in_family left.kind m of_m)
       (λ v fit. subst (λ family. operators.is_in_family family v ≡ true) (one_family m n is) (in_family shape n v of_n fit)) h k)
   member_sound at (Some m) None left list shape max of_m of_n h k = tt
   member_sound at None n left list shape max of_m of_n h k = tt
 
   -- `in` means its kind
-  pub in_sound : (at : ℕ) (left right : Operand) → Sound result here left → Sound result here right → IfOk (in_of at left right) (IsTruth result here)
+  pub in_sound : (at : ℕ) (left right : Operand) → Sound result here left → Sound result here right → IfOk (in_of at left right) (IsBoolean result here)
   in_sound at left right h k =
-      answers _ _ (item_shape at (plain_of right.kind)) (λ shape. member_of at (scalar left) (scalar_of (plain shape)) left.tree (made_plain right)) (is_list at right.kind)
-      (λ shape of. member_sound at (scalar left) (scalar_of (plain shape)) left (made_plain right) shape of.0 refl refl h (plain_list right shape of k))
+      answers _ _ (item_shape at (plain_of right.kind)) (λ shape. member_of at (scalar left) (scalar_of (plain shape)) left.tree (unwrapped right)) (is_list at right.kind)
+      (λ shape of. member_sound at (scalar left) (scalar_of (plain shape)) left (unwrapped right) shape of.0 refl refl h (plain_list right shape of k))
 
   -- ---- fields
 
@@ -220,4 +220,4 @@ module _ (result : Value) (here : Option Value) where
 
   -- a field means its kind
   pub field_sound : (at : ℕ) (name : List ℕ) (whole : Operand) → Sound result here whole → IfOk (field_of at name whole) (Sound result here)
-  field_sound at name whole h = kind_sound at whole.kind (made_plain whole) name (is_plain result here whole h)
+  field_sound at name whole h = kind_sound at whole.kind (unwrapped whole) name (is_plain result here whole h)

@@ -4,7 +4,7 @@ use Rattle.std.specs.Prelude.{◌≤◌, ◌==◌, if◌then◌else◌}
 use Rattle.std.proofs.lemmas.Bool.Decides.{nat_tests}
 use Rattle.ar_value.specs.Answer.{◌>>=◌}
 use Rattle.ar_value.specs.Fits.{all_items, fits}
-use Rattle.ar_value.specs.Kind.{Kind, shaped, truth_kind}
+use Rattle.ar_value.specs.Kind.{Kind, shaped, boolean_kind}
 use Rattle.ar_value.specs.Shape.{Shape}
 use Rattle.ar_value.specs.Shape as shapes
 use Rattle.ar_value.specs.Value.{Value, Items, count}
@@ -15,7 +15,7 @@ use Rattle.ar_check.specs.Check.{plain_kind, predicate_kind, predicate_of}
 use Rattle.ar_value.specs.Operators.{Failure, Meaning}
 use Rattle.ar_tree.specs.Meaning.{all_hold, any_holds, mean, none_holds, over, those}
 use Rattle.ar_value.specs.Operators as operators
-use Rattle.ar_check.specs.Operand.{Operand, made_plain}
+use Rattle.ar_check.specs.Operand.{Operand, unwrapped}
 use Rattle.ar_tree.specs.Typed.{Typed}
 use Rattle.ar_tree.specs.Typed as typed
 use Rattle.ar_check.proofs.Means.{Means, MeansKind, Sound, both, both_hold, either_means, means_then, wanted}
@@ -50,28 +50,28 @@ short_enough k m n h is = grind (arith, nat_tests)
 
 module _ (holds : Value → Result Bool Failure) (shape : Shape) (says : Says holds shape) where
   -- whether all hold is a boolean
-  all_means : (items : Items) → AllFit shape items → MeansKind truth_kind (all_hold holds items)
+  all_means : (items : Items) → AllFit shape items → MeansKind boolean_kind (all_hold holds items)
   all_means values.no_items h = refl
   all_means (values.item v items) h =
       let parts = both_hold (fits v shape) (all_items (λ v. fits v shape) items) h in
       means_then (λ it. Unit {0}) _ (holds v) (λ it. if it then all_hold holds items else Ok (values.bool false)) (says v parts.0)
-      (λ it any. either_means truth_kind it (all_hold holds items) (Ok (values.bool false)) (all_means items parts.1) refl)
+      (λ it any. either_means boolean_kind it (all_hold holds items) (Ok (values.bool false)) (all_means items parts.1) refl)
 
   -- whether any holds is a boolean
-  any_means : (items : Items) → AllFit shape items → MeansKind truth_kind (any_holds holds items)
+  any_means : (items : Items) → AllFit shape items → MeansKind boolean_kind (any_holds holds items)
   any_means values.no_items h = refl
   any_means (values.item v items) h =
       let parts = both_hold (fits v shape) (all_items (λ v. fits v shape) items) h in
       means_then (λ it. Unit {0}) _ (holds v) (λ it. if it then Ok (values.bool true) else any_holds holds items) (says v parts.0)
-      (λ it any. either_means truth_kind it (Ok (values.bool true)) (any_holds holds items) refl (any_means items parts.1))
+      (λ it any. either_means boolean_kind it (Ok (values.bool true)) (any_holds holds items) refl (any_means items parts.1))
 
   -- whether none holds is a boolean
-  none_means : (items : Items) → AllFit shape items → MeansKind truth_kind (none_holds holds items)
+  none_means : (items : Items) → AllFit shape items → MeansKind boolean_kind (none_holds holds items)
   none_means values.no_items h = refl
   none_means (values.item v items) h =
       let parts = both_hold (fits v shape) (all_items (λ v. fits v shape) items) h in
       means_then (λ it. Unit {0}) _ (holds v) (λ it. if it then Ok (values.bool false) else none_holds holds items) (says v parts.0)
-      (λ it any. either_means truth_kind it (Ok (values.bool false)) (none_holds holds items) refl (none_means items parts.1))
+      (λ it any. either_means boolean_kind it (Ok (values.bool false)) (none_holds holds items) refl (none_means items parts.1))
 
   -- one item more, where it holds
   with_or_without : (it : Bool) (v : Value) (most : ℕ) (others : Items) → fits v shape ≡ true → Among shape most others → Among shape (suc most) (if it then values.item v others else others)
@@ -103,26 +103,26 @@ module _ (holds : Value → Result Bool Failure) (shape : Shape) (says : Says ho
 
 -- the body of a predicate over the items of a list: where it is a boolean, it means one for each item
 abbrev pub Body : Value → Kind → (Bool × Typed) → Type 0
-Body result list body = (shape : Shape) × (of : ListOf list shape) × (body.0 ≡ true → (v : Value) → fits v shape ≡ true → MeansKind truth_kind (mean result (Some v) body.1))
+Body result list body = (shape : Shape) × (of : ListOf list shape) × (body.0 ≡ true → (v : Value) → fits v shape ≡ true → MeansKind boolean_kind (mean result (Some v) body.1))
 
 module _ (result : Value) (here : Option Value) where
   -- a body that is a boolean of each item says of each whether it holds
-  body_says : (shape : Shape) (body : Typed) → ((v : Value) → fits v shape ≡ true → MeansKind truth_kind (mean result (Some v) body)) → Says (λ v. mean result (Some v) body >>= operators.truth) shape
+  body_says : (shape : Shape) (body : Typed) → ((v : Value) → fits v shape ≡ true → MeansKind boolean_kind (mean result (Some v) body)) → Says (λ v. mean result (Some v) body >>= operators.boolean) shape
   body_says shape body each v fit =
-      means_then _ _ (mean result (Some v) body) operators.truth (each v fit) (λ w is. on_bool (λ w. Means (λ it. Unit {0}) (operators.truth w)) (λ b. tt) w is)
+      means_then _ _ (mean result (Some v) body) operators.boolean (each v fit) (λ w is. on_bool (λ w. Means (λ it. Unit {0}) (operators.boolean w)) (λ b. tt) w is)
 
   -- a predicate over a list means its kind, where its body is a boolean
   pub predicate_means : (predicate : Predicate) (shape : Shape) (max : ℕ) (list body : Typed) → MeansKind (shaped (shapes.list shape max)) (mean result here list)
-      → ((v : Value) → fits v shape ≡ true → MeansKind truth_kind (mean result (Some v) body))
+      → ((v : Value) → fits v shape ≡ true → MeansKind boolean_kind (mean result (Some v) body))
       → MeansKind (predicate_kind predicate (shaped (shapes.list shape max))) (mean result here (typed.predicate predicate list body))
   predicate_means predicate shape max list body h each =
-      means_then _ _ (mean result here list) (λ v. operators.items_in v >>= over predicate (λ v. mean result (Some v) body >>= operators.truth)) h
-      (λ v fit. on_list (λ v. MeansKind (predicate_kind predicate (shaped (shapes.list shape max))) (operators.items_in v >>= over predicate (λ v. mean result (Some v) body >>= operators.truth))) shape max
-      (λ items short all. over_means (λ v. mean result (Some v) body >>= operators.truth) shape (body_says shape body each) predicate max items short all) v fit)
+      means_then _ _ (mean result here list) (λ v. operators.items_in v >>= over predicate (λ v. mean result (Some v) body >>= operators.boolean)) h
+      (λ v fit. on_list (λ v. MeansKind (predicate_kind predicate (shaped (shapes.list shape max))) (operators.items_in v >>= over predicate (λ v. mean result (Some v) body >>= operators.boolean))) shape max
+      (λ items short all. over_means (λ v. mean result (Some v) body >>= operators.boolean) shape (body_says shape body each) predicate max items short all) v fit)
 
   -- a predicate means its kind
   pub predicate_sound : (at : ℕ) (predicate : Predicate) (list : Operand) (body : Bool × Typed) → Sound result here list → Body result list.kind body
       → IfOk (predicate_of at predicate list body.0 body.1) (Sound result here)
   predicate_sound at predicate list body h says =
-      wanted result here at body.0 (typed.predicate predicate (made_plain list) body.1) (predicate_kind predicate (plain_kind list.kind))
-      (λ is. rw says.1.1 (predicate_means predicate says.0 says.1.0 (made_plain list) body.1 (plain_list result here list says.0 says.1 h) (says.2 is)))
+      wanted result here at body.0 (typed.predicate predicate (unwrapped list) body.1) (predicate_kind predicate (plain_kind list.kind))
+      (λ is. rw says.1.1 (predicate_means predicate says.0 says.1.0 (unwrapped list) body.1 (plain_list result here list says.0 says.1 h) (says.2 is)))

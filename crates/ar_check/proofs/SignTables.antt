@@ -2,19 +2,19 @@
 use Rattle.std.proofs.Common.{◌≡◌, ℕ, Option, Some, None, Ok, refl, ◌∙◌, ap, sym}
 use Rattle.std.specs.Prelude.{option_and_then}
 use Rattle.ar_value.specs.declared.operator.UnaryOperator.TheVariants as unary
-use Rattle.ar_value.specs.Kind.{Kind, shaped, plain, truth_kind}
+use Rattle.ar_value.specs.Kind.{Kind, shaped, plain, boolean_kind}
 use Rattle.ar_value.specs.Shape.{Shape}
 use Rattle.ar_value.specs.Shape as shapes
 use Rattle.ar_tree.specs.declared.tree.Unary.{Unary}
 use Rattle.ar_tree.specs.declared.tree.Unary.TheVariants as unaries
 use Rattle.ar_check.specs.Check.{Answer, negation_of, number_kind, plus_of, unary_of}
-use Rattle.ar_check.specs.Operand.{Operand, operand, is_truth, made_plain, numbers, numbers_in, plain_of, scalar_of}
+use Rattle.ar_check.specs.Operand.{Operand, operand, is_boolean, unwrapped, numbers, numbers_in, plain_of, scalar_of}
 use Rattle.ar_tree.specs.Typed.{Typed}
 use Rattle.ar_tree.specs.Typed as typed
 use Rattle.ar_check.specs.Typing.{InCommon, IsEquality, IsNumber, IsScalar, Operates, OperatesOnOne, SameFamily, SumOf}
 use Rattle.ar_check.specs.Typing as typing
 use Rattle.ar_value.specs.declared.operator.Numbers.{Numbers}
-use Rattle.ar_check.proofs.Tables.{IsTyped, are_numbers, given_kind, kind_of_numbers, number_shape, numbers_within, same_kind, truth_is, truth_within, wanted_kind, wanted_typed}
+use Rattle.ar_check.proofs.Tables.{IsTyped, are_numbers, given_kind, kind_of_numbers, number_shape, numbers_within, same_kind, boolean_is, boolean_within, wanted_kind, wanted_typed}
 use Rattle.ar_check.proofs.OperatorTables.{number_row, numbers_row}
 
 -- an operator has a row for one kind
@@ -45,12 +45,12 @@ sign_applies operator kind found n h same row =
 -- an operator has a row for what it is given
 pub sign_row : (at : ℕ) (operator : Unary) (operand found : Operand) → unary_of at operator operand ≡ Ok found → AppliesToOne operator operand.kind found.kind
 sign_row at unaries.Minus operand found h =
-    let n = negative_found at (numbers operand) (made_plain operand) found h in sign_applies unaries.Minus operand.kind found.kind n.0 n.1 n.2 (typing.minus (number_row n.0))
+    let n = negative_found at (numbers operand) (unwrapped operand) found h in sign_applies unaries.Minus operand.kind found.kind n.0 n.1 n.2 (typing.minus (number_row n.0))
 sign_row at unaries.Plus operand found h =
-    let n = positive_found at (numbers operand) (made_plain operand) found h in sign_applies unaries.Plus operand.kind found.kind n.0 n.1 n.2 (typing.plus (number_row n.0))
+    let n = positive_found at (numbers operand) (unwrapped operand) found h in sign_applies unaries.Plus operand.kind found.kind n.0 n.1 n.2 (typing.plus (number_row n.0))
 sign_row at unaries.Not operand found h =
-    let given = wanted_kind at (is_truth operand) _ truth_kind found h in
-    let first = truth_within operand.kind given.0 in
+    let given = wanted_kind at (is_boolean operand) _ boolean_kind found h in
+    let first = boolean_within operand.kind given.0 in
     (first.0, shapes.bool, first.1, given.1, one_row_by unaries.Not shapes.bool (plain first.0) shapes.bool first.2 typing.opposite)
 
 -- the negative of a number
@@ -70,9 +70,9 @@ pub sign_typed : (at : ℕ) {operator : Unary} {p shape : Shape} → OperatesOnO
 sign_typed at (typing.minus is) of tree h =
     let n = numbers_row is in
     by_shape (unary_of at unaries.Minus (operand tree (shaped of))) n.0 _ n.1
-    (negative_typed at (numbers (operand tree (shaped of))) n.0 (made_plain (operand tree (shaped of))) (are_numbers (plain of) n.0 (h ∙ n.1)))
+    (negative_typed at (numbers (operand tree (shaped of))) n.0 (unwrapped (operand tree (shaped of))) (are_numbers (plain of) n.0 (h ∙ n.1)))
 sign_typed at (typing.plus is) of tree h =
     let n = numbers_row is in
     by_shape (unary_of at unaries.Plus (operand tree (shaped of))) n.0 _ n.1
-    (positive_typed at (numbers (operand tree (shaped of))) n.0 (made_plain (operand tree (shaped of))) (are_numbers (plain of) n.0 (h ∙ n.1)))
-sign_typed at typing.opposite of tree h = wanted_typed at (is_truth (operand tree (shaped of))) _ truth_kind (truth_is (plain of) h)
+    (positive_typed at (numbers (operand tree (shaped of))) n.0 (unwrapped (operand tree (shaped of))) (are_numbers (plain of) n.0 (h ∙ n.1)))
+sign_typed at typing.opposite of tree h = wanted_typed at (is_boolean (operand tree (shaped of))) _ boolean_kind (boolean_is (plain of) h)

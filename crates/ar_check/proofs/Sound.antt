@@ -4,17 +4,17 @@ use Rattle.std.specs.Prelude.{◌∷◌, if◌then◌else◌, nat_lt}
 use Rattle.ar_value.specs.declared.operator.UnaryOperator.TheVariants as unary
 use Rattle.ar_value.specs.Answer.{◌>>=◌}
 use Rattle.ar_value.specs.Fits.{fits}
-use Rattle.ar_value.specs.Kind.{Kind, truth_kind}
+use Rattle.ar_value.specs.Kind.{Kind, boolean_kind}
 use Rattle.ar_value.specs.Shape.{Shape}
 use Rattle.ar_value.specs.Value.{Value}
 use Rattle.ar_value.specs.Value as values
-use Rattle.ar_tree.specs.Expression.{Expression, Expressions, place_of}
+use Rattle.ar_tree.specs.Expression.{Expression, Expressions, offset_of}
 use Rattle.ar_tree.specs.Expression as trees
 use Rattle.ar_check.specs.Check.{Answer, body_of, checked, choice_of, condition_of, default_of, predicate_entered, field_of, index_of, item_of, item_shape, items_typed, is_nil_literal, len_of, list_literal_of, no_scalar, over_items, predicate_of, given, typed_of, unary_of, binary_of}
 use Rattle.ar_value.specs.Operators.{Meaning, faulted, ill_kinded}
 use Rattle.ar_value.specs.Limits.{most_loops}
-use Rattle.ar_tree.specs.Meaning.{IsTruthOrFault, is_fault, is_truth, mean}
-use Rattle.ar_check.specs.Operand.{Operand, made_plain, plain_of}
+use Rattle.ar_tree.specs.Meaning.{IsBooleanOrFault, is_fault, is_boolean, mean}
+use Rattle.ar_check.specs.Operand.{Operand, unwrapped, plain_of}
 use Rattle.ar_check.specs.Operand as operands
 use Rattle.ar_tree.specs.Typed.{Typed}
 use Rattle.ar_tree.specs.Typed as typed
@@ -47,7 +47,7 @@ module _ (wanted : Shape) (result : Value) (fit : fits result wanted ≡ true) w
   Each shape body = (v : Value) → fits v shape ≡ true → Sound result (Some v) body
 
   -- a body, unwrapped, where it means its kind for each item
-  body_made : (kind : Kind) (shape : Shape) (of : ListOf kind shape) (body : Operand) → Each shape body → Body result kind (operands.is_truth body, made_plain body)
+  body_made : (kind : Kind) (shape : Shape) (of : ListOf kind shape) (body : Operand) → Each shape body → Body result kind (operands.is_boolean body, unwrapped body)
   body_made kind shape of body each = (shape, of, λ is v fit. is_true result (Some v) body (each v fit) is)
 
   -- what holds of the items of a list, where a body means its kind for each item
@@ -76,17 +76,17 @@ module _ (wanted : Shape) (result : Value) (fit : fits result wanted ≡ true) w
         (tree_sound item here there around left)
         (λ first h. answers _ _ (typed_of wanted item around right) (binary_of at operator (side_by (is_nil_literal left) (is_nil_literal right)) first) (tree_sound item here there around right)
         (λ second k. binary_sound result here at operator (is_nil_literal left) (is_nil_literal right) first second h k))
-    tree_sound item here there around (trees.ChoiceAt at condition met unmet) =
-        answers _ _ (typed_of wanted item around condition) (λ a. typed_of wanted item around met >>= λ b. typed_of wanted item around unmet >>= choice_of at a b) (tree_sound item here there around condition)
-        (λ a h. answers _ _ (typed_of wanted item around met) (λ b. typed_of wanted item around unmet >>= choice_of at a b) (tree_sound item here there around met)
-        (λ b k. answers _ _ (typed_of wanted item around unmet) (choice_of at a b) (tree_sound item here there around unmet) (λ c l. choice_sound result here at a b c h k l)))
+    tree_sound item here there around (trees.ChoiceAt at condition then_branch else_branch) =
+        answers _ _ (typed_of wanted item around condition) (λ a. typed_of wanted item around then_branch >>= λ b. typed_of wanted item around else_branch >>= choice_of at a b) (tree_sound item here there around condition)
+        (λ a h. answers _ _ (typed_of wanted item around then_branch) (λ b. typed_of wanted item around else_branch >>= choice_of at a b) (tree_sound item here there around then_branch)
+        (λ b k. answers _ _ (typed_of wanted item around else_branch) (choice_of at a b) (tree_sound item here there around else_branch) (λ c l. choice_sound result here at a b c h k l)))
     tree_sound item here there around (trees.ListAt at items) =
         answers _ _ (items_typed wanted item around items) (λ items. list_literal_of at items (no_scalar items)) (items_sound item here there around items)
         (λ items h. list_sound result here at items (no_scalar items) h)
     tree_sound item here there around (trees.LenAt at list) =
         answers _ _ (typed_of wanted item around list) (len_of at) (tree_sound item here there around list) (len_sound result here at)
     tree_sound item here there around (trees.IsNilAt at operand) =
-        answers _ _ (typed_of wanted item around operand) (λ operand. given (typed.unary unary.IsNil operand.tree) truth_kind) (tree_sound item here there around operand)
+        answers _ _ (typed_of wanted item around operand) (λ operand. given (typed.unary unary.IsNil operand.tree) boolean_kind) (tree_sound item here there around operand)
         (λ operand h. is_nil_means result here operand.kind operand.tree h)
     tree_sound item here there around (trees.DefaultAt at operand otherwise) =
         answers _ _ (typed_of wanted item around operand) (λ first. typed_of wanted item around otherwise >>= default_of at first) (tree_sound item here there around operand)
@@ -103,35 +103,35 @@ module _ (wanted : Shape) (result : Value) (fit : fits result wanted ≡ true) w
     items_sound : (item : Option Shape) (here : Option Value) → IsThere item here → (around : ℕ) (items : Expressions) → IfOk (items_typed wanted item around items) (ItemsMean result here)
     items_sound item here there around trees.none = tt
     items_sound item here there around (trees.more first others) =
-        answers _ (ItemsMean result here) (typed_of wanted item around first) (λ operand. items_typed wanted item around others >>= λ items. Ok (item_of (place_of first) operand ∷ items))
+        answers _ (ItemsMean result here) (typed_of wanted item around first) (λ operand. items_typed wanted item around others >>= λ items. Ok (item_of (offset_of first) operand ∷ items))
         (tree_sound item here there around first)
-        (λ operand h. answers (ItemsMean result here) (ItemsMean result here) (items_typed wanted item around others) (λ items. Ok (item_of (place_of first) operand ∷ items))
+        (λ operand h. answers (ItemsMean result here) (ItemsMean result here) (items_typed wanted item around others) (λ items. Ok (item_of (offset_of first) operand ∷ items))
         (items_sound item here there around others) (λ items rest. (is_scalar result here operand h, rest)))
 
 -- ---- conditions
 
 -- what has the kind of booleans is one, or a fault
-truth_or_fault : (m : Meaning) → MeansKind truth_kind m → IsTruthOrFault m
-truth_or_fault (Ok (values.bool holds)) h = is_truth holds
-truth_or_fault (Ok v) h = absurd (cc)
-truth_or_fault (Err (faulted fault)) h = is_fault fault
-truth_or_fault (Err ill_kinded) h = absurd h
+boolean_or_fault : (m : Meaning) → MeansKind boolean_kind m → IsBooleanOrFault m
+boolean_or_fault (Ok (values.bool holds)) h = is_boolean holds
+boolean_or_fault (Ok v) h = absurd (cc)
+boolean_or_fault (Err (faulted fault)) h = is_fault fault
+boolean_or_fault (Err ill_kinded) h = absurd h
 
 -- an operand that is a condition, unwrapped
-condition_means : (value : Value) (at : ℕ) (operand : Operand) (is_truth : Bool) → operands.is_truth operand ≡ is_truth → Sound value None operand
-    → IfOk (if is_truth then Ok (made_plain operand) else Err (NotTruth at)) (λ condition. MeansKind truth_kind (mean value None condition))
+condition_means : (value : Value) (at : ℕ) (operand : Operand) (is_boolean : Bool) → operands.is_boolean operand ≡ is_boolean → Sound value None operand
+    → IfOk (if is_boolean then Ok (unwrapped operand) else Err (NotTruth at)) (λ condition. MeansKind boolean_kind (mean value None condition))
 condition_means value at operand true is h = is_true value None operand h is
 condition_means value at operand false is h = tt
 
 -- what is checked is a boolean, or a fault
-checked_means : (shape : Shape) (tree : Expression) (value : Value) → fits value shape ≡ true → IfOk (checked shape tree) (λ condition. MeansKind truth_kind (mean value None condition))
+checked_means : (shape : Shape) (tree : Expression) (value : Value) → fits value shape ≡ true → IfOk (checked shape tree) (λ condition. MeansKind boolean_kind (mean value None condition))
 checked_means shape tree value fit =
-    answers _ _ (typed_of shape None 0 tree) (condition_of (place_of tree)) (tree_sound shape value fit None None tt 0 tree)
-    (λ operand h. condition_means value (place_of tree) operand (operands.is_truth operand) refl h)
+    answers _ _ (typed_of shape None 0 tree) (condition_of (offset_of tree)) (tree_sound shape value fit None None tt 0 tree)
+    (λ operand h. condition_means value (offset_of tree) operand (operands.is_boolean operand) refl h)
 
 -- a checked condition, on a value of its shape, is true or false or meets a fault
-pub is_truth_or_fault : (shape : Shape) (tree : Expression) (condition : Typed) (value : Value)
-    → checked shape tree ≡ Ok condition → fits value shape ≡ true → IsTruthOrFault (mean value None condition)
-is_truth_or_fault shape tree condition value is fit =
-    let means : IfOk (checked shape tree) (λ condition. MeansKind truth_kind (mean value None condition)) = checked_means shape tree value fit in
-    truth_or_fault (mean value None condition) (rw is at means)
+pub is_boolean_or_fault : (shape : Shape) (tree : Expression) (condition : Typed) (value : Value)
+    → checked shape tree ≡ Ok condition → fits value shape ≡ true → IsBooleanOrFault (mean value None condition)
+is_boolean_or_fault shape tree condition value is fit =
+    let means : IfOk (checked shape tree) (λ condition. MeansKind boolean_kind (mean value None condition)) = checked_means shape tree value fit in
+    boolean_or_fault (mean value None condition) (rw is at means)

@@ -3,7 +3,7 @@ use Rattle.std.proofs.Common.{◌≡◌, ℕ, ℤ, true, Option, Some, None, Res
 use Rattle.ar_value.specs.declared.operator.UnaryOperator.TheVariants as unary
 use Rattle.ar_value.specs.Answer.{◌>>=◌}
 use Rattle.ar_value.specs.Arithmetic.{decimal_of_whole, decimal_product, difference, negation, product, quotient, remainder, sum}
-use Rattle.ar_value.specs.Kind.{Kind, shaped, fits_kind, truth_kind}
+use Rattle.ar_value.specs.Kind.{Kind, shaped, fits_kind, boolean_kind}
 use Rattle.ar_value.specs.Shape as shapes
 use Rattle.ar_value.specs.Value.{Value}
 use Rattle.ar_value.specs.Value as values
@@ -12,7 +12,7 @@ use Rattle.ar_check.specs.Check.{arithmetic_in, arithmetic_kind, arithmetic_on, 
 use Rattle.ar_value.specs.Operators.{Failure, Meaning}
 use Rattle.ar_tree.specs.Meaning.{mean}
 use Rattle.ar_value.specs.Operators as operators
-use Rattle.ar_check.specs.Operand.{Operand, among, made_plain, numbers}
+use Rattle.ar_check.specs.Operand.{Operand, among, unwrapped, numbers}
 use Rattle.ar_tree.specs.Typed.{Typed}
 use Rattle.ar_tree.specs.Typed as typed
 use Rattle.ar_value.specs.declared.operator.Arithmetic.{Arithmetic}
@@ -86,23 +86,23 @@ calculates Divide Decimals v w fit also = decimals_mean on_decimals.Divide v w f
 calculates Remainder Decimals v w fit also = tt
 
 -- the order of any two numbers is a boolean
-orders : (way : Order) (m n : Numbers) (v w : Value) → fits_kind v (number_kind m) ≡ true → fits_kind w (number_kind n) ≡ true → MeansKind truth_kind (operators.compare (compared_of m n) way v w)
-orders way Wholes Wholes v w fit also = two_wholes (λ v w. MeansKind truth_kind (operators.compare (compared_of Wholes Wholes) way v w)) (λ x y. refl) v w fit also
-orders way Decimals Decimals v w fit also = two_decimals (λ v w. MeansKind truth_kind (operators.compare (compared_of Decimals Decimals) way v w)) (λ x y. refl) v w fit also
+orders : (way : Order) (m n : Numbers) (v w : Value) → fits_kind v (number_kind m) ≡ true → fits_kind w (number_kind n) ≡ true → MeansKind boolean_kind (operators.compare (compared_of m n) way v w)
+orders way Wholes Wholes v w fit also = two_wholes (λ v w. MeansKind boolean_kind (operators.compare (compared_of Wholes Wholes) way v w)) (λ x y. refl) v w fit also
+orders way Decimals Decimals v w fit also = two_decimals (λ v w. MeansKind boolean_kind (operators.compare (compared_of Decimals Decimals) way v w)) (λ x y. refl) v w fit also
 orders way Wholes Decimals v w fit also =
-    on_whole (λ v. MeansKind truth_kind (operators.compare (compared_of Wholes Decimals) way v w)) (λ x. on_decimal (λ w. MeansKind truth_kind (operators.compare (compared_of Wholes Decimals) way (values.whole x) w)) (λ y. refl) w also) v fit
+    on_whole (λ v. MeansKind boolean_kind (operators.compare (compared_of Wholes Decimals) way v w)) (λ x. on_decimal (λ w. MeansKind boolean_kind (operators.compare (compared_of Wholes Decimals) way (values.whole x) w)) (λ y. refl) w also) v fit
 orders way Decimals Wholes v w fit also =
-    on_decimal (λ v. MeansKind truth_kind (operators.compare (compared_of Decimals Wholes) way v w)) (λ x. on_whole (λ w. MeansKind truth_kind (operators.compare (compared_of Decimals Wholes) way (values.decimal x) w)) (λ y. refl) w also) v fit
+    on_decimal (λ v. MeansKind boolean_kind (operators.compare (compared_of Decimals Wholes) way v w)) (λ x. on_whole (λ w. MeansKind boolean_kind (operators.compare (compared_of Decimals Wholes) way (values.decimal x) w)) (λ y. refl) w also) v fit
 
 module _ (result : Value) (here : Option Value) where
   -- a whole converted to decimal is one
-  pub turned_means : (tree : Typed) → MeansKind Whole (mean result here tree) → MeansKind Decimal (mean result here (typed.unary unary.ToDecimal tree))
-  turned_means tree h = means_then _ _ (mean result here tree) operators.to_decimal h turns
+  pub converted_means : (tree : Typed) → MeansKind Whole (mean result here tree) → MeansKind Decimal (mean result here (typed.unary unary.ToDecimal tree))
+  converted_means tree h = means_then _ _ (mean result here tree) operators.to_decimal h turns
 
   -- the left number next to the right one, in their common kind
   left_among : (m n : Numbers) (tree : Typed) → MeansKind (number_kind m) (mean result here tree) → MeansKind (number_kind (widened m n)) (mean result here (among n m tree))
   left_among Wholes Wholes tree h = h
-  left_among Wholes Decimals tree h = turned_means tree h
+  left_among Wholes Decimals tree h = converted_means tree h
   left_among Decimals Wholes tree h = h
   left_among Decimals Decimals tree h = h
 
@@ -110,7 +110,7 @@ module _ (result : Value) (here : Option Value) where
   right_among : (m n : Numbers) (tree : Typed) → MeansKind (number_kind n) (mean result here tree) → MeansKind (number_kind (widened m n)) (mean result here (among m n tree))
   right_among Wholes Wholes tree h = h
   right_among Wholes Decimals tree h = h
-  right_among Decimals Wholes tree h = turned_means tree h
+  right_among Decimals Wholes tree h = converted_means tree h
   right_among Decimals Decimals tree h = h
 
   -- arithmetic of two trees of one kind, where there is any
@@ -134,7 +134,7 @@ module _ (result : Value) (here : Option Value) where
   -- arithmetic means its kind
   pub sum_sound : (at : ℕ) (operator : Arithmetic) (left right : Operand) → Sound result here left → Sound result here right → IfOk (calculation_of at operator left right) (Sound result here)
   sum_sound at operator left right h k =
-      arithmetic_sound at operator (numbers left) (numbers right) (made_plain left) (made_plain right) (are_numbers result here left h) (are_numbers result here right k)
+      arithmetic_sound at operator (numbers left) (numbers right) (unwrapped left) (unwrapped right) (are_numbers result here left h) (are_numbers result here right k)
 
   -- order where both are numbers
   ordered_sound : (at : ℕ) (way : Order) (m n : Option Numbers) (left right : Typed) → MeansNumbers m (mean result here left) → MeansNumbers n (mean result here right)
@@ -148,7 +148,7 @@ module _ (result : Value) (here : Option Value) where
   -- order means its kind
   pub order_sound : (at : ℕ) (way : Order) (left right : Operand) → Sound result here left → Sound result here right → IfOk (ordering_of at way left right) (Sound result here)
   order_sound at way left right h k =
-      ordered_sound at way (numbers left) (numbers right) (made_plain left) (made_plain right) (are_numbers result here left h) (are_numbers result here right k)
+      ordered_sound at way (numbers left) (numbers right) (unwrapped left) (unwrapped right) (are_numbers result here left h) (are_numbers result here right k)
 
   -- a negative means its kind
   pub negative_sound : (at : ℕ) (numbers : Option Numbers) (tree : Typed) → MeansNumbers numbers (mean result here tree) → IfOk (negation_of at numbers tree) (Sound result here)

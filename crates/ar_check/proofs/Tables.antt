@@ -87,12 +87,12 @@ bool_of_scalar (Some scalars.Bool) h = refl
 bool_of_scalar scalar h = absurd (cc)
 
 -- the kind of a boolean
-pub truth_within : (kind : Kind) → is_bool (option_and_then scalar_of (plain_of kind)) ≡ true → (of : Shape) × (kind ≡ shaped of) × (plain of ≡ shapes.bool)
-truth_within kind h = scalar_within kind scalars.Bool (bool_of_scalar (option_and_then scalar_of (plain_of kind)) h)
+pub boolean_within : (kind : Kind) → is_bool (option_and_then scalar_of (plain_of kind)) ≡ true → (of : Shape) × (kind ≡ shaped of) × (plain of ≡ shapes.bool)
+boolean_within kind h = scalar_within kind scalars.Bool (bool_of_scalar (option_and_then scalar_of (plain_of kind)) h)
 
 -- what is plainly a boolean is one
-pub truth_is : (shape : Shape) → shape ≡ shapes.bool → is_bool (scalar_of shape) ≡ true
-truth_is shape h = rw h refl
+pub boolean_is : (shape : Shape) → shape ≡ shapes.bool → is_bool (scalar_of shape) ≡ true
+boolean_is shape h = rw h refl
 
 -- texts
 text_of_scalar : (scalar : Option Scalar) → is_text_scalar scalar ≡ true → scalar ≡ Some scalars.Text

@@ -5,7 +5,7 @@ use Rattle.ar_value.specs.Fits.{fits}
 use Rattle.ar_value.specs.Shape.{Shape}
 use Rattle.ar_value.specs.Value.{Value}
 use Rattle.ar_tree.specs.Expression.{Expression}
-use Rattle.ar_tree.specs.Meaning.{IsTruthOrFault, mean}
+use Rattle.ar_tree.specs.Meaning.{IsBooleanOrFault, mean}
 use Rattle.ar_tree.specs.Views.{typed_view}
 use Rattle.ar_tree.specs.declared.typed.Typed.{Typed}
 use Rattle.ar_check.specs.Check.{checked}
@@ -23,4 +23,5 @@ pub record ChecksTo (shape : Shape) (tree : Expression) (result : Result Typed T
   pub refused : IfErr result (λ error. Unless (is_memory error) (¬ (IsCondition shape tree)))
   -- on each value of the shape the condition is true or false or meets a fault
   pub answers : IfOk result
-      (λ condition. (value : Value) → fits value shape ≡ true → IsTruthOrFault (mean value None (typed_view condition)))
+      (λ condition. (value : Value) → fits value shape ≡ true
+      → IsBooleanOrFault (mean value None (typed_view condition)))

@@ -4,10 +4,10 @@ use Rattle.ar_value.specs.Terms.{Offset, Text}
 use Rattle.ar_value.specs.declared.operator.BinaryOperator.TheVariants as binary
 use Rattle.ar_value.specs.declared.operator.UnaryOperator.TheVariants as unary
 use Rattle.ar_value.specs.Answer.{◌>>=◌}
-use Rattle.ar_value.specs.Kind.{Kind, nil, shaped, common, plain, scalar_shape, truth_kind}
+use Rattle.ar_value.specs.Kind.{Kind, nil, shaped, common, plain, scalar_shape, boolean_kind}
 use Rattle.ar_value.specs.Shape.{Shape, shape_named}
 use Rattle.ar_value.specs.Shape as shapes
-use Rattle.ar_tree.specs.Expression.{Expression, Expressions, place_of}
+use Rattle.ar_tree.specs.Expression.{Expression, Expressions, offset_of}
 use Rattle.ar_tree.specs.Expression as trees
 use Rattle.ar_tree.specs.declared.tree.Comparison.{Comparison}
 use Rattle.ar_tree.specs.declared.tree.Comparison.TheVariants as comparisons
@@ -19,7 +19,7 @@ use Rattle.ar_value.specs.declared.operator.Predicate.TheVariants as predicates
 use Rattle.ar_tree.specs.declared.tree.Unary.{Unary}
 use Rattle.ar_tree.specs.declared.tree.Unary.TheVariants as unaries
 use Rattle.ar_check.specs.Basics.{literal_kind}
-use Rattle.ar_check.specs.Operand.{Operand, operand, among, scalar_family, is_text_operand, is_truth, made_plain, numbers, plain_of, scalar, scalar_of, turned}
+use Rattle.ar_check.specs.Operand.{Operand, operand, among, scalar_family, is_text_operand, is_boolean, unwrapped, numbers, plain_of, scalar, scalar_of, converted}
 use Rattle.ar_tree.specs.Typed.{Typed, typeds}
 use Rattle.ar_tree.specs.Typed as typed
 use Rattle.ar_check.specs.declared.error.TypeError.{TypeError}
@@ -72,12 +72,12 @@ item_shape at shape = Err (NotAList at)
 abbrev pub field_of : Offset → Text → Operand → Answer
 field_of at name owner = do
   shape ← field_shape at name (plain_of owner.kind)
-  given (typed.field (made_plain owner) name) (shaped shape)
+  given (typed.field (unwrapped owner) name) (shaped shape)
 
 abbrev pub len_of : Offset → Operand → Answer
 len_of at list = do
   shape ← item_shape at (plain_of list.kind)
-  given (typed.unary unary.Len (made_plain list)) (shaped shapes.whole)
+  given (typed.unary unary.Len (unwrapped list)) (shaped shapes.whole)
 
 -- a tree of a kind, where its operands are what it requires
 abbrev pub where_wanted : Offset → Bool → Typed → Kind → Answer
@@ -91,7 +91,7 @@ is_whole_number scalar = false
 abbrev pub index_of : Offset → Operand → Operand → Answer
 index_of at list index = do
   shape ← item_shape at (plain_of list.kind)
-  where_wanted at (is_whole_number (scalar index)) (typed.binary binary.Index (made_plain list) (made_plain index))
+  where_wanted at (is_whole_number (scalar index)) (typed.binary binary.Index (unwrapped list) (unwrapped index))
       (shaped shape)
 
 -- ---- numbers
@@ -149,13 +149,13 @@ compared_of left right = compared.Mixed
 
 abbrev pub ordered_of : Offset → Order → Option Numbers → Option Numbers → Typed → Typed → Answer
 ordered_of at order (Some m) (Some n) left right =
-    given (typed.binary (binary.Compare (compared_of m n) order) left right) truth_kind
+    given (typed.binary (binary.Compare (compared_of m n) order) left right) boolean_kind
 ordered_of at order m n left right = Err (WrongOperand at)
 
 -- ---- equality and membership
 
 abbrev pub same_family : Family → Family → Bool
-same_family families.Truth families.Truth = true
+same_family families.Boolean families.Boolean = true
 same_family families.Number families.Number = true
 same_family families.Text families.Text = true
 same_family left right = false
@@ -164,7 +164,7 @@ same_family left right = false
 abbrev pub equal_of : Offset → Option Scalar → Option Scalar → Typed → Typed → Answer
 equal_of at (Some m) (Some n) left right =
     where_wanted at (same_family (scalar_family m) (scalar_family n))
-    (typed.binary (binary.Equal (scalar_family m)) left right) truth_kind
+    (typed.binary (binary.Equal (scalar_family m)) left right) boolean_kind
 equal_of at m n left right = Err (WrongOperand at)
 
 abbrev pub is_nil_literal : Expression → Bool
@@ -185,8 +185,8 @@ nil_side left right =
 
 -- anything compares with the literal `nil`
 abbrev pub equality_of : Offset → NilSide → Operand → Operand → Answer
-equality_of at LeftIsNil left right = given (typed.unary unary.IsNil right.tree) truth_kind
-equality_of at RightIsNil left right = given (typed.unary unary.IsNil left.tree) truth_kind
+equality_of at LeftIsNil left right = given (typed.unary unary.IsNil right.tree) boolean_kind
+equality_of at RightIsNil left right = given (typed.unary unary.IsNil left.tree) boolean_kind
 equality_of at NeitherIsNil left right = equal_of at (scalar left) (scalar right) left.tree right.tree
 
 abbrev pub negated : Operand → Answer
@@ -195,24 +195,25 @@ negated condition = given (typed.unary unary.Not condition.tree) condition.kind
 -- a scalar in a list of scalars of its family, any of which may be nil
 abbrev pub member_of : Offset → Option Scalar → Option Scalar → Typed → Typed → Answer
 member_of at (Some m) (Some n) operand list =
-    where_wanted at (same_family (scalar_family m) (scalar_family n)) (typed.binary binary.IsIn operand list) truth_kind
+    where_wanted at (same_family (scalar_family m) (scalar_family n)) (typed.binary binary.IsIn operand list)
+    boolean_kind
 member_of at m n operand list = Err (WrongOperand at)
 
 -- ---- operators
 
 abbrev pub unary_of : Offset → Unary → Operand → Answer
-unary_of at unaries.Minus operand = negation_of at (numbers operand) (made_plain operand)
-unary_of at unaries.Plus operand = plus_of at (numbers operand) (made_plain operand)
+unary_of at unaries.Minus operand = negation_of at (numbers operand) (unwrapped operand)
+unary_of at unaries.Plus operand = plus_of at (numbers operand) (unwrapped operand)
 unary_of at unaries.Not operand =
-    where_wanted at (is_truth operand) (typed.unary unary.Not (made_plain operand)) truth_kind
+    where_wanted at (is_boolean operand) (typed.unary unary.Not (unwrapped operand)) boolean_kind
 
 abbrev pub calculation_of : Offset → Arithmetic → Operand → Operand → Answer
 calculation_of at operator left right =
-    arithmetic_on at operator (numbers left) (numbers right) (made_plain left) (made_plain right)
+    arithmetic_on at operator (numbers left) (numbers right) (unwrapped left) (unwrapped right)
 
 abbrev pub ordering_of : Offset → Order → Operand → Operand → Answer
 ordering_of at order left right =
-    ordered_of at order (numbers left) (numbers right) (made_plain left) (made_plain right)
+    ordered_of at order (numbers left) (numbers right) (unwrapped left) (unwrapped right)
 
 abbrev pub comparison_of : Offset → Comparison → NilSide → Operand → Operand → Answer
 comparison_of at comparisons.Equal side left right = equality_of at side left right
@@ -225,25 +226,19 @@ comparison_of at comparisons.GreaterOrEqual side left right = ordering_of at Gre
 abbrev pub in_of : Offset → Operand → Operand → Answer
 in_of at left right =
     item_shape at (plain_of right.kind)
-    >>= λ shape. member_of at (scalar left) (scalar_of (plain shape)) left.tree (made_plain right)
+    >>= λ shape. member_of at (scalar left) (scalar_of (plain shape)) left.tree (unwrapped right)
 
 -- a test of two texts, each unwrapped
 abbrev pub text_test_of : Offset → TextTest → Operand → Operand → Answer
 text_test_of at test left right =
     where_wanted at (is_text_operand left && is_text_operand right)
-    (typed.binary (binary.TextTest test) (made_plain left) (made_plain right)) truth_kind
-
-abbrev pub either_of : Offset → Operand → Operand → Answer
-either_of at left right =
-    where_wanted at (is_truth left && is_truth right) (typed.either (made_plain left) (made_plain right)) truth_kind
-
-abbrev pub both_of : Offset → Operand → Operand → Answer
-both_of at left right =
-    where_wanted at (is_truth left && is_truth right) (typed.both (made_plain left) (made_plain right)) truth_kind
+    (typed.binary (binary.TextTest test) (unwrapped left) (unwrapped right)) boolean_kind
 
 abbrev pub binary_of : Offset → Binary → NilSide → Operand → Operand → Answer
-binary_of at binaries.Or side left right = either_of at left right
-binary_of at binaries.And side left right = both_of at left right
+binary_of at binaries.Or side left right =
+    where_wanted at (is_boolean left && is_boolean right) (typed.either (unwrapped left) (unwrapped right)) boolean_kind
+binary_of at binaries.And side left right =
+    where_wanted at (is_boolean left && is_boolean right) (typed.both (unwrapped left) (unwrapped right)) boolean_kind
 binary_of at (binaries.Comparison comparison) side left right = comparison_of at comparison side left right
 binary_of at binaries.In side left right = in_of at left right
 binary_of at binaries.NotIn side left right = in_of at left right >>= negated
@@ -257,18 +252,20 @@ binary_of at binaries.Remainder side left right = calculation_of at Remainder le
 -- ---- branches, defaults, lists
 
 abbrev pub choice_in : Offset → Option Kind → Bool → Typed → Answer
-choice_in at None is_truth tree = Err (NoCommonKind at)
-choice_in at (Some kind) is_truth tree = where_wanted at is_truth tree kind
+choice_in at None is_boolean tree = Err (NoCommonKind at)
+choice_in at (Some kind) is_boolean tree = where_wanted at is_boolean tree kind
 
 -- each branch is converted to match the other
 abbrev pub choice_tree : Typed → Operand → Operand → Typed
-choice_tree condition met unmet =
-    typed.choice condition (turned unmet.kind met.kind met.tree) (turned met.kind unmet.kind unmet.tree)
+choice_tree condition then_branch else_branch =
+    typed.choice condition (converted else_branch.kind then_branch.kind then_branch.tree)
+    (converted then_branch.kind else_branch.kind else_branch.tree)
 
 -- both branches have their common kind
 abbrev pub choice_of : Offset → Operand → Operand → Operand → Answer
-choice_of at condition met unmet =
-    choice_in at (common met.kind unmet.kind) (is_truth condition) (choice_tree (made_plain condition) met unmet)
+choice_of at condition then_branch else_branch =
+    choice_in at (common then_branch.kind else_branch.kind) (is_boolean condition)
+    (choice_tree (unwrapped condition) then_branch else_branch)
 
 abbrev pub plain_kind : Kind → Kind
 plain_kind nil = nil
@@ -286,7 +283,7 @@ in_common at tree None = Err (NoCommonKind at)
 -- each side is converted to match the other
 abbrev pub default_tree : Typed → Kind → Typed → Kind → Typed
 default_tree first plain other of_other =
-    typed.binary binary.Default (turned of_other plain first) (turned plain of_other other)
+    typed.binary binary.Default (converted of_other plain first) (converted plain of_other other)
 
 abbrev pub default_of : Offset → Operand → Operand → Answer
 default_of at first other =
@@ -302,7 +299,7 @@ pub record Item : Type 0 where
   pub tree : Typed
 
 abbrev pub item_of : Offset → Operand → Item
-item_of at operand = record { at = at; scalar = scalar operand; tree = made_plain operand }
+item_of at operand = record { at = at; scalar = scalar operand; tree = unwrapped operand }
 
 -- the offset of the first item that is no scalar
 abbrev pub no_scalar : List Item → Option Offset
@@ -329,18 +326,18 @@ common_of [] = None
 common_of (item ∷ items) = common_with item.scalar items
 
 -- an item in a list of scalars
-abbrev pub turned_item : Scalar → Option Scalar → Typed → Typed
-turned_item scalars.Decimal (Some scalars.Whole) tree = typed.unary unary.ToDecimal tree
-turned_item wanted scalar tree = tree
+abbrev pub converted_item : Scalar → Option Scalar → Typed → Typed
+converted_item scalars.Decimal (Some scalars.Whole) tree = typed.unary unary.ToDecimal tree
+converted_item wanted scalar tree = tree
 
 abbrev pub list_in_common : Offset → List Item → Option Scalar → Answer
 list_in_common at items (Some scalar) =
-    given (typed.listed scalar (typeds (map (λ item. turned_item scalar item.scalar item.tree) items)))
+    given (typed.listed scalar (typeds (map (λ item. converted_item scalar item.scalar item.tree) items)))
     (shaped (shapes.list (scalar_shape scalar) (length items)))
 list_in_common at items None = Err (NoCommonKind at)
 
 abbrev pub list_literal_of : Offset → List Item → Option Offset → Answer
-list_literal_of at items (Some place) = Err (NotScalar place)
+list_literal_of at items (Some offset) = Err (NotScalar offset)
 list_literal_of at items None = list_in_common at items (common_of items)
 
 -- ---- predicates
@@ -351,7 +348,7 @@ predicate_entered at around shape = if nat_lt around most_loops then Ok shape el
 
 -- what holds of an item: whether that is a boolean, and its tree
 abbrev pub body_of : Operand → Result (Bool × Typed) TypeError
-body_of body = Ok (is_truth body, made_plain body)
+body_of body = Ok (is_boolean body, unwrapped body)
 
 -- what holds of the items of a list, by what is typed where an item has their shape
 unfoldable pub over_items : Offset → ℕ → Kind → (Shape → Answer) → Result (Bool × Typed) TypeError
@@ -363,16 +360,16 @@ over_items at around list typed = do
 
 -- the kind of what a predicate makes of a list
 abbrev pub predicate_kind : Predicate → Kind → Kind
-predicate_kind predicates.All list = truth_kind
-predicate_kind predicates.Any list = truth_kind
-predicate_kind predicates.None list = truth_kind
-predicate_kind predicates.One list = truth_kind
+predicate_kind predicates.All list = boolean_kind
+predicate_kind predicates.Any list = boolean_kind
+predicate_kind predicates.None list = boolean_kind
+predicate_kind predicates.One list = boolean_kind
 predicate_kind predicates.Count list = shaped shapes.whole
 predicate_kind predicates.Filter list = list
 
 abbrev pub predicate_of : Offset → Predicate → Operand → Bool → Typed → Answer
-predicate_of at predicate list is_truth body =
-    where_wanted at is_truth (typed.predicate predicate (made_plain list) body)
+predicate_of at predicate list is_boolean body =
+    where_wanted at is_boolean (typed.predicate predicate (unwrapped list) body)
     (predicate_kind predicate (plain_kind list.kind))
 
 -- ---- conditions
@@ -397,11 +394,11 @@ abbrev mutual
     first ← typed_of result item around left
     second ← typed_of result item around right
     binary_of at operator (nil_side left right) first second
-  typed_of result item around (trees.ChoiceAt at condition met unmet) = do
+  typed_of result item around (trees.ChoiceAt at condition then_branch else_branch) = do
     condition ← typed_of result item around condition
-    met ← typed_of result item around met
-    unmet ← typed_of result item around unmet
-    choice_of at condition met unmet
+    then_branch ← typed_of result item around then_branch
+    else_branch ← typed_of result item around else_branch
+    choice_of at condition then_branch else_branch
   typed_of result item around (trees.ListAt at items) = do
     items ← items_typed result item around items
     list_literal_of at items (no_scalar items)
@@ -410,7 +407,7 @@ abbrev mutual
     len_of at list
   typed_of result item around (trees.IsNilAt at operand) = do
     operand ← typed_of result item around operand
-    given (typed.unary unary.IsNil operand.tree) truth_kind
+    given (typed.unary unary.IsNil operand.tree) boolean_kind
   typed_of result item around (trees.DefaultAt at operand otherwise) = do
     operand ← typed_of result item around operand
     otherwise ← typed_of result item around otherwise
@@ -425,19 +422,19 @@ abbrev mutual
   items_typed result item around (trees.more first others) = do
     operand ← typed_of result item around first
     items ← items_typed result item around others
-    Ok (item_of (place_of first) operand ∷ items)
+    Ok (item_of (offset_of first) operand ∷ items)
 
 -- an item of a list literal
 abbrev pub item_typed : Shape → Option Shape → ℕ → Expression → Result Item TypeError
 item_typed result item around tree =
-    typed_of result item around tree >>= λ operand. Ok (item_of (place_of tree) operand)
+    typed_of result item around tree >>= λ operand. Ok (item_of (offset_of tree) operand)
 
 abbrev pub condition_of : Offset → Operand → Result Typed TypeError
-condition_of at operand = if is_truth operand then Ok (made_plain operand) else Err (NotTruth at)
+condition_of at operand = if is_boolean operand then Ok (unwrapped operand) else Err (NotTruth at)
 
 -- the typed tree of a condition: a boolean, unwrapped
 abbrev pub checked : Shape → Expression → Result Typed TypeError
-checked result tree = typed_of result None 0 tree >>= condition_of (place_of tree)
+checked result tree = typed_of result None 0 tree >>= condition_of (offset_of tree)
 
 -- ---- worked rows
 
@@ -446,8 +443,8 @@ a_comparison : checked shapes.whole
     ≡ Ok (typed.binary (binary.Compare compared.Wholes Greater) typed.result (typed.literal (literals.Whole (pos 1))))
 a_comparison = refl
 
-a_nil_made_plain : checked (shapes.optional shapes.bool) (ResultAt 0) ≡ Ok (typed.unary unary.Need typed.result)
-a_nil_made_plain = refl
+a_nil_unwrapped : checked (shapes.optional shapes.bool) (ResultAt 0) ≡ Ok (typed.unary unary.Need typed.result)
+a_nil_unwrapped = refl
 
 no_boolean : checked shapes.whole (ResultAt 0) ≡ Err (NotTruth 0)
 no_boolean = refl

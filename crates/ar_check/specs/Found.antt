@@ -81,28 +81,28 @@ two operator left right = None
 
 abbrev mutual
   -- whether a tree, or one inside it, is at an offset
-  pub has_place : Offset → Expression → Bool
-  has_place place (trees.ResultAt at) = at == place
-  has_place place (trees.ItemAt at) = at == place
-  has_place place (trees.LiteralAt at literal) = at == place
-  has_place place (trees.FieldAt at owner name) = at == place || has_place place owner
-  has_place place (trees.IndexAt at list index) = at == place || (has_place place list || has_place place index)
-  has_place place (trees.UnaryAt at operator operand) = at == place || has_place place operand
-  has_place place (trees.BinaryAt at operator left right) =
-      at == place || (has_place place left || has_place place right)
-  has_place place (trees.ChoiceAt at condition met unmet) =
-      at == place || (has_place place condition || (has_place place met || has_place place unmet))
-  has_place place (trees.ListAt at items) = at == place || any_has_place place items
-  has_place place (trees.LenAt at list) = at == place || has_place place list
-  has_place place (trees.IsNilAt at operand) = at == place || has_place place operand
-  has_place place (trees.DefaultAt at operand otherwise) =
-      at == place || (has_place place operand || has_place place otherwise)
-  has_place place (trees.PredicateAt at predicate list body) =
-      at == place || (has_place place list || has_place place body)
+  pub has_offset : Offset → Expression → Bool
+  has_offset offset (trees.ResultAt at) = at == offset
+  has_offset offset (trees.ItemAt at) = at == offset
+  has_offset offset (trees.LiteralAt at literal) = at == offset
+  has_offset offset (trees.FieldAt at owner name) = at == offset || has_offset offset owner
+  has_offset offset (trees.IndexAt at list index) = at == offset || (has_offset offset list || has_offset offset index)
+  has_offset offset (trees.UnaryAt at operator operand) = at == offset || has_offset offset operand
+  has_offset offset (trees.BinaryAt at operator left right) =
+      at == offset || (has_offset offset left || has_offset offset right)
+  has_offset offset (trees.ChoiceAt at condition then_branch else_branch) =
+      at == offset || (has_offset offset condition || (has_offset offset then_branch || has_offset offset else_branch))
+  has_offset offset (trees.ListAt at items) = at == offset || any_has_offset offset items
+  has_offset offset (trees.LenAt at list) = at == offset || has_offset offset list
+  has_offset offset (trees.IsNilAt at operand) = at == offset || has_offset offset operand
+  has_offset offset (trees.DefaultAt at operand otherwise) =
+      at == offset || (has_offset offset operand || has_offset offset otherwise)
+  has_offset offset (trees.PredicateAt at predicate list body) =
+      at == offset || (has_offset offset list || has_offset offset body)
 
-  pub any_has_place : Offset → Expressions → Bool
-  any_has_place place trees.none = false
-  any_has_place place (trees.more first others) = has_place place first || any_has_place place others
+  pub any_has_offset : Offset → Expressions → Bool
+  any_has_offset offset trees.none = false
+  any_has_offset offset (trees.more first others) = has_offset offset first || any_has_offset offset others
 
 abbrev mutual
   -- At the first tree at an offset that takes operands, where `result` has a shape, and so does the innermost item,
@@ -110,43 +110,43 @@ abbrev mutual
   -- that is expected of another kind. Children are searched from left to right; the body of a predicate if the offset
   -- is there, else its list.
   pub found_in : Offset → Shape → Option Shape → ℕ → Expression → Option Operands
-  found_in place result item around (trees.ResultAt at) = None
-  found_in place result item around (trees.ItemAt at) = None
-  found_in place result item around (trees.LiteralAt at literal) = None
-  found_in place result item around (trees.FieldAt at owner name) =
-      if at == place then before (kind_of result item around owner)
-      else found_in place result item around owner
-  found_in place result item around (trees.IndexAt at list index) =
-      if at == place then one (kind_of result item around index)
-      else option_or (found_in place result item around list) (found_in place result item around index)
-  found_in place result item around (trees.UnaryAt at operator operand) =
-      if at == place then one (kind_of result item around operand)
-      else found_in place result item around operand
-  found_in place result item around (trees.BinaryAt at operator left right) =
-      if at == place then two operator (kind_of result item around left) (kind_of result item around right)
-      else option_or (found_in place result item around left) (found_in place result item around right)
-  found_in place result item around (trees.ChoiceAt at condition met unmet) =
-      if at == place then one (kind_of result item around condition)
-      else option_or (found_in place result item around condition)
-      (option_or (found_in place result item around met) (found_in place result item around unmet))
-  found_in place result item around (trees.ListAt at items) = found_among place result item around items
-  found_in place result item around (trees.LenAt at list) = found_in place result item around list
-  found_in place result item around (trees.IsNilAt at operand) = found_in place result item around operand
-  found_in place result item around (trees.DefaultAt at operand otherwise) =
-      option_or (found_in place result item around operand) (found_in place result item around otherwise)
-  found_in place result item around (trees.PredicateAt at predicate list body) =
-      if at == place then option_and_then (λ shape. one (kind_of result (Some shape) (suc around) body))
+  found_in offset result item around (trees.ResultAt at) = None
+  found_in offset result item around (trees.ItemAt at) = None
+  found_in offset result item around (trees.LiteralAt at literal) = None
+  found_in offset result item around (trees.FieldAt at owner name) =
+      if at == offset then before (kind_of result item around owner)
+      else found_in offset result item around owner
+  found_in offset result item around (trees.IndexAt at list index) =
+      if at == offset then one (kind_of result item around index)
+      else option_or (found_in offset result item around list) (found_in offset result item around index)
+  found_in offset result item around (trees.UnaryAt at operator operand) =
+      if at == offset then one (kind_of result item around operand)
+      else found_in offset result item around operand
+  found_in offset result item around (trees.BinaryAt at operator left right) =
+      if at == offset then two operator (kind_of result item around left) (kind_of result item around right)
+      else option_or (found_in offset result item around left) (found_in offset result item around right)
+  found_in offset result item around (trees.ChoiceAt at condition then_branch else_branch) =
+      if at == offset then one (kind_of result item around condition)
+      else option_or (found_in offset result item around condition)
+      (option_or (found_in offset result item around then_branch) (found_in offset result item around else_branch))
+  found_in offset result item around (trees.ListAt at items) = found_among offset result item around items
+  found_in offset result item around (trees.LenAt at list) = found_in offset result item around list
+  found_in offset result item around (trees.IsNilAt at operand) = found_in offset result item around operand
+  found_in offset result item around (trees.DefaultAt at operand otherwise) =
+      option_or (found_in offset result item around operand) (found_in offset result item around otherwise)
+  found_in offset result item around (trees.PredicateAt at predicate list body) =
+      if at == offset then option_and_then (λ shape. one (kind_of result (Some shape) (suc around) body))
       (entered_list around (kind_of result item around list))
-      else (if has_place place body
-      then option_and_then (λ shape. found_in place result (Some shape) (suc around) body)
+      else (if has_offset offset body
+      then option_and_then (λ shape. found_in offset result (Some shape) (suc around) body)
       (entered_list around (kind_of result item around list))
-      else found_in place result item around list)
+      else found_in offset result item around list)
 
   pub found_among : Offset → Shape → Option Shape → ℕ → Expressions → Option Operands
-  found_among place result item around trees.none = None
-  found_among place result item around (trees.more first others) =
-      option_or (found_in place result item around first) (found_among place result item around others)
+  found_among offset result item around trees.none = None
+  found_among offset result item around (trees.more first others) =
+      option_or (found_in offset result item around first) (found_among offset result item around others)
 
 -- what the operands at an offset of a condition are, where these have kinds
 abbrev pub operands_at : Shape → Expression → Offset → Option Operands
-operands_at result tree place = found_in place result None 0 tree
+operands_at result tree offset = found_in offset result None 0 tree

@@ -31,8 +31,8 @@ abbrev pub plain_tree : Kind → Typed → Typed
 plain_tree nil tree = tree
 plain_tree (shaped shape) tree = if is_optional shape then typed.unary unary.Need tree else tree
 
-abbrev pub made_plain : Operand → Typed
-made_plain operand = plain_tree operand.kind operand.tree
+abbrev pub unwrapped : Operand → Typed
+unwrapped operand = plain_tree operand.kind operand.tree
 
 -- the scalars; the numbers among them; families, each of which compares with itself alone
 abbrev pub scalar_of : Shape → Option Scalar
@@ -48,7 +48,7 @@ numbers_in scalars.Decimal = Some Decimals
 numbers_in scalar = None
 
 abbrev pub scalar_family : Scalar → Family
-scalar_family scalars.Bool = families.Truth
+scalar_family scalars.Bool = families.Boolean
 scalar_family scalars.Whole = families.Number
 scalar_family scalars.Decimal = families.Number
 scalar_family scalars.Text = families.Text
@@ -64,8 +64,8 @@ abbrev pub is_bool : Option Scalar → Bool
 is_bool (Some scalars.Bool) = true
 is_bool scalar = false
 
-abbrev pub is_truth : Operand → Bool
-is_truth operand = is_bool (scalar operand)
+abbrev pub is_boolean : Operand → Bool
+is_boolean operand = is_bool (scalar operand)
 
 abbrev pub is_text_scalar : Option Scalar → Bool
 is_text_scalar (Some scalars.Text) = true
@@ -87,7 +87,7 @@ is_whole shapes.whole = true
 is_whole shape = false
 
 -- an operand next to a kind that it has something in common with, converted likewise; nil stays
-abbrev pub turned : Kind → Kind → Typed → Typed
-turned (shaped other) (shaped shape) tree =
+abbrev pub converted : Kind → Kind → Typed → Typed
+converted (shaped other) (shaped shape) tree =
     if is_decimal other && is_whole (plain shape) then typed.unary unary.ToDecimal tree else tree
-turned other kind tree = tree
+converted other kind tree = tree

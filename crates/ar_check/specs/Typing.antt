@@ -26,12 +26,12 @@ pub data IsNumber : Shape → Type 0 where
 
 -- scalars that compare with one another
 pub data SameFamily : Shape → Shape → Type 0 where
-  truths : SameFamily bool bool
+  booleans : SameFamily bool bool
   numbers : {left right : Shape} → IsNumber left → IsNumber right → SameFamily left right
   texts : SameFamily text text
 
 pub data IsScalar : Shape → Type 0 where
-  is_truth : IsScalar bool
+  is_boolean : IsScalar bool
   is_number : {shape : Shape} → IsNumber shape → IsScalar shape
   is_text : IsScalar text
 
@@ -43,7 +43,7 @@ pub data SumOf : Shape → Shape → Shape → Type 0 where
 
 -- what scalar the items of a list have in common: one kind of scalar, or numbers, as decimals where one is
 pub data InCommon : Shape → Shape → Shape → Type 0 where
-  two_truths : InCommon bool bool bool
+  two_booleans : InCommon bool bool bool
   two_numbers : {left right both : Shape} → SumOf left right both → InCommon left right both
   two_texts : InCommon text text text
 
@@ -113,30 +113,33 @@ mutual
         {fields : FieldShapes}
         → HasKind result item around owner (shaped of) → plain of ≡ object fields → shape_named name fields ≡ Some shape
         → HasKind result item around (FieldAt at owner name) (shaped shape)
-    of_index : {item : Option Shape} {around at max : ℕ} {items index : Expression} {of place shape : Shape}
+    of_index : {item : Option Shape} {around at max : ℕ} {items index : Expression} {of offset shape : Shape}
         → HasKind result item around items (shaped of) → plain of ≡ list shape max
-        → HasKind result item around index (shaped place) → plain place ≡ whole
+        → HasKind result item around index (shaped offset) → plain offset ≡ whole
         → HasKind result item around (IndexAt at items index) (shaped shape)
     of_sign : {item : Option Shape} {around at : ℕ} {operator : Unary} {operand : Expression} {of shape : Shape}
         → HasKind result item around operand (shaped of) → OperatesOnOne operator (plain of) shape
         → HasKind result item around (UnaryAt at operator operand) (shaped shape)
     of_operator : {item : Option Shape} {around at : ℕ} {operator : Binary} {left right : Expression}
-        {of beside shape : Shape}
-        → HasKind result item around left (shaped of) → HasKind result item around right (shaped beside)
-        → Operates operator (plain of) (plain beside) shape
+        {of next_to shape : Shape}
+        → HasKind result item around left (shaped of) → HasKind result item around right (shaped next_to)
+        → Operates operator (plain of) (plain next_to) shape
         → HasKind result item around (BinaryAt at operator left right) (shaped shape)
     -- anything compares with the literal `nil`
-    nil_on_the_left : {item : Option Shape} {around at place : ℕ} {operator : Binary} {right : Expression} {kind : Kind}
+    nil_on_the_left : {item : Option Shape} {around at offset : ℕ} {operator : Binary} {right : Expression}
+        {kind : Kind}
         → IsEquality operator → HasKind result item around right kind
-        → HasKind result item around (BinaryAt at operator (LiteralAt place literals.Nil) right) (shaped bool)
-    nil_on_the_right : {item : Option Shape} {around at place : ℕ} {operator : Binary} {left : Expression} {kind : Kind}
+        → HasKind result item around (BinaryAt at operator (LiteralAt offset literals.Nil) right) (shaped bool)
+    nil_on_the_right : {item : Option Shape} {around at offset : ℕ} {operator : Binary} {left : Expression}
+        {kind : Kind}
         → IsEquality operator → HasKind result item around left kind
-        → HasKind result item around (BinaryAt at operator left (LiteralAt place literals.Nil)) (shaped bool)
-    of_choice : {item : Option Shape} {around at : ℕ} {condition met unmet : Expression} {of : Shape}
+        → HasKind result item around (BinaryAt at operator left (LiteralAt offset literals.Nil)) (shaped bool)
+    of_choice : {item : Option Shape} {around at : ℕ} {condition then_branch else_branch : Expression} {of : Shape}
         {left right both : Kind}
         → HasKind result item around condition (shaped of) → plain of ≡ bool
-        → HasKind result item around met left → HasKind result item around unmet right → common left right ≡ Some both
-        → HasKind result item around (ChoiceAt at condition met unmet) both
+        → HasKind result item around then_branch left → HasKind result item around else_branch right
+        → common left right ≡ Some both
+        → HasKind result item around (ChoiceAt at condition then_branch else_branch) both
     of_list : {item : Option Shape} {around at : ℕ} {items : Expressions} {shape : Shape}
         → HaveInCommon result item around items shape
         → HasKind result item around (ListAt at items) (shaped (list shape (expression_count items)))
@@ -173,4 +176,4 @@ mutual
 pub record IsCondition (result : Shape) (tree : Expression) : Type 0 where
   pub shape : Shape
   pub typed : HasKind result None 0 tree (shaped shape)
-  pub truth : plain shape ≡ bool
+  pub boolean : plain shape ≡ bool

@@ -32,7 +32,7 @@ pub enum TypeError {
 
 impl TypeError {
     /// The byte at which the tree begins that requires something else.
-    pub fn place(self) -> Option<usize>
+    pub fn offset(self) -> Option<usize>
         ensures { result ≡ refused_at self }
     {
         match self {
@@ -61,13 +61,13 @@ impl TypeError {
                  and for len, all, any, none, one, count and filter",
             TypeError::NoCommonKind(_) =>
                 "NoCommonKind: expected one shape for both branches, for all items of a list, or \
-                 for a value and its default; \"whole\" goes beside \"decimal\"",
+                 for a value and its default; \"whole\" and \"decimal\" have \"decimal\"",
             TypeError::NotScalar(_) =>
                 "NotScalar: expected \"bool\", \"whole\", \"decimal\" or \"text\" as an item of a list",
             TypeError::NotTruth(_) =>
                 "NotTruth: expected \"bool\" of the whole condition, as `result >= 0.95` gives",
             TypeError::PredicatesTooDeep(_) =>
-                "PredicatesTooDeep: at most four of all, any, none, one, count and filter stand in one another",
+                "PredicatesTooDeep: expected at most four of all, any, none, one, count and filter in one another",
             TypeError::OutOfMemory => "out of memory",
         }
     }
@@ -75,7 +75,7 @@ impl TypeError {
 
 impl fmt::Display for TypeError {
     fn fmt<W: fmt::Write>(&self, f: &mut fmt::Formatter<W>) -> fmt::Result {
-        match self.place() {
+        match self.offset() {
             Some(at) => write!(f, "byte {at}: {}", self.words()),
             None => f.write_str(self.words()),
         }

@@ -6,9 +6,9 @@ ghost use Rattle.ar_value.specs.View.{shape_view};
 ghost use Rattle.ar_value.specs.Limits.{most_loops};
 ghost use Rattle.ar_tree.specs.Expression.{expressions, BinaryAt, ChoiceAt, IndexAt};
 ghost use Rattle.ar_tree.specs.Views.{expression_of};
-ghost use Rattle.ar_check.specs.Found.{any_has_place, before, entered_item, found_kind, found_shape, has_place, entered_list, items_shape, member_found, one, operands_at, right_found, two};
+ghost use Rattle.ar_check.specs.Found.{any_has_offset, before, entered_item, found_kind, found_shape, has_offset, entered_list, items_shape, member_found, one, operands_at, right_found, two};
 ghost use Rattle.ar_check.specs.Private.Inside.{view_of_kind};
-ghost use Rattle.ar_check.specs.Private.Search.{body_over, kind_at, place_among, place_in, place_in_predicate, place_over};
+ghost use Rattle.ar_check.specs.Private.Search.{body_over, kind_at, offset_among, offset_in, offset_in_predicate, offset_over};
 
 use crate::error::TypeError;
 use crate::operand::{Kind, plain_shape};
@@ -51,16 +51,16 @@ pub fn operands_at(
     alloc: Global,
     tree: Tree,
     shape: &Shape,
-    place: usize,
+    offset: usize,
 ) -> Result<Option<Operands>, AllocError>
-    ensures { IfOk result (λ found. found ≡ operands_at (shape_view shape.now) (expression_of tree) place) }
+    ensures { IfOk result (λ found. found ≡ operands_at (shape_view shape.now) (expression_of tree) offset) }
 {
     let scope = Scope {
         measured: shape,
         item: None,
         around: 0,
     };
-    found_in(alloc, tree, &scope, place)
+    found_in(alloc, tree, &scope, offset)
 }
 
 /// What is found at an offset in a tree.
@@ -69,37 +69,45 @@ fn found_in(
     alloc: Global,
     tree: Tree,
     scope: &Scope<'_>,
-    place: usize,
+    offset: usize,
 ) -> Result<Option<Operands>, AllocError>
-    ensures { IfOk result (λ found. found ≡ place_in scope.now place (expression_of tree)) }
+    ensures { IfOk result (λ found. found ≡ offset_in scope.now offset (expression_of tree)) }
 {
     match tree {
         Tree::Result { .. } | Tree::Item { .. } | Tree::Literal { .. } => Ok(None),
-        Tree::Field { at, owner, .. } => in_field(alloc, at, owner, scope, place),
-        Tree::Index { at, list, index } => in_index(alloc, at, list, index, scope, place),
-        Tree::Unary { at, operand, .. } => in_operand(alloc, at, operand, scope, place),
+        Tree::Field { at, owner, .. } => in_field(alloc, at, owner, scope, offset),
+        Tree::Index { at, list, index } => in_index(alloc, at, list, index, scope, offset),
+        Tree::Unary { at, operand, .. } => in_operand(alloc, at, operand, scope, offset),
         Tree::Binary {
             at,
             operator,
             left,
             right,
-        } => in_binary(alloc, at, operator, left, right, scope, place),
+        } => in_binary(alloc, at, operator, left, right, scope, offset),
         Tree::Choice {
             at,
             condition,
-            yes,
-            no,
-        } => in_choice(alloc, at, condition, yes, no, scope, place),
-        Tree::List { items, .. } => found_among(alloc, items.items, scope, place),
-        Tree::Len { list, .. } => in_child(alloc, list, scope, place),
-        Tree::IsNil { operand, .. } => in_child(alloc, operand, scope, place),
+            then_branch,
+            else_branch,
+        } => in_choice(
+            alloc,
+            at,
+            condition,
+            then_branch,
+            else_branch,
+            scope,
+            offset,
+        ),
+        Tree::List { items, .. } => found_among(alloc, items.items, scope, offset),
+        Tree::Len { list, .. } => in_child(alloc, list, scope, offset),
+        Tree::IsNil { operand, .. } => in_child(alloc, operand, scope, offset),
         Tree::Default {
             operand,
             otherwise,
             ..
-        } => in_either(alloc, operand, otherwise, scope, place),
+        } => in_either(alloc, operand, otherwise, scope, offset),
         Tree::Predicate { at, list, body, .. } => in_list_or_body(
-            alloc, at, list, body, scope, place,
+            alloc, at, list, body, scope, offset,
         ),
     }
 }
@@ -110,11 +118,11 @@ fn in_child(
     alloc: Global,
     tree: Box<Tree>,
     scope: &Scope<'_>,
-    place: usize,
+    offset: usize,
 ) -> Result<Option<Operands>, AllocError>
-    ensures { IfOk result (λ found. found ≡ place_in scope.now place (expression_of tree.value)) }
+    ensures { IfOk result (λ found. found ≡ offset_in scope.now offset (expression_of tree.value)) }
 {
-    found_in(alloc, Box::into_inner(tree), scope, place)
+    found_in(alloc, Box::into_inner(tree), scope, offset)
 }
 
 /// What is found in the first of two trees, else in the other.
@@ -124,14 +132,14 @@ fn in_either(
     first: Box<Tree>,
     other: Box<Tree>,
     scope: &Scope<'_>,
-    place: usize,
+    offset: usize,
 ) -> Result<Option<Operands>, AllocError>
-    ensures { IfOk result (λ found. found ≡ option_or (place_in scope.now place (expression_of first.value))
-        (place_in scope.now place (expression_of other.value))) }
+    ensures { IfOk result (λ found. found ≡ option_or (offset_in scope.now offset (expression_of first.value))
+        (offset_in scope.now offset (expression_of other.value))) }
 {
-    match in_child(alloc, first, scope, place)? {
+    match in_child(alloc, first, scope, offset)? {
         Some(found) => Ok(Some(found)),
-        None => in_child(alloc, other, scope, place),
+        None => in_child(alloc, other, scope, offset),
     }
 }
 
@@ -142,16 +150,16 @@ fn in_field(
     at: usize,
     owner: Box<Tree>,
     scope: &Scope<'_>,
-    place: usize,
+    offset: usize,
 ) -> Result<Option<Operands>, AllocError>
     ensures { IfOk result (λ found. found
-        ≡ (if at == place then before (kind_at scope.now (expression_of owner.value))
-        else place_in scope.now place (expression_of owner.value))) }
+        ≡ (if at == offset then before (kind_at scope.now (expression_of owner.value))
+        else offset_in scope.now offset (expression_of owner.value))) }
 {
-    if at == place {
+    if at == offset {
         before(alloc, owner, scope)
     } else {
-        in_child(alloc, owner, scope, place)
+        in_child(alloc, owner, scope, offset)
     }
 }
 
@@ -162,16 +170,16 @@ fn in_operand(
     at: usize,
     operand: Box<Tree>,
     scope: &Scope<'_>,
-    place: usize,
+    offset: usize,
 ) -> Result<Option<Operands>, AllocError>
     ensures { IfOk result (λ found. found
-        ≡ (if at == place then one (kind_at scope.now (expression_of operand.value))
-        else place_in scope.now place (expression_of operand.value))) }
+        ≡ (if at == offset then one (kind_at scope.now (expression_of operand.value))
+        else offset_in scope.now offset (expression_of operand.value))) }
 {
-    if at == place {
+    if at == offset {
         one(alloc, operand, scope)
     } else {
-        in_child(alloc, operand, scope, place)
+        in_child(alloc, operand, scope, offset)
     }
 }
 
@@ -183,15 +191,15 @@ fn in_index(
     list: Box<Tree>,
     index: Box<Tree>,
     scope: &Scope<'_>,
-    place: usize,
+    offset: usize,
 ) -> Result<Option<Operands>, AllocError>
-    ensures { IfOk result (λ found. found ≡ place_in scope.now place
+    ensures { IfOk result (λ found. found ≡ offset_in scope.now offset
         (IndexAt at (expression_of list.value) (expression_of index.value))) }
 {
-    if at == place {
+    if at == offset {
         one(alloc, index, scope)
     } else {
-        in_either(alloc, list, index, scope, place)
+        in_either(alloc, list, index, scope, offset)
     }
 }
 
@@ -204,15 +212,15 @@ fn in_binary(
     left: Box<Tree>,
     right: Box<Tree>,
     scope: &Scope<'_>,
-    place: usize,
+    offset: usize,
 ) -> Result<Option<Operands>, AllocError>
-    ensures { IfOk result (λ found. found ≡ place_in scope.now place
+    ensures { IfOk result (λ found. found ≡ offset_in scope.now offset
         (BinaryAt at operator (expression_of left.value) (expression_of right.value))) }
 {
-    if at == place {
+    if at == offset {
         two(alloc, operator, left, right, scope)
     } else {
-        in_either(alloc, left, right, scope, place)
+        in_either(alloc, left, right, scope, offset)
     }
 }
 
@@ -222,20 +230,21 @@ fn in_choice(
     alloc: Global,
     at: usize,
     condition: Box<Tree>,
-    yes: Box<Tree>,
-    no: Box<Tree>,
+    then_branch: Box<Tree>,
+    else_branch: Box<Tree>,
     scope: &Scope<'_>,
-    place: usize,
+    offset: usize,
 ) -> Result<Option<Operands>, AllocError>
-    ensures { IfOk result (λ found. found ≡ place_in scope.now place
-        (ChoiceAt at (expression_of condition.value) (expression_of yes.value) (expression_of no.value))) }
+    ensures { IfOk result (λ found. found ≡ offset_in scope.now offset
+        (ChoiceAt at (expression_of condition.value) (expression_of then_branch.value)
+        (expression_of else_branch.value))) }
 {
-    if at == place {
+    if at == offset {
         return one(alloc, condition, scope);
     }
-    match in_child(alloc, condition, scope, place)? {
+    match in_child(alloc, condition, scope, offset)? {
         Some(found) => Ok(Some(found)),
-        None => in_either(alloc, yes, no, scope, place),
+        None => in_either(alloc, then_branch, else_branch, scope, offset),
     }
 }
 
@@ -245,13 +254,13 @@ fn found_among(
     alloc: Global,
     trees: Vec<Tree>,
     scope: &Scope<'_>,
-    place: usize,
+    offset: usize,
 ) -> Result<Option<Operands>, AllocError>
     ensures { IfOk result (λ found. found
-        ≡ place_among scope.now place (expressions (map expression_of trees.items))) }
+        ≡ offset_among scope.now offset (expressions (map expression_of trees.items))) }
 {
     for tree in trees {
-        if let Some(found) = found_in(alloc, tree, scope, place)? {
+        if let Some(found) = found_in(alloc, tree, scope, offset)? {
             return Ok(Some(found));
         }
     }
@@ -266,17 +275,17 @@ fn in_list_or_body(
     list: Box<Tree>,
     body: Box<Tree>,
     scope: &Scope<'_>,
-    place: usize,
+    offset: usize,
 ) -> Result<Option<Operands>, AllocError>
-    ensures { IfOk result (λ found. found ≡ place_in_predicate scope.now place at (expression_of list.value)
+    ensures { IfOk result (λ found. found ≡ offset_in_predicate scope.now offset at (expression_of list.value)
         (expression_of body.value)) }
 {
-    if at == place {
+    if at == offset {
         one_inside(alloc, list, body, scope)
-    } else if has_place(&body, place) {
-        in_body(alloc, list, body, scope, place)
+    } else if has_offset(&body, offset) {
+        in_body(alloc, list, body, scope, offset)
     } else {
-        in_child(alloc, list, scope, place)
+        in_child(alloc, list, scope, offset)
     }
 }
 
@@ -287,13 +296,13 @@ fn in_body(
     list: Box<Tree>,
     body: Box<Tree>,
     scope: &Scope<'_>,
-    place: usize,
+    offset: usize,
 ) -> Result<Option<Operands>, AllocError>
-    ensures { IfOk result (λ found. found ≡ place_over scope.now place
+    ensures { IfOk result (λ found. found ≡ offset_over scope.now offset
         (entered_list scope.now.around (kind_at scope.now (expression_of list.value))) (expression_of body.value)) }
 {
     match kind_of(alloc, list, scope)? {
-        Some(list) => in_body_over(alloc, &list, body, scope, place),
+        Some(list) => in_body_over(alloc, &list, body, scope, offset),
         None => Ok(None),
     }
 }
@@ -305,61 +314,62 @@ fn in_body_over(
     list: &Kind<'_>,
     body: Box<Tree>,
     scope: &Scope<'_>,
-    place: usize,
+    offset: usize,
 ) -> Result<Option<Operands>, AllocError>
-    ensures { IfOk result (λ found. found ≡ place_over scope.now place
+    ensures { IfOk result (λ found. found ≡ offset_over scope.now offset
         (entered_item scope.now.around (view_of_kind list.now)) (expression_of body.value)) }
 {
     let Some(item) = entered_item(scope.around, list) else {
         return Ok(None);
     };
     let inside = in_predicate(&*scope, item, scope.around + 1);
-    in_child(alloc, body, &inside, place)
+    in_child(alloc, body, &inside, offset)
 }
 
 /// Whether a tree, or one inside it, is at an offset.
-#[cycle(has_place)]
-fn has_place(tree: &Tree, place: usize) -> bool
-    ensures { result ≡ has_place place (expression_of tree.now) }
+#[cycle(has_offset)]
+fn has_offset(tree: &Tree, offset: usize) -> bool
+    ensures { result ≡ has_offset offset (expression_of tree.now) }
 {
     match tree {
-        Tree::Result { at } | Tree::Item { at } | Tree::Literal { at, .. } => *at == place,
-        Tree::Field { at, owner, .. } => *at == place || has_place(owner, place),
-        Tree::Index { at, list, index } => *at == place
-            || (has_place(list, place) || has_place(index, place)),
-        Tree::Unary { at, operand, .. } => *at == place || has_place(operand, place),
+        Tree::Result { at } | Tree::Item { at } | Tree::Literal { at, .. } => *at == offset,
+        Tree::Field { at, owner, .. } => *at == offset || has_offset(owner, offset),
+        Tree::Index { at, list, index } => *at == offset
+            || (has_offset(list, offset) || has_offset(index, offset)),
+        Tree::Unary { at, operand, .. } => *at == offset || has_offset(operand, offset),
         Tree::Binary {
             at,
             left,
             right,
             ..
-        } => *at == place || (has_place(left, place) || has_place(right, place)),
+        } => *at == offset || (has_offset(left, offset) || has_offset(right, offset)),
         Tree::Choice {
             at,
             condition,
-            yes,
-            no,
-        } => *at == place
-            || (has_place(condition, place) || (has_place(yes, place) || has_place(no, place))),
-        Tree::List { at, items } => *at == place || any_has_place(&items.items, place),
-        Tree::Len { at, list } => *at == place || has_place(list, place),
-        Tree::IsNil { at, operand } => *at == place || has_place(operand, place),
+            then_branch,
+            else_branch,
+        } => *at == offset
+            || (has_offset(condition, offset)
+                || (has_offset(then_branch, offset) || has_offset(else_branch, offset))),
+        Tree::List { at, items } => *at == offset || any_has_offset(&items.items, offset),
+        Tree::Len { at, list } => *at == offset || has_offset(list, offset),
+        Tree::IsNil { at, operand } => *at == offset || has_offset(operand, offset),
         Tree::Default {
             at,
             operand,
             otherwise,
-        } => *at == place || (has_place(operand, place) || has_place(otherwise, place)),
-        Tree::Predicate { at, list, body, .. } => *at == place
-            || (has_place(list, place) || has_place(body, place)),
+        } => *at == offset || (has_offset(operand, offset) || has_offset(otherwise, offset)),
+        Tree::Predicate { at, list, body, .. } => *at == offset
+            || (has_offset(list, offset) || has_offset(body, offset)),
     }
 }
 
-#[cycle(has_place)]
-fn any_has_place(trees: &[Tree], place: usize) -> bool
-    ensures { result ≡ any_has_place place (expressions (map expression_of trees.now)) }
+#[cycle(has_offset)]
+fn any_has_offset(trees: &[Tree], offset: usize) -> bool
+    ensures { result ≡ any_has_offset offset (expressions (map expression_of trees.now)) }
 {
     for tree in trees {
-        if has_place(tree, place) {
+        if has_offset(tree, offset) {
             return true;
         }
     }

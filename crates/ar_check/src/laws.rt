@@ -9,7 +9,7 @@ ghost use Rattle.ar_value.specs.Value.{Value};
 ghost use Rattle.ar_value.specs.Value as values;
 ghost use Rattle.ar_tree.specs.Expression.{Expression};
 ghost use Rattle.ar_check.specs.Check.{checked, typed_of};
-ghost use Rattle.ar_tree.specs.Meaning.{IsTruthOrFault, mean};
+ghost use Rattle.ar_tree.specs.Meaning.{IsBooleanOrFault, mean};
 ghost use Rattle.ar_check.specs.Operand.{Operand, operand};
 ghost use Rattle.ar_tree.specs.Typed.{Typed};
 ghost use Rattle.ar_tree.specs.Typed as typed;
@@ -17,10 +17,10 @@ ghost use Rattle.ar_check.specs.Typing.{HasKind};
 
 /// A checked condition, on a value of its shape, is true or false or meets a fault: nothing else
 /// can happen.
-#[tactic(auto, using(crate::proofs::Sound::is_truth_or_fault))]
+#[tactic(auto, using(crate::proofs::Sound::is_boolean_or_fault))]
 pub fn checked_conditions_have_a_meaning()
     ensures { (shape : Shape) (tree : Expression) (condition : Typed) (value : Value)
-        → checked shape tree ≡ Ok condition → fits value shape ≡ true → IsTruthOrFault (mean value None condition) }
+        → checked shape tree ≡ Ok condition → fits value shape ≡ true → IsBooleanOrFault (mean value None condition) }
 {}
 
 /// What is typed has the kind that is found, by the table of kinds, and each tree with a kind is typed.
@@ -57,15 +57,15 @@ pub fn or_with_true_is_true()
 /// `default(a, b)` of an a that isn't nil is a, where b has no fault.
 #[tactic(auto, using(crate::proofs::Defaults::is_the_value))]
 pub fn default_of_a_value_is_the_value()
-    ensures { (result : Value) (here : Option Value) (operand stand_in : Typed) (value other : Value)
-        → mean result here operand ≡ Ok value → value ≢ values.nil → mean result here stand_in ≡ Ok other
-        → mean result here (typed.binary binary.Default operand stand_in) ≡ Ok value }
+    ensures { (result : Value) (here : Option Value) (operand substitute : Typed) (value other : Value)
+        → mean result here operand ≡ Ok value → value ≢ values.nil → mean result here substitute ≡ Ok other
+        → mean result here (typed.binary binary.Default operand substitute) ≡ Ok value }
 {}
 
 /// `default(a, b)` of a nil a means what b means.
 #[tactic(auto, using(crate::proofs::Defaults::is_the_other))]
 pub fn default_of_nil_is_the_other()
-    ensures { (result : Value) (here : Option Value) (operand stand_in : Typed)
+    ensures { (result : Value) (here : Option Value) (operand substitute : Typed)
         → mean result here operand ≡ Ok values.nil
-        → mean result here (typed.binary binary.Default operand stand_in) ≡ mean result here stand_in }
+        → mean result here (typed.binary binary.Default operand substitute) ≡ mean result here substitute }
 {}

@@ -5,7 +5,7 @@ ghost use Rattle.ar_value.specs.Answer.{Gives};
 ghost use Rattle.ar_value.specs.Kind.{shaped, scalar_shape};
 ghost use Rattle.ar_value.specs.Shape.{list};
 ghost use Rattle.ar_value.specs.View.{shape_view};
-ghost use Rattle.ar_check.specs.Check.{common_of, common_scalar, common_with, list_literal_of, no_scalar, turned_item};
+ghost use Rattle.ar_check.specs.Check.{common_of, common_scalar, common_with, list_literal_of, no_scalar, converted_item};
 ghost use Rattle.ar_tree.specs.Views.{typed_view};
 ghost use Rattle.ar_check.specs.Memory.{is_memory};
 ghost use Rattle.ar_check.specs.Private.Inside.{boxed_view, item_view, view_of_kind, operand_view};
@@ -36,8 +36,8 @@ pub(crate) fn list<'s>(
     ensures { Gives is_memory boxed_view result
         (list_literal_of at (map item_view items.items) (no_scalar (map item_view items.items))) }
 {
-    if let Some(place) = no_scalar(&items) {
-        return Err(TypeError::NotScalar(place));
+    if let Some(offset) = no_scalar(&items) {
+        return Err(TypeError::NotScalar(offset));
     }
     let Some(scalar) = common_of(&items) else {
         return Err(TypeError::NoCommonKind(at));
@@ -94,17 +94,18 @@ fn common_scalar(left: Option<Scalar>, right: Option<Scalar>) -> Option<Scalar>
 /// The trees of items in a list of scalars.
 fn converted(alloc: Global, scalar: Scalar, items: Vec<Item>) -> Result<Vec<Typed>, AllocError>
     ensures { IfOk result (λ trees. map typed_view trees.items
-        ≡ map (λ item. turned_item scalar item.scalar item.tree) (map item_view items.items)) }
+        ≡ map (λ item. converted_item scalar item.scalar item.tree) (map item_view items.items)) }
 {
     let mut trees = Vec::with_capacity(alloc, items.len())?;
     for item in items {
-        trees.push(turned_item(alloc, scalar, item)?)?;
+        trees.push(converted_item(alloc, scalar, item)?)?;
     }
     Ok(trees)
 }
 
-fn turned_item(alloc: Global, scalar: Scalar, item: Item) -> Result<Typed, AllocError>
-    ensures { IfOk result (λ tree. typed_view tree ≡ turned_item scalar (item_view item).scalar (item_view item).tree) }
+fn converted_item(alloc: Global, scalar: Scalar, item: Item) -> Result<Typed, AllocError>
+    ensures { IfOk result
+        (λ tree. typed_view tree ≡ converted_item scalar (item_view item).scalar (item_view item).tree) }
 {
     match (scalar, item.scalar) {
         (Scalar::Decimal, Some(Scalar::Whole)) => {

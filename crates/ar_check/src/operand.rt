@@ -6,11 +6,11 @@ ghost use Rattle.ar_value.specs.Kind.{common, nil, shaped};
 ghost use Rattle.ar_value.specs.Kind as shapes;
 ghost use Rattle.ar_value.specs.View.{shape_view};
 ghost use Rattle.ar_check.specs.Check.{field_shape, given, item_shape, plain_kind};
-ghost use Rattle.ar_check.specs.Operand.{is_text_operand, is_truth, made_plain, numbers, plain_of, plain_tree, scalar, scalar_of, turned};
+ghost use Rattle.ar_check.specs.Operand.{is_text_operand, is_boolean, unwrapped, numbers, plain_of, plain_tree, scalar, scalar_of, converted};
 ghost use Rattle.ar_tree.specs.Typed as typed;
 ghost use Rattle.ar_tree.specs.Views.{typed_view};
 ghost use Rattle.ar_check.specs.Memory.{is_memory};
-ghost use Rattle.ar_check.specs.Private.Inside.{boxed_view, view_of_kind, operand_view, shaped_answer, turned_where, turns};
+ghost use Rattle.ar_check.specs.Private.Inside.{boxed_view, view_of_kind, operand_view, shaped_answer, converted_where, turns};
 
 use crate::build;
 use crate::error::TypeError;
@@ -96,7 +96,7 @@ pub(crate) fn unwrapped_tree(
 
 /// An operand unwrapped.
 pub(crate) fn unwrapped(alloc: Global, operand: Box<Operand<'_>>) -> Result<Box<Typed>, AllocError>
-    ensures { IfOk result (λ made. typed_view made.value ≡ made_plain (operand_view operand.entry.value)) }
+    ensures { IfOk result (λ made. typed_view made.value ≡ unwrapped (operand_view operand.entry.value)) }
 {
     let Operand { tree, kind } = Box::into_inner(operand);
     unwrapped_tree(alloc, &kind, tree)
@@ -110,15 +110,15 @@ pub(crate) fn into_tree(operand: Box<Operand<'_>>) -> Box<Typed>
 }
 
 /// Whether an operand is a boolean once it is plain, and its tree unwrapped.
-pub(crate) fn as_truth(
+pub(crate) fn as_boolean(
     alloc: Global,
     operand: Box<Operand<'_>>,
 ) -> Result<(bool, Box<Typed>), AllocError>
-    ensures truth { IfOk result (λ made. made.0 ≡ is_truth (operand_view operand.entry.value)) }
-    ensures tree { IfOk result (λ made. typed_view made.1.value ≡ made_plain (operand_view operand.entry.value)) }
+    ensures boolean { IfOk result (λ made. made.0 ≡ is_boolean (operand_view operand.entry.value)) }
+    ensures tree { IfOk result (λ made. typed_view made.1.value ≡ unwrapped (operand_view operand.entry.value)) }
 {
-    let is_truth = is_truth(&operand);
-    Ok((is_truth, unwrapped(alloc, operand)?))
+    let is_boolean = is_boolean(&operand);
+    Ok((is_boolean, unwrapped(alloc, operand)?))
 }
 
 pub(crate) fn scalar_of(shape: &Shape) -> Option<Scalar>
@@ -152,8 +152,8 @@ pub(crate) fn numbers(operand: &Operand<'_>) -> Option<Numbers>
 }
 
 /// Whether an operand is a boolean once it is plain.
-pub(crate) fn is_truth(operand: &Operand<'_>) -> bool
-    ensures { result ≡ is_truth (operand_view operand.now) }
+pub(crate) fn is_boolean(operand: &Operand<'_>) -> bool
+    ensures { result ≡ is_boolean (operand_view operand.now) }
 {
     matches!(scalar(operand), Some(Scalar::Bool))
 }
@@ -346,7 +346,7 @@ pub(crate) fn converted(
     converts: bool,
     tree: Box<Typed>,
 ) -> Result<Box<Typed>, AllocError>
-    ensures { IfOk result (λ made. typed_view made.value ≡ turned_where converts (typed_view tree.value)) }
+    ensures { IfOk result (λ made. typed_view made.value ≡ converted_where converts (typed_view tree.value)) }
 {
     if converts {
         build::unary(alloc, UnaryOperator::ToDecimal, tree)
@@ -361,8 +361,8 @@ pub(crate) fn both_unwrapped(
     left: Box<Operand<'_>>,
     right: Box<Operand<'_>>,
 ) -> Result<(Box<Typed>, Box<Typed>), AllocError>
-    ensures left { IfOk result (λ trees. typed_view trees.0.value ≡ made_plain (operand_view left.entry.value)) }
-    ensures right { IfOk result (λ trees. typed_view trees.1.value ≡ made_plain (operand_view right.entry.value)) }
+    ensures left { IfOk result (λ trees. typed_view trees.0.value ≡ unwrapped (operand_view left.entry.value)) }
+    ensures right { IfOk result (λ trees. typed_view trees.1.value ≡ unwrapped (operand_view right.entry.value)) }
 {
     let first = unwrapped(alloc, left)?;
     let second = unwrapped(alloc, right)?;
@@ -376,10 +376,10 @@ pub(crate) fn converted_both(
     right: Box<Operand<'_>>,
 ) -> Result<(Box<Typed>, Box<Typed>), AllocError>
     ensures left { IfOk result (λ trees. typed_view trees.0.value
-        ≡ turned (operand_view right.entry.value).kind (operand_view left.entry.value).kind
+        ≡ converted (operand_view right.entry.value).kind (operand_view left.entry.value).kind
         (operand_view left.entry.value).tree) }
     ensures right { IfOk result (λ trees. typed_view trees.1.value
-        ≡ turned (operand_view left.entry.value).kind (operand_view right.entry.value).kind
+        ≡ converted (operand_view left.entry.value).kind (operand_view right.entry.value).kind
         (operand_view right.entry.value).tree) }
 {
     let converts_left = converts(&right.kind, &left.kind);

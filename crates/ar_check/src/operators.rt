@@ -4,7 +4,7 @@ ghost use Rattle.std.specs.Prelude.{◌≡◌, ◌&&◌, false, IfOk, Some};
 ghost use Rattle.ar_value.specs.declared.operator.UnaryOperator.TheVariants as unary;
 ghost use Rattle.ar_value.specs.Answer.{Gives};
 ghost use Rattle.ar_check.specs.Check.{arithmetic_in, arithmetic_kind, binary_of, compared_of, comparison_of, equality_of, in_of, negated, number_kind, ordering_of, arithmetic_on, calculation_of, given, member_of, text_test_of, unary_of, where_wanted, widened};
-ghost use Rattle.ar_value.specs.Kind.{truth_kind};
+ghost use Rattle.ar_value.specs.Kind.{boolean_kind};
 ghost use Rattle.ar_check.specs.Operand.{among, scalar_family};
 ghost use Rattle.ar_tree.specs.Typed as typed;
 ghost use Rattle.ar_tree.specs.Views.{typed_view};
@@ -14,7 +14,7 @@ ghost use Rattle.ar_check.specs.Private.Inside.{boxed_view, connected_of, item_s
 use crate::build::{self, Connective};
 use crate::error::TypeError;
 use crate::operand::{
-    Kind, Operand, both_unwrapped, given, given_unary, into_tree, is_text, is_truth, item_shape,
+    Kind, Operand, both_unwrapped, given, given_unary, into_tree, is_boolean, is_text, item_shape,
     numbers, scalar, scalar_of, unwrapped,
 };
 use ar_tree::tree::{Binary, Comparison, Unary};
@@ -46,8 +46,8 @@ pub(crate) fn where_wanted<'s>(
 }
 
 /// The kind of booleans.
-pub(crate) fn truth<'s>() -> Kind<'s>
-    ensures { view_of_kind result ≡ truth_kind }
+pub(crate) fn boolean<'s>() -> Kind<'s>
+    ensures { view_of_kind result ≡ boolean_kind }
 {
     Kind::Made(Shape::Bool)
 }
@@ -70,11 +70,11 @@ pub(crate) fn unary<'s>(
 ) -> Result<Box<Operand<'s>>, TypeError>
     ensures { Gives is_memory boxed_view result (unary_of at operator (operand_view operand.entry.value)) }
 {
-    let is_truth = is_truth(&operand);
+    let is_boolean = is_boolean(&operand);
     let numbers = numbers(&operand);
     let tree = unwrapped(alloc, operand)?;
     match operator {
-        Unary::Not if is_truth => given_unary(alloc, UnaryOperator::Not, tree, truth()),
+        Unary::Not if is_boolean => given_unary(alloc, UnaryOperator::Not, tree, boolean()),
         Unary::Not => Err(TypeError::WrongOperand(at)),
         Unary::Minus => match numbers {
             Some(of) => given_unary(alloc, UnaryOperator::Negate(of), tree, number_kind(of)),
@@ -130,10 +130,10 @@ fn connect<'s>(
     ensures { Gives is_memory boxed_view result
         (connected_of at by (operand_view left.entry.value) (operand_view right.entry.value)) }
 {
-    let wanted = is_truth(&left) && is_truth(&right);
+    let wanted = is_boolean(&left) && is_boolean(&right);
     let (left, right) = both_unwrapped(alloc, left, right)?;
     let tree = build::connected(alloc, by, left, right)?;
-    where_wanted(alloc, at, wanted, tree, truth())
+    where_wanted(alloc, at, wanted, tree, boolean())
 }
 
 fn negated(alloc: Global, condition: Box<Operand<'_>>) -> Result<Box<Operand<'_>>, TypeError>
@@ -183,16 +183,16 @@ fn equate<'s>(
     let sides = (scalar(&left), scalar(&right));
     let (left, right) = (into_tree(left), into_tree(right));
     if nil_left {
-        return given_unary(alloc, UnaryOperator::IsNil, right, truth());
+        return given_unary(alloc, UnaryOperator::IsNil, right, boolean());
     }
     if nil_right {
-        return given_unary(alloc, UnaryOperator::IsNil, left, truth());
+        return given_unary(alloc, UnaryOperator::IsNil, left, boolean());
     }
-    let (Some(of), Some(beside)) = sides else {
+    let (Some(of), Some(next_to)) = sides else {
         return Err(TypeError::WrongOperand(at));
     };
     let tree = build::binary(alloc, BinaryOperator::Equal(family(of)), left, right)?;
-    where_wanted(alloc, at, family(of) == family(beside), tree, truth())
+    where_wanted(alloc, at, family(of) == family(next_to), tree, boolean())
 }
 
 /// Whether an operand is nil.
@@ -201,16 +201,16 @@ pub(crate) fn is_nil_of<'s>(
     operand: Box<Operand<'_>>,
 ) -> Result<Box<Operand<'s>>, TypeError>
     ensures { Gives is_memory boxed_view result
-        (given (typed.unary unary.IsNil (operand_view operand.entry.value).tree) truth_kind) }
+        (given (typed.unary unary.IsNil (operand_view operand.entry.value).tree) boolean_kind) }
 {
-    given_unary(alloc, UnaryOperator::IsNil, into_tree(operand), truth())
+    given_unary(alloc, UnaryOperator::IsNil, into_tree(operand), boolean())
 }
 
 fn family(scalar: Scalar) -> Family
     ensures { result ≡ scalar_family scalar }
 {
     match scalar {
-        Scalar::Bool => Family::Truth,
+        Scalar::Bool => Family::Boolean,
         Scalar::Whole | Scalar::Decimal => Family::Number,
         Scalar::Text => Family::Text,
     }
@@ -228,12 +228,12 @@ fn order<'s>(
 {
     let sides = (numbers(&left), numbers(&right));
     let (left, right) = both_unwrapped(alloc, left, right)?;
-    let (Some(of), Some(beside)) = sides else {
+    let (Some(of), Some(next_to)) = sides else {
         return Err(TypeError::WrongOperand(at));
     };
-    let operator = BinaryOperator::Compare(compared_of(of, beside), order);
+    let operator = BinaryOperator::Compare(compared_of(of, next_to), order);
     let tree = build::binary(alloc, operator, left, right)?;
-    given(alloc, tree, truth())
+    given(alloc, tree, boolean())
 }
 
 /// Whether a list has an operand among its items.
@@ -264,11 +264,11 @@ fn member<'s>(
     ensures { Gives is_memory boxed_view result
         (member_of at scalars.0 scalars.1 (typed_view operand.value) (typed_view list.value)) }
 {
-    let (Some(of), Some(beside)) = scalars else {
+    let (Some(of), Some(next_to)) = scalars else {
         return Err(TypeError::WrongOperand(at));
     };
     let tree = build::binary(alloc, BinaryOperator::IsIn, operand, list)?;
-    where_wanted(alloc, at, family(of) == family(beside), tree, truth())
+    where_wanted(alloc, at, family(of) == family(next_to), tree, boolean())
 }
 
 /// What scalar a list's items are once they are plain.
@@ -292,7 +292,7 @@ fn test_texts<'s>(
     let wanted = is_text(&left) && is_text(&right);
     let (left, right) = both_unwrapped(alloc, left, right)?;
     let tree = build::binary(alloc, BinaryOperator::TextTest(test), left, right)?;
-    where_wanted(alloc, at, wanted, tree, truth())
+    where_wanted(alloc, at, wanted, tree, boolean())
 }
 
 fn calculate<'s>(
@@ -307,10 +307,10 @@ fn calculate<'s>(
 {
     let sides = (numbers(&left), numbers(&right));
     let (left, right) = both_unwrapped(alloc, left, right)?;
-    let (Some(of), Some(beside)) = sides else {
+    let (Some(of), Some(next_to)) = sides else {
         return Err(TypeError::WrongOperand(at));
     };
-    calculate_on(alloc, at, operator, (of, beside), left, right)
+    calculate_on(alloc, at, operator, (of, next_to), left, right)
 }
 
 /// Arithmetic on plain operands of these numbers.
@@ -325,10 +325,10 @@ fn calculate_on<'s>(
     ensures { Gives is_memory boxed_view result
         (arithmetic_on at operator (Some sides.0) (Some sides.1) (typed_view left.value) (typed_view right.value)) }
 {
-    let (of, beside) = sides;
-    let numbers = widened(of, beside);
-    let left = among(alloc, beside, of, left)?;
-    let right = among(alloc, of, beside, right)?;
+    let (of, next_to) = sides;
+    let numbers = widened(of, next_to);
+    let left = among(alloc, next_to, of, left)?;
+    let right = among(alloc, of, next_to, right)?;
     let Some(arithmetic) = arithmetic_in(numbers, operator) else {
         return Err(TypeError::WrongOperand(at));
     };

@@ -10,8 +10,8 @@ ghost use Rattle.ar_tree.specs.Views.{expression_of};
 ghost use Rattle.ar_check.specs.Answer.{ChecksTo};
 ghost use Rattle.ar_check.specs.Basics.{literal_kind};
 ghost use Rattle.ar_check.specs.Check.{choice_of, choice_tree, common_default, default_of, default_tree, field_of, given, index_of, innermost, is_nil_literal, len_of, over_items, plain_kind, predicate_kind, predicate_of};
-ghost use Rattle.ar_check.specs.Operand.{made_plain, operand};
-ghost use Rattle.ar_check.specs.Private.Inside.{boxed_view, inside, item_in, item_view, items_in_scope, view_of_kind, operand_view, turned_where, typed_in};
+ghost use Rattle.ar_check.specs.Operand.{unwrapped, operand};
+ghost use Rattle.ar_check.specs.Private.Inside.{boxed_view, inside, item_in, item_view, items_in_scope, view_of_kind, operand_view, converted_where, typed_in};
 ghost use Rattle.ar_tree.specs.Typed as typed;
 ghost use Rattle.ar_tree.specs.Views.{typed_view};
 ghost use Rattle.ar_check.specs.Memory.{is_memory};
@@ -20,10 +20,10 @@ use crate::build::{self, node};
 use crate::error::TypeError;
 use crate::list::{Item, list};
 use crate::operand::{
-    Kind, Operand, as_truth, common, converted, converted_both, converts, field_kind, given,
-    given_unary, is_truth, item_kind, item_shape, plain_kind, scalar, unwrapped, without_nil,
+    Kind, Operand, as_boolean, common, converted, converted_both, converts, field_kind, given,
+    given_unary, is_boolean, item_kind, item_shape, plain_kind, scalar, unwrapped, without_nil,
 };
-use crate::operators::{binary, is_nil_of, truth, unary, where_wanted};
+use crate::operators::{binary, boolean, is_nil_of, unary, where_wanted};
 use ar_tree::tree::{Binary, Literal, Tree, Unary};
 use ar_tree::typed::Typed;
 use ar_value::holding::zip_ok;
@@ -33,8 +33,8 @@ use ar_value::shape::Shape;
 use ar_value::text::Text;
 use std::alloc::{AllocError, Global};
 
-/// The typed tree of a condition where `result` has a shape. Children come first, from left to
-/// right.
+/// The typed tree of a condition under the shape of `result`, or its first type fault: children are checked before
+/// their parent, from left to right. On each value of the shape the typed tree means a boolean or a named fault.
 ///
 /// # Errors
 ///
@@ -44,14 +44,14 @@ use std::alloc::{AllocError, Global};
 pub fn check(alloc: Global, tree: Tree, shape: &Shape) -> Result<Typed, TypeError>
     ensures { ChecksTo (shape_view shape.now) (expression_of tree) result }
 {
-    let at = tree.place();
+    let at = tree.offset();
     let scope = Scope {
         measured: shape,
         item: None,
         around: 0,
     };
     let condition = typed(alloc, tree, &scope)?;
-    if is_truth(&condition) {
+    if is_boolean(&condition) {
         Ok(Box::into_inner(unwrapped(alloc, condition)?))
     } else {
         Err(TypeError::NotTruth(at))
@@ -94,9 +94,9 @@ fn typed<'s>(alloc: Global, tree: Tree, scope: &Scope<'s>) -> Result<Box<Operand
         Tree::Choice {
             at,
             condition,
-            yes,
-            no,
-        } => typed_choice(alloc, at, condition, yes, no, scope),
+            then_branch,
+            else_branch,
+        } => typed_choice(alloc, at, condition, then_branch, else_branch, scope),
         Tree::List { at, items } => typed_list(alloc, at, items.items, scope),
         Tree::Len { at, list } => typed_len(alloc, at, list, scope),
         Tree::IsNil { at, operand } => typed_is_nil(alloc, at, operand, scope),
@@ -246,18 +246,18 @@ fn typed_choice<'s>(
     alloc: Global,
     at: usize,
     condition: Box<Tree>,
-    yes: Box<Tree>,
-    no: Box<Tree>,
+    then_branch: Box<Tree>,
+    else_branch: Box<Tree>,
     scope: &Scope<'s>,
 ) -> Result<Box<Operand<'s>>, TypeError>
     ensures { Gives is_memory boxed_view result
-        (typed_in scope.now (ChoiceAt at (expression_of condition.value) (expression_of yes.value)
-        (expression_of no.value))) }
+        (typed_in scope.now (ChoiceAt at (expression_of condition.value) (expression_of then_branch.value)
+        (expression_of else_branch.value))) }
 {
     let condition = child(alloc, condition, scope)?;
-    let yes = child(alloc, yes, scope)?;
-    let no = child(alloc, no, scope)?;
-    choice_of(alloc, at, condition, yes, no)
+    let then_branch = child(alloc, then_branch, scope)?;
+    let else_branch = child(alloc, else_branch, scope)?;
+    choice_of(alloc, at, condition, then_branch, else_branch)
 }
 
 /// An operand, or its replacement where it is nil.
@@ -314,7 +314,7 @@ fn typed_items(alloc: Global, trees: Vec<Tree>, scope: &Scope<'_>) -> Result<Vec
 fn typed_item(alloc: Global, tree: Tree, scope: &Scope<'_>) -> Result<Item, TypeError>
     ensures { Gives is_memory item_view result (item_in scope.now (expression_of tree)) }
 {
-    let at = tree.place();
+    let at = tree.offset();
     let operand = typed(alloc, tree, scope)?;
     let scalar = scalar(&operand);
     let tree = unwrapped(alloc, operand)?;
@@ -339,7 +339,7 @@ fn typed_body(
         return Err(TypeError::PredicatesTooDeep(at));
     }
     let inside = in_predicate(scope, shape, scope.around + 1);
-    Ok(as_truth(alloc, child(alloc, body, &inside)?)?)
+    Ok(as_boolean(alloc, child(alloc, body, &inside)?)?)
 }
 
 /// What names refer to where a predicate speaks of an item, inside `around` predicates.
@@ -426,7 +426,7 @@ fn field_of<'s>(
 /// The tree of a field, of a plain record.
 fn field_tree(alloc: Global, owner: Box<Operand<'_>>, name: Text) -> Result<Box<Typed>, AllocError>
     ensures { IfOk result (λ tree. typed_view tree.value
-        ≡ typed.field (made_plain (operand_view owner.entry.value)) name) }
+        ≡ typed.field (unwrapped (operand_view owner.entry.value)) name) }
 {
     let owner = unwrapped(alloc, owner)?;
     node(alloc, Typed::Field { owner, name })
@@ -454,8 +454,8 @@ fn index_tree(
     position: Box<Operand<'_>>,
 ) -> Result<Box<Typed>, AllocError>
     ensures { IfOk result (λ tree. typed_view tree.value
-        ≡ typed.binary binary.Index (made_plain (operand_view list.entry.value))
-        (made_plain (operand_view position.entry.value))) }
+        ≡ typed.binary binary.Index (unwrapped (operand_view list.entry.value))
+        (unwrapped (operand_view position.entry.value))) }
 {
     let list = unwrapped(alloc, list)?;
     build::binary(
@@ -484,16 +484,19 @@ fn choice_of<'s>(
     alloc: Global,
     at: usize,
     condition: Box<Operand<'_>>,
-    yes: Box<Operand<'s>>,
-    no: Box<Operand<'s>>,
+    then_branch: Box<Operand<'s>>,
+    else_branch: Box<Operand<'s>>,
 ) -> Result<Box<Operand<'s>>, TypeError>
     ensures { Gives is_memory boxed_view result
         (choice_of at (operand_view condition.entry.value)
-        (operand_view yes.entry.value) (operand_view no.entry.value)) }
+        (operand_view then_branch.entry.value) (operand_view else_branch.entry.value)) }
 {
-    let kind = common(alloc, &yes.kind, &no.kind)?;
-    let wanted = is_truth(&condition);
-    let (kind, tree) = zip_ok(kind, choice_tree(alloc, condition, yes, no))?;
+    let kind = common(alloc, &then_branch.kind, &else_branch.kind)?;
+    let wanted = is_boolean(&condition);
+    let (kind, tree) = zip_ok(
+        kind,
+        choice_tree(alloc, condition, then_branch, else_branch),
+    )?;
     match kind {
         Some(kind) => where_wanted(alloc, at, wanted, tree, kind),
         None => Err(TypeError::NoCommonKind(at)),
@@ -504,16 +507,23 @@ fn choice_of<'s>(
 fn choice_tree(
     alloc: Global,
     condition: Box<Operand<'_>>,
-    yes: Box<Operand<'_>>,
-    no: Box<Operand<'_>>,
+    then_branch: Box<Operand<'_>>,
+    else_branch: Box<Operand<'_>>,
 ) -> Result<Box<Typed>, AllocError>
     ensures { IfOk result (λ tree. typed_view tree.value
-        ≡ choice_tree (made_plain (operand_view condition.entry.value))
-        (operand_view yes.entry.value) (operand_view no.entry.value)) }
+        ≡ choice_tree (unwrapped (operand_view condition.entry.value))
+        (operand_view then_branch.entry.value) (operand_view else_branch.entry.value)) }
 {
     let condition = unwrapped(alloc, condition)?;
-    let (yes, no) = converted_both(alloc, yes, no)?;
-    node(alloc, Typed::Choice { condition, yes, no })
+    let (then_branch, else_branch) = converted_both(alloc, then_branch, else_branch)?;
+    node(
+        alloc,
+        Typed::Choice {
+            condition,
+            then_branch,
+            else_branch,
+        },
+    )
 }
 
 /// An operand, or its replacement where it is nil.
@@ -552,8 +562,8 @@ fn default_tree(
     other: Box<Typed>,
 ) -> Result<Box<Typed>, AllocError>
     ensures { IfOk result (λ tree. typed_view tree.value
-        ≡ typed.binary binary.Default (turned_where converts_first (typed_view first.value))
-        (turned_where converts_other (typed_view other.value))) }
+        ≡ typed.binary binary.Default (converted_where converts_first (typed_view first.value))
+        (converted_where converts_other (typed_view other.value))) }
 {
     let first = converted(alloc, converts_first, first)?;
     let other = converted(alloc, converts_other, other)?;
@@ -599,7 +609,7 @@ fn predicate_tree(
     body: Box<Typed>,
 ) -> Result<Box<Typed>, AllocError>
     ensures { IfOk result (λ tree. typed_view tree.value
-        ≡ typed.predicate over (made_plain (operand_view list.entry.value)) (typed_view body.value)) }
+        ≡ typed.predicate over (unwrapped (operand_view list.entry.value)) (typed_view body.value)) }
 {
     let list = unwrapped(alloc, list)?;
     node(
@@ -621,7 +631,7 @@ fn predicate_kind<'s>(
     ensures { IfOk result (λ kind. view_of_kind kind ≡ predicate_kind over (plain_kind (view_of_kind list.now))) }
 {
     match over {
-        Predicate::All | Predicate::Any | Predicate::None | Predicate::One => Ok(truth()),
+        Predicate::All | Predicate::Any | Predicate::None | Predicate::One => Ok(boolean()),
         Predicate::Count => Ok(Kind::Made(Shape::Whole)),
         Predicate::Filter => plain_kind(alloc, list),
     }

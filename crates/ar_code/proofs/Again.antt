@@ -29,7 +29,7 @@ use Rattle.ar_value.specs.declared.operator.UnaryOperator.TheVariants as unary
 use Rattle.ar_value.specs.Limits.{most_code_entries, most_literal_items}
 use Rattle.ar_code.specs.declared.version.Version.{Version}
 use Rattle.ar_code.specs.declared.version.Version.TheVariants.{First, Second}
-use Rattle.ar_code.specs.Decoding.{Reading, all_ops, among, count_at, decoded, parts_at, whole, cut_number, so_many_ops, so_many_texts, text_at, texts_at, entry_at, op_at, op_of, place, fields_at, items_at, list_at, narrow, number_at, scalar_at, signed, source_at, spelled, sum_of, version_at, wide}
+use Rattle.ar_code.specs.Decoding.{Reading, all_ops, among, count_at, decoded, parts_at, whole, cut_number, so_many_ops, so_many_texts, text_at, texts_at, entry_at, op_at, op_of, offset, fields_at, items_at, list_at, narrow, number_at, scalar_at, signed, source_at, spelled, sum_of, version_at, wide}
 use Rattle.ar_code.specs.Image.{body, image, is_new, last_code, magic, version_byte, version_of, fields_of, groups, number, op_bytes, scalar_number, source_fields, string, strings, zigzag}
 use Rattle.ar_code.specs.Forms.{code_of}
 use Rattle.ar_code.proofs.Loops.{Reads, ops_read, texts_read}
@@ -40,8 +40,8 @@ cut_by : (more n : ℕ) (rest : List ℕ) (b : Bool) → ltb n 128 ≡ b → ((m
     → cut_number (cond b (n ∷ []) ((128 + n % 128) ∷ groups more (n / 128)) ++ rest) ≡ Some (cond b (n ∷ []) ((128 + n % 128) ∷ groups more (n / 128)), rest)
 cut_by more n rest true small inner = rw small refl
 cut_by more n rest false large inner =
-    let goes_on : ltb (128 + n % 128) 128 ≡ false = le-ltb (128 + n % 128) 128 (omega arith) in
-    rw (goes_on, inner (n / 128)) refl
+    let continues : ltb (128 + n % 128) 128 ≡ false = le-ltb (128 + n % 128) 128 (omega arith) in
+    rw (continues, inner (n / 128)) refl
 
 cut_groups : (more n : ℕ) (rest : List ℕ) → cut_number (groups more n ++ rest) ≡ Some (groups more n, rest)
 cut_groups zero n rest =
@@ -132,7 +132,7 @@ abbrev empty : Op → Op
 empty (Push source) = Push (empty_source source)
 empty (MakeList scalar count) = MakeList scalars.Bool 0
 empty (Field number) = Field 0
-empty (Jump jump place) = Jump jump 0
+empty (Jump jump index) = Jump jump 0
 empty (Enter predicate step) = Enter predicate 0
 empty (Step predicate enter) = Step predicate 0
 empty op = op
@@ -146,11 +146,11 @@ found (Binary (binary.Decimals on_decimals.Add)) = refl
 found (Binary (binary.Compare compared.Wholes orders.Less)) = refl
 found (Binary (binary.Compare compared.Decimals orders.Less)) = refl
 found (Binary (binary.Compare compared.Mixed orders.Less)) = refl
-found (Binary (binary.Equal families.Truth)) = refl
-found (Jump jumps.And place) = refl
+found (Binary (binary.Equal families.Boolean)) = refl
+found (Jump jumps.And index) = refl
 found (Binary (binary.TextTest tests.Contains)) = refl
-found (Enter predicates.All place) = refl
-found (Step predicates.All place) = refl
+found (Enter predicates.All index) = refl
+found (Step predicates.All index) = refl
 found op = refl
 
 -- an operation that images of a version may have
@@ -166,11 +166,11 @@ of_second (Binary (binary.Decimals on_decimals.Add)) = refl
 of_second (Binary (binary.Compare compared.Wholes orders.Less)) = refl
 of_second (Binary (binary.Compare compared.Decimals orders.Less)) = refl
 of_second (Binary (binary.Compare compared.Mixed orders.Less)) = refl
-of_second (Binary (binary.Equal families.Truth)) = refl
-of_second (Jump jumps.And place) = refl
+of_second (Binary (binary.Equal families.Boolean)) = refl
+of_second (Jump jumps.And index) = refl
 of_second (Binary (binary.TextTest tests.Contains)) = refl
-of_second (Enter predicates.All place) = refl
-of_second (Step predicates.All place) = refl
+of_second (Enter predicates.All index) = refl
+of_second (Step predicates.All index) = refl
 of_second op = refl
 
 all_of_second : (ops : List Op) → AllByRecursion (IsOf Second) ops
@@ -211,14 +211,14 @@ unfolding fields_at
 fields_again end at texts names (Push source) rest few_texts few_names range inside = rw (source_again end at texts names source rest few_texts range inside) refl
 fields_again end at texts names (MakeList scalar count) rest few_texts few_names range inside = list_again end count scalar rest inside
 fields_again end at texts names (Field number) rest few_texts few_names range inside = rw (entry_again end at names number rest inside few_names) refl
-fields_again end at texts names (Jump jump place) rest few_texts few_names range inside = rw (narrow_again end place rest range) refl
+fields_again end at texts names (Jump jump index) rest few_texts few_names range inside = rw (narrow_again end index rest range) refl
 fields_again end at texts names (Enter predicate step) rest few_texts few_names range inside = rw (narrow_again end step rest range) refl
 fields_again end at texts names (Step predicate enter) rest few_texts few_names range inside = rw (narrow_again end enter rest range) refl
 fields_again end at texts names op rest few_texts few_names range inside = refl
 
 op_again : (end : ℕ) (version : Version) (texts names : ℕ) (op : Op) (rest : List ℕ) → texts ≤ most_code_entries → names ≤ most_code_entries → IsOf version op → InRange op × Inside texts names op → op_at end version texts names (op_bytes op ++ rest) ≡ Ok (op, rest)
 unfolding op_at
-op_again end version texts names op rest few_texts few_names of (range, inside) = rw (op_found version op of, fields_again end (place end (op_bytes op ++ rest)) texts names op rest few_texts few_names range inside) refl
+op_again end version texts names op rest few_texts few_names of (range, inside) = rw (op_found version op of, fields_again end (offset end (op_bytes op ++ rest)) texts names op rest few_texts few_names range inside) refl
 
 -- ---- texts
 

@@ -4,9 +4,9 @@ use Rattle.std.specs.List.{AllByRecursion, flat_map}
 use Rattle.std.proofs.Math.Seq.{take-suc}
 use Rattle.std.proofs.lemmas.List.{flat_map_more, map_more, take_all}
 
-behind_all : {A : Type 0} (P : A → Type 0) (before : List A) (x : A) → AllByRecursion P before → P x → AllByRecursion P (before ++ x ∷ [])
-behind_all P [] x all holds = (holds, tt)
-behind_all P (first ∷ before) x all holds = (all.0, behind_all P before x all.1 holds)
+after_all : {A : Type 0} (P : A → Type 0) (before : List A) (x : A) → AllByRecursion P before → P x → AllByRecursion P (before ++ x ∷ [])
+after_all P [] x all holds = (holds, tt)
+after_all P (first ∷ before) x all holds = (all.0, after_all P before x all.1 holds)
 
 -- ---- of the things themselves
 
@@ -17,7 +17,7 @@ take_more : {A : Type 0} (xs : List A) (i : ℕ) (d : A) → i < length xs → t
 take_more xs i d within = rw (add-one i) (take-suc xs i d within)
 
 pub of_one_more : {A : Type 0} (P : A → Type 0) (xs : List A) (i : ℕ) (d : A) → i < length xs → AllByRecursion P (take i xs) → P (get_or xs i d) → AllByRecursion P (take (i + 1) xs)
-of_one_more P xs i d within before holds = subst (λ ys. AllByRecursion P ys) (sym (take_more xs i d within)) (behind_all P (take i xs) (get_or xs i d) before holds)
+of_one_more P xs i d within before holds = subst (λ ys. AllByRecursion P ys) (sym (take_more xs i d within)) (after_all P (take i xs) (get_or xs i d) before holds)
 
 pub of_all : {A : Type 0} (P : A → Type 0) (xs : List A) (i : ℕ) → length xs ≤ i → AllByRecursion P (take i xs) → AllByRecursion P xs
 of_all P xs i past before = subst (λ ys. AllByRecursion P ys) (take_all i xs past) before
@@ -36,7 +36,7 @@ seen_none P f xs = tt
 
 pub seen_more : {A B : Type 0} (P : B → Type 0) (f : A → B) (xs : List A) (i : ℕ) (d : A) → i < length xs → AllByRecursion P (map f (take i xs)) → P (f (get_or xs i d))
     → AllByRecursion P (map f (take (i + 1) xs))
-seen_more P f xs i d within before holds = subst (λ ys. AllByRecursion P ys) (sym (map_more f xs i d within)) (behind_all P (map f (take i xs)) (f (get_or xs i d)) before holds)
+seen_more P f xs i d within before holds = subst (λ ys. AllByRecursion P ys) (sym (map_more f xs i d within)) (after_all P (map f (take i xs)) (f (get_or xs i d)) before holds)
 
 pub seen_all : {A B : Type 0} (P : B → Type 0) (f : A → B) (xs : List A) (i : ℕ) → length xs ≤ i → AllByRecursion P (map f (take i xs)) → AllByRecursion P (map f xs)
 seen_all P f xs i past before = subst (λ ys. AllByRecursion P (map f ys)) (take_all i xs past) before

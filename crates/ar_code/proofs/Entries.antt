@@ -14,13 +14,13 @@ pub no_entry : {A : Type 0} (f : A → List ℕ) (xs : List A) (n : ℕ) → len
 no_entry f xs n past = sym (get_or_past (map f xs) n [] (rw (length-map xs f) past))
 
 -- one more line comes after those that were written
-pub next_line : (code : Code) (ops : List Op) (place : ℕ) (op : Op) (written total : List ℕ) → place < length ops → op ≡ slice_index_or ops place op → written ++ lines code place (drop place ops) ≡ total
-    → (written ++ line code place op) ++ lines code (place + 1) (drop (place + 1) ops) ≡ total
-next_line code ops place op written total within is so_far =
-    let rest : drop place ops ≡ op ∷ drop (suc place) ops = drop-cons ops place op within ∙ ap (λ x. x ∷ drop (suc place) ops) (sym is) in
-    rw (add-one place) (append_assoc written (line code place op) (lines code (suc place) (drop (suc place) ops)) ∙ ap (λ ls. written ++ lines code place ls) (sym rest) ∙ so_far)
+pub next_line : (code : Code) (ops : List Op) (index : ℕ) (op : Op) (written total : List ℕ) → index < length ops → op ≡ slice_index_or ops index op → written ++ lines code index (drop index ops) ≡ total
+    → (written ++ line code index op) ++ lines code (index + 1) (drop (index + 1) ops) ≡ total
+next_line code ops index op written total within is so_far =
+    let rest : drop index ops ≡ op ∷ drop (suc index) ops = drop-cons ops index op within ∙ ap (λ x. x ∷ drop (suc index) ops) (sym is) in
+    rw (add-one index) (append_assoc written (line code index op) (lines code (suc index) (drop (suc index) ops)) ∙ ap (λ ls. written ++ lines code index ls) (sym rest) ∙ so_far)
 
 -- no line is left
-pub no_line : (code : Code) (ops : List Op) (place : ℕ) (written total : List ℕ) → length ops ≤ place → written ++ lines code place (drop place ops) ≡ total → written ≡ total
-no_line code ops place written total past so_far =
-    sym (append-nil written) ∙ ap (λ (ls : List Op). written ++ lines code place ls) (sym (drop_of_length-le ops past)) ∙ so_far
+pub no_line : (code : Code) (ops : List Op) (index : ℕ) (written total : List ℕ) → length ops ≤ index → written ++ lines code index (drop index ops) ≡ total → written ≡ total
+no_line code ops index written total past so_far =
+    sym (append-nil written) ∙ ap (λ (ls : List Op). written ++ lines code index ls) (sym (drop_of_length-le ops past)) ∙ so_far

@@ -18,22 +18,22 @@ abbrev in_order : ℕ → List Op → Bool
 in_order code [] = true
 in_order code (op ∷ ops) = eqb (code_of op) code && in_order (suc code) ops
 
-by_place : (ops : List Op) (first place : ℕ) → in_order first ops ≡ true → slice_get ops place ≡ among ops (first + place)
-by_place [] first place ordered = refl
-by_place (op ∷ ops) first zero ordered =
+by_index : (ops : List Op) (first index : ℕ) → in_order first ops ≡ true → slice_get ops index ≡ among ops (first + index)
+by_index [] first index ordered = refl
+by_index (op ∷ ops) first zero ordered =
     let here : code_of op ≡ first = eqb-true (code_of op) first (and_left (eqb (code_of op) first) (in_order (suc first) ops) ordered) in
     let is : eqb (code_of op) (first + 0) ≡ true = eq-eqb (code_of op) (first + 0) (omega (arith, here)) in
     rw is refl
-by_place (op ∷ ops) first (suc place) ordered =
+by_index (op ∷ ops) first (suc index) ordered =
     let here : code_of op ≡ first = eqb-true (code_of op) first (and_left (eqb (code_of op) first) (in_order (suc first) ops) ordered) in
-    let other : eqb (code_of op) (first + suc place) ≡ false = ne_eqb (code_of op) (first + suc place) (λ same. omega (arith, here, same)) in
-    let on : suc first + place ≡ first + suc place = omega arith in
-    rw other (by_place ops (suc first) place (and_right (eqb (code_of op) first) (in_order (suc first) ops) ordered) ∙ ap (among ops) on)
+    let other : eqb (code_of op) (first + suc index) ≡ false = ne_eqb (code_of op) (first + suc index) (λ same. omega (arith, here, same)) in
+    let on : suc first + index ≡ first + suc index = omega arith in
+    rw other (by_index ops (suc first) index (and_right (eqb (code_of op) first) (in_order (suc first) ops) ordered) ∙ ap (among ops) on)
 
-pub op_by_place : (code : ℕ) → 0 < code → slice_get all_ops (code - 1) ≡ among all_ops code
-op_by_place code positive =
+pub op_by_index : (code : ℕ) → 0 < code → slice_get all_ops (code - 1) ≡ among all_ops code
+op_by_index code positive =
     let whole : 1 + (code - 1) ≡ code = omega arith in
-    by_place all_ops 1 (code - 1) refl ∙ ap (among all_ops) whole
+    by_index all_ops 1 (code - 1) refl ∙ ap (among all_ops) whole
 
 pub no_op : (code : ℕ) → code < 1 → among all_ops code ≡ None
 no_op zero below = refl

@@ -16,7 +16,7 @@ use Rattle.ar_op.specs.declared.op.Op.{Op}
 use Rattle.ar_op.specs.declared.op.Op.TheVariants.{Push, MakeList, Field, Jump, Enter, Step}
 use Rattle.ar_op.specs.declared.op.Source.{Source}
 use Rattle.ar_op.specs.declared.op.Source.TheVariants as sources
-use Rattle.ar_code.specs.Decoding.{Reading, all_ops, among, bit_at, coded, count_at, cut_number, decoded, entry_at, expected, fields_at, is_memory, items_at, letters_at, list_at, narrow, number_at, op_at, of_version, op_of, parts_at, place, scalar_at, scalar_of, signed, so_many_ops, so_many_texts, source_at, spelled, sum_of, text_at, texts_at, version_at, where_scalar, where_spelled, where_text, whole, whole_number, wide}
+use Rattle.ar_code.specs.Decoding.{Reading, all_ops, among, bit_at, coded, count_at, cut_number, decoded, entry_at, expected, fields_at, is_memory, items_at, letters_at, list_at, narrow, number_at, op_at, of_version, op_of, parts_at, offset, scalar_at, scalar_of, signed, so_many_ops, so_many_texts, source_at, spelled, sum_of, text_at, texts_at, version_at, where_scalar, where_spelled, where_text, whole, whole_number, wide}
 use Rattle.ar_code.specs.Image.{bit, body, fields_of, image, last_code, magic, number, op_bytes, scalar_number, string, strings, version_byte, version_of, zigzag}
 use Rattle.ar_code.specs.Forms.{code_of}
 use Rattle.ar_code.specs.declared.version.Version.{Version}
@@ -57,9 +57,9 @@ abbrev IsCut : List ℕ → Option (List ℕ × List ℕ) → Type 0
 IsCut bytes None = Unit {0}
 IsCut bytes (Some cut) = bytes ≡ cut.0 ++ cut.1
 
-cut_behind : (byte : ℕ) (bytes : List ℕ) (cut : Option (List ℕ × List ℕ)) → IsCut bytes cut → IsCut (byte ∷ bytes) (option_map (λ c. (byte ∷ c.0, c.1)) cut)
-cut_behind byte bytes None is = tt
-cut_behind byte bytes (Some cut) is = ap (λ (l : List ℕ). byte ∷ l) is
+cut_after : (byte : ℕ) (bytes : List ℕ) (cut : Option (List ℕ × List ℕ)) → IsCut bytes cut → IsCut (byte ∷ bytes) (option_map (λ c. (byte ∷ c.0, c.1)) cut)
+cut_after byte bytes None is = tt
+cut_after byte bytes (Some cut) is = ap (λ (l : List ℕ). byte ∷ l) is
 
 cut_by : (byte : ℕ) (bytes : List ℕ) (b : Bool) (cut : Option (List ℕ × List ℕ)) → IsCut (byte ∷ bytes) cut → IsCut (byte ∷ bytes) (cond b (Some (byte ∷ [], bytes)) cut)
 cut_by byte bytes true cut is = refl
@@ -67,7 +67,7 @@ cut_by byte bytes false cut is = is
 
 cut_is : (bytes : List ℕ) → IsCut bytes (cut_number bytes)
 cut_is [] = tt
-cut_is (byte ∷ bytes) = cut_by byte bytes (ltb byte 128) _ (cut_behind byte bytes (cut_number bytes) (cut_is bytes))
+cut_is (byte ∷ bytes) = cut_by byte bytes (ltb byte 128) _ (cut_after byte bytes (cut_number bytes) (cut_is bytes))
 
 -- a number that is spelled is the one whose form the bytes are
 abbrev IsSpelled : List ℕ → Option ℕ → Type 0
@@ -91,7 +91,7 @@ cut_read end at limit bytes (Some cut) is =
 
 number_read : (end limit : ℕ) (bytes : List ℕ) → Holds (Takes number bytes) (number_at end limit bytes)
 unfolding number_at
-number_read end limit bytes = cut_read end (place end bytes) limit bytes (cut_number bytes) (cut_is bytes)
+number_read end limit bytes = cut_read end (offset end bytes) limit bytes (cut_number bytes) (cut_is bytes)
 
 -- a number that passes a test
 abbrev IsNumber : (ℕ → Type 0) → List ℕ → ℕ × List ℕ → Type 0
@@ -136,11 +136,11 @@ text_by len at bytes false long = refl
 
 letters_read : (end len : ℕ) (bytes : List ℕ) → Holds (IsOfLength len bytes) (letters_at end len bytes)
 letters_read end len bytes =
-    unless (IsOfLength len bytes) (ltb (length bytes) len) _ _ refl (λ long. text_by len (place end bytes) bytes (is_utf8 (take len bytes)) (ltb-false (length bytes) len long))
+    unless (IsOfLength len bytes) (ltb (length bytes) len) _ _ refl (λ long. text_by len (offset end bytes) bytes (is_utf8 (take len bytes)) (ltb-false (length bytes) len long))
 
 -- things and their number in front
-counted : {A : Type 0} (things : List A) (n : ℕ) (front rest behind bytes : List ℕ) → bytes ≡ number n ++ behind → behind ≡ front ++ rest → length things ≡ n → bytes ≡ (number (length things) ++ front) ++ rest
-counted things n front rest behind bytes of_number of_things size =
+counted : {A : Type 0} (things : List A) (n : ℕ) (front rest following bytes : List ℕ) → bytes ≡ number n ++ following → following ≡ front ++ rest → length things ≡ n → bytes ≡ (number (length things) ++ front) ++ rest
+counted things n front rest following bytes of_number of_things size =
     of_number ∙ ap (λ (l : List ℕ). number n ++ l) of_things ∙ ap (λ (k : ℕ). number k ++ (front ++ rest)) (sym size) ∙ sym (append_assoc (number (length things)) front rest)
 
 text_read : (end : ℕ) (bytes : List ℕ) → Holds (IsShort bytes) (text_at end bytes)
@@ -196,7 +196,7 @@ scalar_by at (suc (suc (suc (suc n)))) bytes rest is = refl
 
 scalar_read : (end : ℕ) (bytes : List ℕ) → Holds (IsScalar bytes) (scalar_at end bytes)
 unfolding scalar_at
-scalar_read end bytes = and_then (Takes number bytes) (IsScalar bytes) (number_at end wide bytes) _ (number_read end wide bytes) (λ n is. scalar_by (place end bytes) n.0 bytes n.1 is)
+scalar_read end bytes = and_then (Takes number bytes) (IsScalar bytes) (number_at end wide bytes) _ (number_read end wide bytes) (λ n is. scalar_by (offset end bytes) n.0 bytes n.1 is)
 
 signed_by : (b : Bool) (n : ℕ) → eqb (n % 2) 0 ≡ b → zigzag (cond b (pos (n / 2)) (negsuc (n / 2))) ≡ n
 signed_by true n e = omega (arith, eqb-true (n % 2) 0 e)
@@ -267,7 +267,7 @@ coded_read end at texts names code (Some op) bytes is =
 op_read : (end : ℕ) (version : Version) (texts names : ℕ) (bytes : List ℕ) → Holds (IsOne op_bytes (Inside texts names) bytes) (op_at end version texts names bytes)
 unfolding op_at
 op_read end version texts names [] = refl
-op_read end version texts names (code ∷ bytes) = coded_read end (place end (code ∷ bytes)) texts names code (op_of version code) bytes (op_coded version code)
+op_read end version texts names (code ∷ bytes) = coded_read end (offset end (code ∷ bytes)) texts names code (op_of version code) bytes (op_coded version code)
 
 -- ---- images
 
@@ -283,8 +283,8 @@ parts_are bytes texts names count ops of_texts of_names of_count of_ops =
     let t = strings texts.0 in
     let n = strings names.0 in
     let o = number (length ops.0) ++ flat_map op_bytes ops.0 in
-    let behind : names.1 ≡ o ++ ops.1 = counted ops.0 count.0 (flat_map op_bytes ops.0) ops.1 count.1 names.1 of_count.0 of_ops.0 of_ops.1 in
-    let named : texts.1 ≡ (n ++ o) ++ ops.1 = of_names.0 ∙ ap (λ (l : List ℕ). n ++ l) behind ∙ sym (append_assoc n o ops.1) in (
+    let following : names.1 ≡ o ++ ops.1 = counted ops.0 count.0 (flat_map op_bytes ops.0) ops.1 count.1 names.1 of_count.0 of_ops.0 of_ops.1 in
+    let named : texts.1 ≡ (n ++ o) ++ ops.1 = of_names.0 ∙ ap (λ (l : List ℕ). n ++ l) following ∙ sym (append_assoc n o ops.1) in (
       of_texts.0 ∙ ap (λ (l : List ℕ). t ++ l) named ∙ sym (append_assoc t (n ++ o) ops.1),
       record {
         few_ops = omega (arith, of_count.1, of_ops.1);

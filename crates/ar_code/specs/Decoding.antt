@@ -34,8 +34,8 @@ use Rattle.ar_code.specs.declared.error.ImageError.TheVariants.{BadMagic, BadVer
 abbrev pub Reading : Type 0 → Type 0
 Reading A = Result (A × List ℕ) ImageError
 
-abbrev pub place : ℕ → List ℕ → ℕ
-place end bytes = end - length bytes
+abbrev pub offset : ℕ → List ℕ → ℕ
+offset end bytes = end - length bytes
 
 abbrev pub byte_at : ℕ → List ℕ → Reading ℕ
 byte_at end [] = Err (Truncated end)
@@ -68,7 +68,7 @@ whole_number end at limit None = Err (Truncated end)
 whole_number end at limit (Some cut) = where_spelled at (spelled limit cut.0) cut.1
 
 unfoldable pub number_at : ℕ → (limit : ℕ) → List ℕ → Reading ℕ
-number_at end limit bytes = whole_number end (place end bytes) limit (cut_number bytes)
+number_at end limit bytes = whole_number end (offset end bytes) limit (cut_number bytes)
 
 -- counts and signed numbers have 64 bits, numbers of texts, names and indexes 32
 abbrev pub wide : ℕ
@@ -100,7 +100,7 @@ where_text at (Some letters) bytes = Ok (letters, bytes)
 abbrev pub letters_at : ℕ → (len : ℕ) → List ℕ → Reading (List ℕ)
 letters_at end len bytes =
     if nat_lt (length bytes) len then Err (Truncated end)
-    else where_text (place end bytes) (text_of (take len bytes)) (drop len bytes)
+    else where_text (offset end bytes) (text_of (take len bytes)) (drop len bytes)
 
 unfoldable pub text_at : ℕ → List ℕ → Reading (List ℕ)
 text_at end bytes = count_at end bytes >>= λ len. letters_at end len.0 len.1
@@ -137,7 +137,8 @@ all_ops =
     ∷ Binary (binary.Compare compared.Decimals Greater) ∷ Binary (binary.Compare compared.Decimals GreaterOrEqual)
     ∷ Binary (binary.Compare compared.Mixed Less) ∷ Binary (binary.Compare compared.Mixed LessOrEqual)
     ∷ Binary (binary.Compare compared.Mixed Greater) ∷ Binary (binary.Compare compared.Mixed GreaterOrEqual)
-    ∷ Binary (binary.Equal families.Truth) ∷ Binary (binary.Equal families.Number) ∷ Binary (binary.Equal families.Text)
+    ∷ Binary (binary.Equal families.Boolean) ∷ Binary (binary.Equal families.Number)
+    ∷ Binary (binary.Equal families.Text)
     ∷ Jump jumps.And 0 ∷ Jump jumps.Or 0 ∷ Jump jumps.Branch 0 ∷ Jump jumps.Always 0
     ∷ Enter predicates.All 0 ∷ Step predicates.All 0 ∷ Enter predicates.Any 0 ∷ Step predicates.Any 0
     ∷ Enter predicates.Count 0 ∷ Step predicates.Count 0 ∷ Enter predicates.Filter 0 ∷ Step predicates.Filter 0 ∷ Return
@@ -164,20 +165,20 @@ abbrev pub bit_at : ℕ → List ℕ → Reading Bool
 bit_at end [] = Err (Truncated end)
 bit_at end (zero ∷ bytes) = Ok (false, bytes)
 bit_at end (suc zero ∷ bytes) = Ok (true, bytes)
-bit_at end (suc (suc byte) ∷ bytes) = Err (BadNumber (place end (suc (suc byte) ∷ bytes)))
+bit_at end (suc (suc byte) ∷ bytes) = Err (BadNumber (offset end (suc (suc byte) ∷ bytes)))
 
 abbrev pub where_scalar : ℕ → Option Scalar → List ℕ → Reading Scalar
 where_scalar at None bytes = Err (BadNumber at)
 where_scalar at (Some scalar) bytes = Ok (scalar, bytes)
 
 unfoldable pub scalar_at : ℕ → List ℕ → Reading Scalar
-scalar_at end bytes = number_at end wide bytes >>= λ n. where_scalar (place end bytes) (scalar_of n.0) n.1
+scalar_at end bytes = number_at end wide bytes >>= λ n. where_scalar (offset end bytes) (scalar_of n.0) n.1
 
 -- how many items: at most 16
 unfoldable pub items_at : ℕ → List ℕ → Reading ℕ
 items_at end bytes = do
   n ← number_at end wide bytes
-  if nat_lt most_literal_items n.0 then Err (BadNumber (place end bytes)) else Ok n
+  if nat_lt most_literal_items n.0 then Err (BadNumber (offset end bytes)) else Ok n
 
 -- a number of one of `count` entries, in an operation at an offset
 unfoldable pub entry_at : ℕ → (at count : ℕ) → List ℕ → Reading ℕ
@@ -221,7 +222,7 @@ coded end at texts names (Some op) bytes = fields_at end at texts names op bytes
 unfoldable pub op_at : ℕ → Version → (texts names : ℕ) → List ℕ → Reading Op
 op_at end version texts names bytes = do
   code ← byte_at end bytes
-  coded end (place end bytes) texts names (op_of version code.0) code.1
+  coded end (offset end bytes) texts names (op_of version code.0) code.1
 
 unfoldable pub so_many_ops : ℕ → Version → (texts names count : ℕ) → List ℕ → Reading (List Op)
 so_many_ops end version texts names zero bytes = Ok ([], bytes)
@@ -266,7 +267,7 @@ parts_at end version bytes = do
 
 abbrev pub whole : ℕ → Code × List ℕ → Result Code ImageError
 whole end (code, []) = Ok code
-whole end (code, byte ∷ bytes) = Err (Trailing (place end (byte ∷ bytes)))
+whole end (code, byte ∷ bytes) = Err (Trailing (offset end (byte ∷ bytes)))
 
 unfoldable pub decoded : List ℕ → Result Code ImageError
 decoded bytes = do

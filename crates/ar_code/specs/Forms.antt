@@ -80,7 +80,7 @@ comparison_row compared.Mixed Greater = row 39 (codes "GtM")
 comparison_row compared.Mixed GreaterOrEqual = row 40 (codes "GeM")
 
 abbrev pub equality_row : Family → Row
-equality_row families.Truth = row 41 (codes "EqBool")
+equality_row families.Boolean = row 41 (codes "EqBool")
 equality_row families.Number = row 42 (codes "EqNumber")
 equality_row families.Text = row 43 (codes "EqText")
 
@@ -127,7 +127,7 @@ row_of (ops.MakeList scalar count) = row 6 (codes "MakeList")
 row_of (ops.Field name) = row 9 (codes "Field")
 row_of (ops.Unary operator) = unary_row operator
 row_of (ops.Binary operator) = binary_row operator
-row_of (ops.Jump jump place) = jump_row jump
+row_of (ops.Jump jump index) = jump_row jump
 row_of (ops.Enter predicate step) = enter_row predicate
 row_of (ops.Step predicate enter) = step_row predicate
 row_of ops.Return = row 56 (codes "Return")

@@ -61,7 +61,7 @@ abbrev pub fields_of : Op → List ℕ
 fields_of (ops.Push source) = source_fields source
 fields_of (ops.MakeList scalar count) = number (scalar_number scalar) ++ number count
 fields_of (ops.Field name) = number name
-fields_of (ops.Jump jump place) = number place
+fields_of (ops.Jump jump index) = number index
 fields_of (ops.Enter predicate step) = number step
 fields_of (ops.Step predicate enter) = number enter
 fields_of op = []

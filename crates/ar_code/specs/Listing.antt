@@ -19,9 +19,9 @@ scalar_name scalars.Whole = codes "whole"
 scalar_name scalars.Decimal = codes "decimal"
 scalar_name scalars.Text = codes "text"
 
-abbrev pub truth_name : Bool → Text
-truth_name true = codes "true"
-truth_name false = codes "false"
+abbrev pub boolean_name : Bool → Text
+boolean_name true = codes "true"
+boolean_name false = codes "false"
 
 abbrev pub space : ℕ
 space = byte_of (codes " ")
@@ -34,7 +34,7 @@ abbrev pub numbered : List Text → ℕ → Text
 numbered texts n = space ∷ (decimal n ++ (space ∷ get_or texts n []))
 
 abbrev pub source_text : Code → Source → Text
-source_text code (sources.Bool holds) = space ∷ truth_name holds
+source_text code (sources.Bool holds) = space ∷ boolean_name holds
 source_text code (sources.Whole value) = space ∷ signed_decimal value
 source_text code (sources.Decimal millionths) = space ∷ signed_decimal millionths
 source_text code (sources.Text number) = numbered code.texts number
@@ -45,18 +45,18 @@ abbrev pub fields_text : Code → Op → Text
 fields_text code (ops.Push source) = source_text code source
 fields_text code (ops.MakeList scalar count) = space ∷ (scalar_name scalar ++ (space ∷ decimal count))
 fields_text code (ops.Field number) = numbered code.names number
-fields_text code (ops.Jump jump place) = space ∷ decimal place
+fields_text code (ops.Jump jump index) = space ∷ decimal index
 fields_text code (ops.Enter predicate step) = space ∷ decimal step
 fields_text code (ops.Step predicate enter) = space ∷ decimal enter
 fields_text code op = []
 
-abbrev pub line : Code → (place : Index) → Op → Text
-line code place op = decimal place ++ (space ∷ (name_of op ++ (fields_text code op ++ line_feed ∷ [])))
+abbrev pub line : Code → (index : Index) → Op → Text
+line code index op = decimal index ++ (space ∷ (name_of op ++ (fields_text code op ++ line_feed ∷ [])))
 
--- the lines of operations, the first of which is at `place`
-abbrev pub lines : Code → (place : Index) → List Op → Text
-lines code place [] = []
-lines code place (op ∷ ops) = line code place op ++ lines code (suc place) ops
+-- the lines of operations, the first of which is at `index`
+abbrev pub lines : Code → (index : Index) → List Op → Text
+lines code index [] = []
+lines code index (op ∷ ops) = line code index op ++ lines code (suc index) ops
 
 abbrev pub listing : Code → Text
 listing code = lines code 0 code.ops

@@ -140,7 +140,7 @@ fn of_equality(family: Family) -> Form
     ensures name { result.name.now ≡ (equality_row family).name }
 {
     match family {
-        Family::Truth => Form::new(41, "EqBool"),
+        Family::Boolean => Form::new(41, "EqBool"),
         Family::Number => Form::new(42, "EqNumber"),
         Family::Text => Form::new(43, "EqText"),
     }
@@ -242,7 +242,7 @@ const OPS: [Op; 63] = [
     Op::Binary(BinaryOperator::Compare(Compared::Mixed, Order::LessOrEqual)),
     Op::Binary(BinaryOperator::Compare(Compared::Mixed, Order::Greater)),
     Op::Binary(BinaryOperator::Compare(Compared::Mixed, Order::GreaterOrEqual)),
-    Op::Binary(BinaryOperator::Equal(Family::Truth)),
+    Op::Binary(BinaryOperator::Equal(Family::Boolean)),
     Op::Binary(BinaryOperator::Equal(Family::Number)),
     Op::Binary(BinaryOperator::Equal(Family::Text)),
     Op::Jump(Jump::And, 0),
@@ -272,8 +272,8 @@ const OPS: [Op; 63] = [
 fn op_with(code: u8) -> Option<Op>
     ensures { result ≡ among all_ops code }
 {
-    let place = usize::from(code).checked_sub(1)?;
-    OPS.get(place).copied()
+    let index = usize::from(code).checked_sub(1)?;
+    OPS.get(index).copied()
 }
 
 /// The operation that has a code in images of a version.

@@ -9,7 +9,7 @@ ghost use Rattle.ar_code.specs.Image.{image};
 use crate::error::ImageError;
 use crate::form::op_of;
 use crate::image_writing::MAGIC;
-use crate::reader::{byte_at, count_at, narrow_at, place, signed, wide_at};
+use crate::reader::{byte_at, count_at, narrow_at, offset, signed, wide_at};
 use crate::version::{Version, version_of};
 use ar_op::code::Code;
 use ar_op::op::{Op, Source};
@@ -26,7 +26,7 @@ fn bit_at(end: usize, bytes: &[u8]) -> Result<(bool, &[u8]), ImageError>
         [] => Err(ImageError::Truncated(end)),
         [0, rest @ ..] => Ok((false, rest)),
         [1, rest @ ..] => Ok((true, rest)),
-        [_, ..] => Err(ImageError::BadNumber(place(end, bytes))),
+        [_, ..] => Err(ImageError::BadNumber(offset(end, bytes))),
     }
 }
 
@@ -51,7 +51,7 @@ fn scalar_at(end: usize, bytes: &[u8]) -> Result<(Scalar, &[u8]), ImageError>
     let (number, rest) = wide_at(end, bytes)?;
     match scalar_of(number) {
         Some(scalar) => Ok((scalar, rest)),
-        None => Err(ImageError::BadNumber(place(end, bytes))),
+        None => Err(ImageError::BadNumber(offset(end, bytes))),
     }
 }
 
@@ -64,7 +64,7 @@ fn items_at(end: usize, bytes: &[u8]) -> Result<(u8, &[u8]), ImageError>
 {
     let (count, rest) = wide_at(end, bytes)?;
     if count > MOST_LITERAL_ITEMS as u64 {
-        return Err(ImageError::BadNumber(place(end, bytes)));
+        return Err(ImageError::BadNumber(offset(end, bytes)));
     }
     Ok((count as u8, rest))
 }
@@ -161,8 +161,8 @@ fn fields_at(
             Ok((Op::Field(number), rest))
         }
         Op::Jump(jump, _) => {
-            let (place, rest) = narrow_at(end, bytes)?;
-            Ok((Op::Jump(jump, place), rest))
+            let (index, rest) = narrow_at(end, bytes)?;
+            Ok((Op::Jump(jump, index), rest))
         }
         Op::Enter(predicate, _) => {
             let (step, rest) = narrow_at(end, bytes)?;
@@ -189,7 +189,7 @@ fn op_at(
         (op_at end version tables.texts tables.names bytes.now) }
     ensures shorter { IfOk result (λ read. length read.1.now ≤ length bytes.now) }
 {
-    let at = place(end, bytes);
+    let at = offset(end, bytes);
     let (code, rest) = byte_at(end, bytes)?;
     match op_of(version, code) {
         Some(op) => fields_at(end, at, tables, op, rest),
@@ -245,7 +245,7 @@ fn letters_at(end: usize, len: usize, bytes: &[u8]) -> Result<(&str, &[u8]), Ima
     let (letters, rest) = bytes.split_at(len);
     match as_text(letters) {
         Some(letters) => Ok((letters, rest)),
-        None => Err(ImageError::BadText(place(end, bytes))),
+        None => Err(ImageError::BadText(offset(end, bytes))),
     }
 }
 
@@ -351,7 +351,7 @@ fn parts_at(
     Ok((Code::of_parts(ops, texts, names), rest))
 }
 
-/// The code whose image bytes are.
+/// The code whose image the bytes are: that of `encode`, which writes one image for each code.
 ///
 /// # Errors
 ///
@@ -389,7 +389,7 @@ fn whole(end: usize, code: Code, rest: &[u8]) -> Result<Code, ImageError>
     if rest.is_empty() {
         Ok(code)
     } else {
-        Err(ImageError::Trailing(place(end, rest)))
+        Err(ImageError::Trailing(offset(end, rest)))
     }
 }
 

@@ -113,8 +113,8 @@ fn put_fields(out: &mut Vec<u8>, op: Op) -> Result<(), AllocError>
         Op::Push(source) => put_source(out, source),
         Op::MakeList { scalar, count } => put_list(out, scalar, count),
         Op::Field(number) => put_number(out, u64::from(number)),
-        Op::Jump(_, place) | Op::Enter(_, place) | Op::Step(_, place) => {
-            put_number(out, u64::from(place))
+        Op::Jump(_, index) | Op::Enter(_, index) | Op::Step(_, index) => {
+            put_number(out, u64::from(index))
         }
         Op::Unary(_) | Op::Binary(_) | Op::Return => Ok(()),
     }

@@ -26,9 +26,9 @@ fn scalar_name(scalar: Scalar) -> &'static str
 fn entry(texts: &[String], number: u32) -> &str
     ensures { result.now ≡ get_or (map string_bytes texts.now) number [] }
 {
-    let place = number as usize;
-    if place < texts.len() {
-        texts[place].as_str()
+    let index = number as usize;
+    if index < texts.len() {
+        texts[index].as_str()
     } else {
         ""
     }
@@ -62,15 +62,15 @@ fn put_fields(out: &mut String, code: &Code, op: Op) -> Result<(), AllocError>
         Op::Push(source) => put_source(out, code, source),
         Op::MakeList { scalar, count } => write!(out, " {} {count}", scalar_name(scalar)),
         Op::Field(number) => put_entry(out, code.names(), number),
-        Op::Jump(_, place) | Op::Enter(_, place) | Op::Step(_, place) => write!(out, " {place}"),
+        Op::Jump(_, index) | Op::Enter(_, index) | Op::Step(_, index) => write!(out, " {index}"),
         Op::Unary(_) | Op::Binary(_) | Op::Return => Ok(()),
     }
 }
 
-fn put_line(out: &mut String, code: &Code, place: usize, op: Op) -> Result<(), AllocError>
-    ensures { OnOk result (string_bytes out.new ≡ string_bytes out.old ++ line code.now place op) }
+fn put_line(out: &mut String, code: &Code, index: usize, op: Op) -> Result<(), AllocError>
+    ensures { OnOk result (string_bytes out.new ≡ string_bytes out.old ++ line code.now index op) }
 {
-    write!(out, "{place} {}", form_of(op).name)?;
+    write!(out, "{index} {}", form_of(op).name)?;
     put_fields(out, code, op)?;
     out.push('\n')
 }
@@ -86,8 +86,8 @@ pub fn listing(alloc: Global, code: &Code) -> Result<String, AllocError>
     ensures { IfOk result (λ text. string_bytes text ≡ listing code.now) }
 {
     let mut out = String::new(alloc);
-    for (place, op) in code.ops().iter().enumerate() {
-        put_line(&mut out, code, place, *op)?;
+    for (index, op) in code.ops().iter().enumerate() {
+        put_line(&mut out, code, index, *op)?;
     }
     Ok(out)
 }

@@ -6,7 +6,7 @@ ghost use Rattle.std.specs.Str.{bytes_eq};
 ghost use Rattle.ar_value.specs.Answer.{Gives};
 ghost use Rattle.ar_value.specs.Limits.{most_code_entries};
 ghost use Rattle.ar_code.specs.Image.{groups};
-ghost use Rattle.ar_code.specs.Decoding.{byte_at, count_at, cut_number, narrow, number_at, place, signed, spelled, sum_of, wide};
+ghost use Rattle.ar_code.specs.Decoding.{byte_at, count_at, cut_number, narrow, number_at, offset, signed, spelled, sum_of, wide};
 
 use crate::error::ImageError;
 use ar_value::limits::MOST_CODE_ENTRIES;
@@ -15,9 +15,9 @@ use ar_value::limits::MOST_CODE_ENTRIES;
 const MOST_NUMBER_BYTES: usize = 10;
 
 /// The offset where the bytes that are left begin.
-pub(crate) fn place(end: usize, bytes: &[u8]) -> usize
+pub(crate) fn offset(end: usize, bytes: &[u8]) -> usize
     requires { length bytes.now ≤ end }
-    ensures { result ≡ place end bytes.now }
+    ensures { result ≡ offset end bytes.now }
 {
     end - bytes.len()
 }
@@ -106,7 +106,7 @@ fn number_at(end: usize, greatest: u64, bytes: &[u8]) -> Result<(u64, &[u8]), Im
     let (text, rest) = bytes.split_at(len);
     match spelled(text, greatest) {
         Some(n) => Ok((n, rest)),
-        None => Err(ImageError::BadNumber(place(end, bytes))),
+        None => Err(ImageError::BadNumber(offset(end, bytes))),
     }
 }
 

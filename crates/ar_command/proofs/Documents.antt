@@ -19,7 +19,7 @@ use Rattle.ar_command_line.specs.declared.command_line.Command.{Command}
 use Rattle.ar_command_line.specs.declared.command_line.Command.TheVariants as commands
 use Rattle.ar_command.specs.declared.serving.Refusal.{Refusal}
 use Rattle.ar_value.specs.Answer.{IfRefused}
-use Rattle.ar_command.specs.Private.Refusing.{Tells, is_serve_memory}
+use Rattle.ar_command.specs.Private.Refusing.{Names, is_serve_memory}
 use Rattle.ar_command.specs.declared.serving.ServeError.{ServeError}
 use Rattle.ar_command.specs.declared.serving.ServeError.TheVariants.{OutOfMemory, Read, Refused, Work, Write}
 use Rattle.ar_workers.specs.declared.error.WorkError.{WorkError}
@@ -88,7 +88,7 @@ said_of_whole known after bytes command text closing reads says = of_known (λ i
 refused_of_whole : (known after : Option (List ℕ)) (bytes : List ℕ) (command : Command) (refusal : Refusal) → ReadsUpToLimit known after bytes → RefusesInput command bytes refusal → IfSome known (λ input. RefusesInput command input refusal)
 refused_of_whole known after bytes command refusal reads refuses = of_known (λ input. RefusesInput command input refusal) bytes known (same_json known after bytes reads) (λ input same. refuses_too input bytes same command refusal refuses)
 
-pub refused_by : (known after : Option (List ℕ)) (bytes : List ℕ) (command : Command) (Q : WorkError → Type 0) (error : ServeError) (refusal : Refusal) → ReadsUpToLimit known after bytes → IfRefused {X = Bool} is_serve_memory (Err error) (Tells (RefusesInput command bytes) Q) → error ≡ Refused refusal → IfSome known (λ input. RefusesInput command input refusal)
+pub refused_by : (known after : Option (List ℕ)) (bytes : List ℕ) (command : Command) (Q : WorkError → Type 0) (error : ServeError) (refusal : Refusal) → ReadsUpToLimit known after bytes → IfRefused {X = Bool} is_serve_memory (Err error) (Names (RefusesInput command bytes) Q) → error ≡ Refused refusal → IfSome known (λ input. RefusesInput command input refusal)
 refused_by known after bytes command Q (Refused own) refusal reads refuses same = let is : own ≡ refusal = cc in refused_of_whole known after bytes command refusal reads (subst (RefusesInput command bytes) is refuses)
 refused_by known after bytes command Q (Work own) refusal reads refuses same = absurd cc
 refused_by known after bytes command Q OutOfMemory refusal reads refuses same = absurd cc
@@ -96,23 +96,23 @@ refused_by known after bytes command Q Read refusal reads refuses same = absurd 
 refused_by known after bytes command Q Write refusal reads refuses same = absurd refuses
 
 with_text : (known : Option (List ℕ)) (command : Command) (text : List ℕ) (closing : Closing) (P : List ℕ → Type 0) → IfSome known (λ input. Says command input text closing) → P text → IfSome known (λ input. (text : List ℕ) × Says command input text closing × P text)
-with_text None command text closing P says goes = tt
-with_text (Some input) command text closing P says goes = (text, says, goes)
+with_text None command text closing P says proceeds = tt
+with_text (Some input) command text closing P says proceeds = (text, says, proceeds)
 
 pub written_of_whole : (known after : Option (List ℕ)) (bytes : List ℕ) (command : Command) (text : List ℕ) (own : Closing) (before contents : Option (List ℕ)) (result : Result Closing ServeError) → ReadsUpToLimit known after bytes → Says command bytes text own
     → IfOk result (λ closing. closing ≡ own) → OnOk result (Appends before contents text)
     → IfOk result (λ closing. IfSome known (λ input. (text : List ℕ) × Says command input text closing × Appends before contents text))
-written_of_whole known after bytes command text own before contents (Ok closing) reads says same goes =
-    with_text known command text closing (Appends before contents) (said_of_whole known after bytes command text closing reads (subst (Says command bytes text) (sym same) says)) goes
-written_of_whole known after bytes command text own before contents (Err error) reads says same goes = tt
+written_of_whole known after bytes command text own before contents (Ok closing) reads says same proceeds =
+    with_text known command text closing (Appends before contents) (said_of_whole known after bytes command text closing reads (subst (Says command bytes text) (sym same) says)) proceeds
+written_of_whole known after bytes command text own before contents (Err error) reads says same proceeds = tt
 
 front_of : (known : Option (List ℕ)) (command : Command) (text : List ℕ) (closing : Closing) (before contents : Option (List ℕ)) → IfSome known (λ input. Says command input text closing) → AppendsFront before contents text
     → IfSome known (WritesFront command before contents)
-front_of None command text closing before contents says goes = tt
-front_of (Some input) command text closing before contents says goes = record { text = text; closing = closing; says = says; wrote = goes }
+front_of None command text closing before contents says proceeds = tt
+front_of (Some input) command text closing before contents says proceeds = record { text = text; closing = closing; says = says; wrote = proceeds }
 
 pub cut_of_whole : (known after : Option (List ℕ)) (bytes : List ℕ) (command : Command) (text : List ℕ) (own : Closing) (before contents : Option (List ℕ)) (result : Result Closing ServeError) → ReadsUpToLimit known after bytes → Says command bytes text own
     → OnErr result (AppendsFront before contents text) → result ≡ Err Write → IfSome known (WritesFront command before contents)
-cut_of_whole known after bytes command text own before contents (Ok closing) reads says goes is = absurd cc
-cut_of_whole known after bytes command text own before contents (Err error) reads says goes is =
-    front_of known command text own before contents (said_of_whole known after bytes command text own reads says) goes
+cut_of_whole known after bytes command text own before contents (Ok closing) reads says proceeds is = absurd cc
+cut_of_whole known after bytes command text own before contents (Err error) reads says proceeds is =
+    front_of known command text own before contents (said_of_whole known after bytes command text own reads says) proceeds

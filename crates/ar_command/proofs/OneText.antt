@@ -132,8 +132,8 @@ module _ (text : Verified → List ℕ) (alike : (one other : Condition) → IsS
       let success = same_condition_text (condition_name run its.name (codes "success")) judge.success also.success same.0.0 in
       let failure = same_condition_text (condition_name run its.name (codes "failure")) judge.failure also.failure same.0.1 in
       let own : judge_text text run metric.name judge ≡ judge_text text run its.name also = rw name (rw success (rw failure refl)) in
-      let behind = same_judges_text run metrics others one other rest same.1 in
-      rw own (rw behind refl)
+      let later = same_judges_text run metrics others one other rest same.1 in
+      rw own (rw later refl)
 
   same_runs_text : (metrics others : List MetricPart) (one other : List RunPart) → map metric_view metrics ≡ map metric_view others → AreSameRuns one other → runs_text text metrics one ≡ runs_text text others other
   same_runs_text metrics others [] [] named same = refl
@@ -142,8 +142,8 @@ module _ (text : Verified → List ℕ) (alike : (one other : Condition) → IsS
   same_runs_text metrics others (run ∷ one) (also ∷ other) named same =
       let name = same.0.name in
       let own : judges_text text run.name metrics run.judges ≡ judges_text text also.name others also.judges = rw name (same_judges_text also.name metrics others run.judges also.judges named same.0.judges) in
-      let behind = same_runs_text metrics others one other named same.1 in
-      rw own (rw behind refl)
+      let later = same_runs_text metrics others one other named same.1 in
+      rw own (rw later refl)
 
   pub same_shown : (one other : Bundle) → IsSameBundle one other → runs_text text one.metrics one.runs ≡ runs_text text other.metrics other.runs
   same_shown one other same = same_runs_text one.metrics other.metrics one.runs other.runs same.metrics same.runs

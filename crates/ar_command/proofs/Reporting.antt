@@ -7,7 +7,7 @@ use Rattle.ar_bundle.specs.declared.history.Entry.{Entry}
 use Rattle.ar_bundle.proofs.SoFar.{lawful_are_so_far}
 use Rattle.ar_document.specs.Document.{ReadsInput}
 use Rattle.ar_value.specs.Answer.{IfRefused}
-use Rattle.ar_command.specs.Private.Refusing.{Tells, TellsWork, is_serve_memory}
+use Rattle.ar_command.specs.Private.Refusing.{Names, NamesWork, is_serve_memory}
 use Rattle.ar_command.specs.Serving.{Breaks, IsCauseOf, IsReported, RefusesInput, ReportsInOrder, Says}
 use Rattle.ar_command.specs.declared.answer.Said.{Said}
 use Rattle.ar_command.specs.declared.serving.Closing.{Closing}
@@ -33,7 +33,7 @@ module _ (command : Command) (workers : ℕ) (input : List ℕ) (bundle : Bundle
   in_order_says is (Err error) run = tt
 
 -- and why its workers ended
-pub breaks : (command own : Command) (input : List ℕ) (bundle : Bundle) → ReadsInput input (Ok bundle) → command ≡ own → {A : Type 0} (result : Result A ServeError) → IfRefused is_serve_memory result (TellsWork (IsCauseOf own bundle)) → IfRefused is_serve_memory result (Tells (RefusesInput command input) (Breaks command input))
+pub breaks : (command own : Command) (input : List ℕ) (bundle : Bundle) → ReadsInput input (Ok bundle) → command ≡ own → {A : Type 0} (result : Result A ServeError) → IfRefused is_serve_memory result (NamesWork (IsCauseOf own bundle)) → IfRefused is_serve_memory result (Names (RefusesInput command input) (Breaks command input))
 breaks command own input bundle reads is (Ok x) broken = tt
 breaks command own input bundle reads is (Err (Refused refusal)) broken = absurd broken
 breaks command own input bundle reads is (Err (Work error)) broken = record { bundle = bundle; reads = reads; cause = subst (λ command. IsCauseOf command bundle error) (sym is) broken.0; not_memory = broken.1 }

@@ -34,10 +34,10 @@ pub record Served {R W : Type 0} (command : Command) (taken remaining : R → Op
       → IfSome (remaining reader) (λ input. RefusesInput command input refusal)
   -- `Read` is returned exactly where a read failed
   pub read : result ≡ Err Read → read_failed later_reader ≡ true
-  pub read_told : read_failed later_reader ≡ true → result ≡ Err Read
+  pub read_reported : read_failed later_reader ≡ true → result ≡ Err Read
   -- and `Write` exactly where a write failed
   pub write : result ≡ Err Write → write_failed later_writer ≡ true
-  pub write_told : write_failed later_writer ≡ true → result ≡ Err Write
+  pub write_reported : write_failed later_writer ≡ true → result ≡ Err Write
   -- what a failed write leaves written is a front of what the command says of the bytes that were taken,
   pub cut : result ≡ Err Write
       → IsCut command (taken reader) (taken later_reader) (contents writer) (contents later_writer)

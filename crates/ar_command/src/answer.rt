@@ -7,7 +7,7 @@ ghost use Rattle.ar_bundle.specs.Lawful.{AllRise, AreLawful};
 ghost use Rattle.ar_bundle.specs.declared.history.Entry.{Entry};
 ghost use Rattle.ar_limits.specs.Metric.{is_unsuccessful};
 ghost use Rattle.ar_report.specs.Check.{check_text, list_text};
-ghost use Rattle.ar_command.specs.Private.Refusing.{Tells, TellsRefusal, TellsWork, is_serve_memory};
+ghost use Rattle.ar_command.specs.Private.Refusing.{Names, NamesRefusal, NamesWork, is_serve_memory};
 ghost use Rattle.ar_command.specs.Serving.{Breaks, IsCauseOf, IsReported, RefusesInput, ReportsInOrder, RunsAlone, RunsWith, Says, closing_of, line_of};
 ghost use Rattle.ar_command.specs.declared.serving.Closing.TheVariants.{Good};
 ghost use Rattle.ar_command_line.specs.declared.command_line.Command.TheVariants as commands;
@@ -33,11 +33,11 @@ pub(crate) struct Said {
     pub closing: Closing,
 }
 
-/// What a command for one thread says of an input.
+/// The text and the closing of a command that runs on one thread, for an input; or why the input is refused.
 pub(crate) fn answer(alloc: Global, command: Command, input: &[u8]) -> Result<Said, ServeError>
     requires { RunsAlone command }
     ensures said { IfOk result (λ said. Says command input.now (string_bytes said.text) said.closing) }
-    ensures refused { IfRefused is_serve_memory result (TellsRefusal (RefusesInput command input.now)) }
+    ensures refused { IfRefused is_serve_memory result (NamesRefusal (RefusesInput command input.now)) }
 {
     match command {
         Command::Eval => evaluated(alloc, input),
@@ -59,7 +59,7 @@ pub(crate) fn judged<G: Gate, R: Threads + Wait + Sync>(
     requires { RunsWith command MOST_WORKERS }
     ensures said { IfOk result (λ said. Says command input.now (string_bytes said.text) said.closing) }
     ensures ends { IfRefused is_serve_memory result
-        (Tells (RefusesInput command input.now) (Breaks command input.now)) }
+        (Names (RefusesInput command input.now) (Breaks command input.now)) }
 {
     let bundle = read_bundle(alloc, input)?;
     match command {
@@ -80,7 +80,7 @@ fn posted<G: Gate, R: Threads + Wait + Sync>(
     requires { (1 ≤ workers) × (workers ≤ MOST_WORKERS) }
     ensures said { IfOk result (λ said. (histories : List (List Entry))
         × IsReported bundle.now histories (string_bytes said.text) said.closing) }
-    ensures ends { IfRefused is_serve_memory result (TellsWork (IsCauseOf (commands.Run workers) bundle.now)) }
+    ensures ends { IfRefused is_serve_memory result (NamesWork (IsCauseOf (commands.Run workers) bundle.now)) }
 {
     let histories = run_all(rt, alloc, bundle, workers, gate)?;
     Ok(report_of(alloc, bundle, &histories)?)
@@ -97,7 +97,7 @@ fn put_in_order<G: Gate, R: Threads + Wait + Sync>(
     requires { (1 ≤ workers) × (workers ≤ MOST_WORKERS) }
     ensures said { IfOk result (λ said. (histories : List (List Entry)) × AllRise histories
         × IsReported bundle.now histories (string_bytes said.text) said.closing) }
-    ensures ends { IfRefused is_serve_memory result (TellsWork (IsCauseOf (commands.Ordered workers) bundle.now)) }
+    ensures ends { IfRefused is_serve_memory result (NamesWork (IsCauseOf (commands.Ordered workers) bundle.now)) }
 {
     let histories = run_ordered(rt, alloc, bundle, workers, gate)?;
     Ok(report_of(alloc, bundle, &histories)?)
@@ -122,7 +122,7 @@ fn line(alloc: Global, answer: Answer) -> Result<String, AllocError>
 
 fn evaluated(alloc: Global, input: &[u8]) -> Result<Said, ServeError>
     ensures said { IfOk result (λ said. Says commands.Eval input.now (string_bytes said.text) said.closing) }
-    ensures refused { IfRefused is_serve_memory result (TellsRefusal (RefusesInput commands.Eval input.now)) }
+    ensures refused { IfRefused is_serve_memory result (NamesRefusal (RefusesInput commands.Eval input.now)) }
 {
     let answer = evaluate(alloc, input)?;
     Ok(Said {
@@ -133,7 +133,7 @@ fn evaluated(alloc: Global, input: &[u8]) -> Result<Said, ServeError>
 
 fn checked(alloc: Global, input: &[u8]) -> Result<Said, ServeError>
     ensures said { IfOk result (λ said. Says commands.Check input.now (string_bytes said.text) said.closing) }
-    ensures refused { IfRefused is_serve_memory result (TellsRefusal (RefusesInput commands.Check input.now)) }
+    ensures refused { IfRefused is_serve_memory result (NamesRefusal (RefusesInput commands.Check input.now)) }
 {
     let bundle = read_bundle(alloc, input)?;
     Ok(Said {
@@ -144,7 +144,7 @@ fn checked(alloc: Global, input: &[u8]) -> Result<Said, ServeError>
 
 fn listed(alloc: Global, input: &[u8]) -> Result<Said, ServeError>
     ensures said { IfOk result (λ said. Says commands.List input.now (string_bytes said.text) said.closing) }
-    ensures refused { IfRefused is_serve_memory result (TellsRefusal (RefusesInput commands.List input.now)) }
+    ensures refused { IfRefused is_serve_memory result (NamesRefusal (RefusesInput commands.List input.now)) }
 {
     let bundle = read_bundle(alloc, input)?;
     Ok(Said {
@@ -155,7 +155,7 @@ fn listed(alloc: Global, input: &[u8]) -> Result<Said, ServeError>
 
 fn reported_in_order(alloc: Global, input: &[u8]) -> Result<Said, ServeError>
     ensures said { IfOk result (λ said. ReportsInOrder input.now (string_bytes said.text) said.closing) }
-    ensures refused { IfRefused is_serve_memory result (TellsRefusal (RefusesInput commands.Plain input.now)) }
+    ensures refused { IfRefused is_serve_memory result (NamesRefusal (RefusesInput commands.Plain input.now)) }
 {
     let bundle = read_bundle(alloc, input)?;
     Ok(plain_report(alloc, &bundle)?)

@@ -85,13 +85,13 @@ command_bounds (Some s) n is = named_bounds s.0 s.1 n is
 -- an answer that the words name
 in_bounds : (subcommand : Option (Text × List Row)) (r : Result Command UsageError) (command : Command) (n : ℕ)
     → IfOk r (λ command. command_named subcommand ≡ Ok command) → r ≡ Ok command → HasWorkers command n → Bounds n
-in_bounds subcommand (Ok own) command n told is has = command_bounds subcommand n (subst (λ (named : Result Command UsageError). Names named n) (sym (told ∙ is)) has)
-in_bounds subcommand (Err error) command n told is has = cc
+in_bounds subcommand (Ok own) command n reported is has = command_bounds subcommand n (subst (λ (named : Result Command UsageError). Names named n) (sym (reported ∙ is)) has)
+in_bounds subcommand (Err error) command n reported is has = cc
 
 pub run_in_bounds : (subcommand : Option (Text × List Row)) (r : Result Command UsageError) (n : ℕ)
     → IfOk r (λ command. command_named subcommand ≡ Ok command) → r ≡ Ok (Run n) → Bounds n
-run_in_bounds subcommand r n told is = in_bounds subcommand r (Run n) n told is refl
+run_in_bounds subcommand r n reported is = in_bounds subcommand r (Run n) n reported is refl
 
 pub ordered_in_bounds : (subcommand : Option (Text × List Row)) (r : Result Command UsageError) (n : ℕ)
     → IfOk r (λ command. command_named subcommand ≡ Ok command) → r ≡ Ok (Ordered n) → Bounds n
-ordered_in_bounds subcommand r n told is = in_bounds subcommand r (Ordered n) n told is refl
+ordered_in_bounds subcommand r n reported is = in_bounds subcommand r (Ordered n) n reported is refl

@@ -81,10 +81,10 @@ level_has : (s : Shape) (names : Names) (h : Held) (words : List Text) (has : Bo
     → level_fault s names h words has below ≡ [] → has ≡ true
 level_has s names h words has below help required none =
     let end = (walk s.rules names h words).held in
-    let behind_walk = later (walk_fault s names (walk_from h) words) _ none in
-    let behind_below = later below _ behind_walk in
-    let behind_settling = later (settle_fault s.rules s.args_override_self end) _ behind_below in
-    let checked = later (defaults_fault (settled s.rules end).rows s.rules) _ behind_settling in
+    let after_walk = later (walk_fault s names (walk_from h) words) _ none in
+    let after_below = later below _ after_walk in
+    let after_settling = later (settle_fault s.rules s.args_override_self end) _ after_below in
+    let checked = later (defaults_fault (settled s.rules end).rows s.rules) _ after_settling in
     has_subcommand s (finished s.rules end) has help required checked
 
 -- where `clap` finds no fault, the words name a command, but for its number of workers
@@ -133,11 +133,11 @@ answers a words m r is parses matches answer =
     let free = taken a words m is parses in
     let same : r ≡ command_named (subcommand_of application words) = answer ∙ ap command_named (subcommand_is a words m is matches) in
     let named : IfOk r (λ command. (fault_of application words ≡ []) × (command_named (subcommand_of application words) ≡ Ok command)) = if_named _ r same free in
-    let told : IfOk r (λ command. command_named (subcommand_of application words) ≡ Ok command) = IfOk-weaker r _ _ (λ command both. both.1) named in
+    let reported : IfOk r (λ command. command_named (subcommand_of application words) ≡ Ok command) = IfOk-weaker r _ _ (λ command both. both.1) named in
     record {
       named = named;
-      bounds = λ n. run_in_bounds (subcommand_of application words) r n told;
-      ordered_bounds = λ n. ordered_in_bounds (subcommand_of application words) r n told;
+      bounds = λ n. run_in_bounds (subcommand_of application words) r n reported;
+      ordered_bounds = λ n. ordered_in_bounds (subcommand_of application words) r n reported;
       words = λ bad _. named_or_workers words free (sym same ∙ bad);
       workers = λ bad. (free, sym same ∙ bad);
       conflict = λ bad. (free, sym same ∙ bad);
@@ -165,9 +165,9 @@ no_ok P (Err f) is = tt
 pub error_shows : {X F : Type 0} (a : App) (words : List Text) (e : Error) (r : Result (Option X) F) → a ≡ application → Parses a words (Err e)
     → IfOk r (λ text. is_some text ≡ is_request (kind_of e)) → (kind_of e ≡ OutOfMemory → IsErr r)
     → IfOk r (λ text. AsksForText (fault_of application words) (is_some text))
-error_shows {X} {F} a words e r is parses told memory = go (subst (λ (x : App). Parses x words (Err e)) is parses simple_and_free)
+error_shows {X} {F} a words e r is parses reported memory = go (subst (λ (x : App). Parses x words (Err e)) is parses simple_and_free)
   where
     go : HasKind (fault_of application words) e → IfOk r (λ text. AsksForText (fault_of application words) (is_some text))
     go (inl none) = no_ok _ r (memory none)
     go (inr among) =
-        IfOk-weaker r _ _ (λ text same. subst (AsksForText (fault_of application words)) (sym same) (among_shows (kind_of e) (fault_of application words) among)) told
+        IfOk-weaker r _ _ (λ text same. subst (AsksForText (fault_of application words)) (sym same) (among_shows (kind_of e) (fault_of application words) among)) reported

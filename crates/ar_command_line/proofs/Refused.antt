@@ -5,28 +5,28 @@ use Rattle.std.proofs.Math.ListN.{drop_of_length-le}
 use Rattle.ar_command_line.specs.Usage.{after, at_end, first_refused, number_of, workers_given}
 use Rattle.ar_command_line.specs.declared.usage.Next.{Next}
 
-module _ {B : Type 0} (text : B → List ℕ) (words : List B) (place : ℕ) (word : B) (within : place < length words) (is : word ≡ slice_index_or words place word) where
-  left : drop place words ≡ word ∷ drop (suc place) words
-  left = drop-cons words place word within ∙ ap (λ first. first ∷ drop (suc place) words) (sym is)
+module _ {B : Type 0} (text : B → List ℕ) (words : List B) (index : ℕ) (word : B) (within : index < length words) (is : word ≡ slice_index_or words index word) where
+  left : drop index words ≡ word ∷ drop (suc index) words
+  left = drop-cons words index word within ∙ ap (λ first. first ∷ drop (suc index) words) (sym is)
 
   pub taken : (next following : Next) (total : Option (Next × List ℕ)) → after next (text word) ≡ Some following
-      → first_refused next (map text (drop place words)) ≡ total → first_refused following (map text (drop (place + 1) words)) ≡ total
+      → first_refused next (map text (drop index words)) ≡ total → first_refused following (map text (drop (index + 1) words)) ≡ total
   unfolding first_refused
-  taken next following total goes so_far =
-      let first : first_refused next (text word ∷ map text (drop (suc place) words)) ≡ first_refused following (map text (drop (suc place) words)) = rw goes refl in
-      rw (add-one place) (sym first ∙ ap (λ rest. first_refused next (map text rest)) (sym left) ∙ so_far)
+  taken next following total proceeds so_far =
+      let first : first_refused next (text word ∷ map text (drop (suc index) words)) ≡ first_refused following (map text (drop (suc index) words)) = rw proceeds refl in
+      rw (add-one index) (sym first ∙ ap (λ rest. first_refused next (map text rest)) (sym left) ∙ so_far)
 
   pub refused : (next : Next) (total : Option (Next × List ℕ)) → after next (text word) ≡ None
-      → first_refused next (map text (drop place words)) ≡ total → Some (next, text word) ≡ total
+      → first_refused next (map text (drop index words)) ≡ total → Some (next, text word) ≡ total
   unfolding first_refused
   refused next total stops so_far =
-      let first : first_refused next (text word ∷ map text (drop (suc place) words)) ≡ Some (next, text word) = rw stops refl in
+      let first : first_refused next (text word ∷ map text (drop (suc index) words)) ≡ Some (next, text word) = rw stops refl in
       sym first ∙ ap (λ rest. first_refused next (map text rest)) (sym left) ∙ so_far
 
-pub none_left : {B : Type 0} (text : B → List ℕ) (words : List B) (place : ℕ) (next : Next) (total : Option (Next × List ℕ)) → length words ≤ place
-    → first_refused next (map text (drop place words)) ≡ total → at_end next ≡ total
+pub none_left : {B : Type 0} (text : B → List ℕ) (words : List B) (index : ℕ) (next : Next) (total : Option (Next × List ℕ)) → length words ≤ index
+    → first_refused next (map text (drop index words)) ≡ total → at_end next ≡ total
 unfolding first_refused
-none_left text words place next total past so_far = ap (λ rest. first_refused next (map text rest)) (sym (drop_of_length-le words past)) ∙ so_far
+none_left text words index next total past so_far = ap (λ rest. first_refused next (map text rest)) (sym (drop_of_length-le words past)) ∙ so_far
 
 -- ---- the number of workers
 

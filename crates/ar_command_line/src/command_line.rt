@@ -205,7 +205,7 @@ fn without_run<'a>(alloc: Global) -> Result<clap::Command<'a>, AllocError>
         .subcommand(subcommand(
             alloc,
             "check",
-            "Check a document, and tell what its conditions cost at most",
+            "Check a document, and print what its conditions cost at most",
             CHECK_HELP,
         ))?
         .subcommand(subcommand(
@@ -269,7 +269,7 @@ fn run<'a>(alloc: Global) -> Result<clap::Command<'a>, AllocError>
         .arg(flag(
             alloc,
             "ordered",
-            "Judge with workers, and report what --plain does: the events of a run stand in the order of their numbers",
+            "Judge with workers, and report what --plain does: the events of a run are in the order of their numbers",
         ))
 }
 

@@ -4,8 +4,8 @@ pub(crate) const HELP: &str =
     "Each command reads one JSON document from standard input and writes its answer to standard output.
 A fault is one line on standard error: where it is, its name, and what was found or expected.
 
-  eval   tries one condition on one value, before it goes into a template
-  check  checks a whole document, and tells what each condition may cost at most
+  eval   tries one condition on one value, before a template has it
+  check  checks a whole document, and prints what each condition may cost at most
   list   checks a whole document, and lists the code of each condition
   run    judges a document's measurements, and reports the phase of each run
 
@@ -129,11 +129,11 @@ A phase is Pending, Running, Successful, Failed, Error or Inconclusive. The exit
 run is Failed, Error or Inconclusive, as it is here.
 
 There are three ways to run, whose reports hold each measurement once:
-  --plain    one thread, one measurement after another. The events of a run stand in the order of
+  --plain    one thread, one measurement after another. The events of a run are in the order of
              their numbers. It starts no threads and is as fast as any where conditions are cheap.
   --ordered  workers, which are threads that judge measurements side by side. The report is byte for
              byte that of --plain: for pipelines, which compare reports and judge much.
   neither    workers, and each posts what it judged as soon as it has, as a controller would see it.
-             The events of a run stand in the order in which they were posted, which may differ from
+             The events of a run are in the order in which they were posted, which may differ from
              the order of their numbers, and from one start to the next."
 );

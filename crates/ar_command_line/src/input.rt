@@ -43,7 +43,7 @@ pub fn read_input<R: Source>(alloc: Global, source: &mut R) -> Result<Vec<u8>, I
     ensures ok { IfOk result (λ bytes. ReadsUpToLimit (R.remaining source.old) (R.remaining source.new) bytes.items) }
     ensures taken { IfOk result (λ bytes. Appends (R.taken source.old) (R.taken source.new) bytes.items) }
     ensures read { result ≡ Err InputError.Read → R.has_failed source.new ≡ true }
-    ensures told { R.has_failed source.new ≡ true → result ≡ Err InputError.Read }
+    ensures reported { R.has_failed source.new ≡ true → result ≡ Err InputError.Read }
 {
     let mut bytes = Vec::new(alloc);
     let mut chunk = zeros(alloc, CHUNK)?;

@@ -11,8 +11,8 @@ use Rattle.ar_op.specs.Machine.{nth}
 use Rattle.ar_op.specs.declared.op.Op.{Op}
 use Rattle.ar_op.specs.declared.op.Jump.TheVariants as jumps
 use Rattle.ar_op.specs.declared.op.Op.TheVariants.{Jump, Enter, Step, Return}
-use Rattle.ar_safety.specs.Places.{forward, has_ops, loops_around, in_innermost, names_well, nests_well, places_pass, same_loops, stays}
-use Rattle.ar_safety.proofs.Nesting.{IsNoLoop, all_pass_each, begins, behind_step, reaches_less, stands_below, stays_around}
+use Rattle.ar_safety.specs.Indices.{forward, has_ops, loops_around, in_innermost, names_well, nests_well, indices_pass, same_loops, stays}
+use Rattle.ar_safety.proofs.Nesting.{IsNoLoop, all_pass_each, begins, after_step, reaches_less, is_below, stays_around}
 
 -- an operation that continues at the next index alone
 abbrev pub IsPlain : Op → Type 0
@@ -24,8 +24,8 @@ IsPlain op = Unit {0}
 
 -- a jump where a boolean decides, or the next index
 abbrev pub SkipsTo : ℕ → Op → Type 0
-SkipsTo target (Jump jumps.And place) = place ≡ target
-SkipsTo target (Jump jumps.Or place) = place ≡ target
+SkipsTo target (Jump jumps.And index) = index ≡ target
+SkipsTo target (Jump jumps.Or index) = index ≡ target
 SkipsTo target op = ⊥
 
 there_are : (ops : List Op) {end : ℕ} → length ops ≡ suc end → has_ops ops ≡ Ok tt
@@ -33,8 +33,8 @@ there_are [] long = absurd (omega (arith, long))
 there_are (op ∷ ops) long = refl
 
 module _ (ops : List Op) where
-  abbrev pub At : (place : ℕ) → Op → Type 0
-  At place op = nth ops place ≡ Some op
+  abbrev pub At : (index : ℕ) → Op → Type 0
+  At index op = nth ops index ≡ Some op
 
   -- inside n loops, from an index up to another one
   pub data Block : ℕ → (begin end : ℕ) → Type 0 where
@@ -50,105 +50,105 @@ module _ (ops : List Op) where
   forth (one there plain) = omega arith
   forth (both first second) = let h = forth first in let k = forth second in omega arith
   forth (skips there to rest) = let h = forth rest in omega arith
-  forth (branches there met jump unmet) = let h = forth met in let k = forth unmet in omega arith
+  forth (branches there then_branch jump else_branch) = let h = forth then_branch in let k = forth else_branch in omega arith
   forth (loops few there body step) = let h = forth body in omega arith
 
-  one_op : (place : ℕ) (op other : Op) → At place op → At place other → op ≡ other
-  one_op place op other h k = cc
+  one_op : (index : ℕ) (op other : Op) → At index op → At index other → op ≡ other
+  one_op index op other h k = cc
 
   -- ---- indexes of operations
 
-  abbrev NamesWell : (place : ℕ) → Type 0
-  NamesWell place = (op : Op) → At place op → names_well ops place op ≡ None
+  abbrev NamesWell : (index : ℕ) → Type 0
+  NamesWell index = (op : Op) → At index op → names_well ops index op ≡ None
 
-  is_named : (place : ℕ) (op : Op) → At place op → names_well ops place op ≡ None → NamesWell place
-  is_named place op there well other also = subst (λ op. names_well ops place op ≡ None) (one_op place op other there also) well
+  is_named : (index : ℕ) (op : Op) → At index op → names_well ops index op ≡ None → NamesWell index
+  is_named index op there well other also = subst (λ op. names_well ops index op ≡ None) (one_op index op other there also) well
 
-  goes_forward : (place target : ℕ) → place < target → target < length ops → forward ops place target ≡ None
-  goes_forward place target ahead within = let first : nat_lt target (length ops) ≡ true = grind (arith, nat_tests) in let second : nat_lt place target ≡ true = grind (arith, nat_tests) in rw (first, second) refl
+  moves_forward : (index target : ℕ) → index < target → target < length ops → forward ops index target ≡ None
+  moves_forward index target ahead within = let first : nat_lt target (length ops) ≡ true = grind (arith, nat_tests) in let second : nat_lt index target ≡ true = grind (arith, nat_tests) in rw (first, second) refl
 
-  plain_named : (place : ℕ) (op : Op) → IsPlain op → names_well ops place op ≡ None
-  plain_named place (Jump jump target) plain = absurd plain
-  plain_named place (Enter predicate step) plain = absurd plain
-  plain_named place (Step predicate enter) plain = absurd plain
-  plain_named place op plain = refl
+  plain_named : (index : ℕ) (op : Op) → IsPlain op → names_well ops index op ≡ None
+  plain_named index (Jump jump target) plain = absurd plain
+  plain_named index (Enter predicate step) plain = absurd plain
+  plain_named index (Step predicate enter) plain = absurd plain
+  plain_named index op plain = refl
 
-  skip_named : (place target : ℕ) (op : Op) → SkipsTo target op → place < target → target < length ops → names_well ops place op ≡ None
-  skip_named place target (Jump jumps.And named) to ahead within = rw to (goes_forward place target ahead within)
-  skip_named place target (Jump jumps.Or named) to ahead within = rw to (goes_forward place target ahead within)
-  skip_named place target op to ahead within = absurd to
+  skip_named : (index target : ℕ) (op : Op) → SkipsTo target op → index < target → target < length ops → names_well ops index op ≡ None
+  skip_named index target (Jump jumps.And named) to ahead within = rw to (moves_forward index target ahead within)
+  skip_named index target (Jump jumps.Or named) to ahead within = rw to (moves_forward index target ahead within)
+  skip_named index target op to ahead within = absurd to
 
   itself : (n : ℕ) → (n == n) ≡ true
   itself n = grind (arith, nat_tests)
 
-  enter_named : (place step : ℕ) (predicate : Predicate) → place < step → step < length ops → At step (Step predicate place) → names_well ops place (Enter predicate step) ≡ None
-  enter_named place step predicate ahead within there = rw (goes_forward place step ahead within, there, same_predicate predicate, itself place) refl
+  enter_named : (index step : ℕ) (predicate : Predicate) → index < step → step < length ops → At step (Step predicate index) → names_well ops index (Enter predicate step) ≡ None
+  enter_named index step predicate ahead within there = rw (moves_forward index step ahead within, there, same_predicate predicate, itself index) refl
 
-  step_named : (place enter : ℕ) (predicate : Predicate) → enter < place → place < length ops → At enter (Enter predicate place) → names_well ops place (Step predicate enter) ≡ None
-  step_named place enter predicate ahead within there =
+  step_named : (index enter : ℕ) (predicate : Predicate) → enter < index → index < length ops → At enter (Enter predicate index) → names_well ops index (Step predicate enter) ≡ None
+  step_named index enter predicate ahead within there =
       let first : nat_lt enter (length ops) ≡ true = grind (arith, nat_tests) in
-      let second : nat_lt enter place ≡ true = grind (arith, nat_tests) in
-      rw (first, second, there, same_predicate predicate, itself place) refl
+      let second : nat_lt enter index ≡ true = grind (arith, nat_tests) in
+      rw (first, second, there, same_predicate predicate, itself index) refl
 
-  at_begin : (begin place : ℕ) → begin ≤ place → place < suc begin → NamesWell begin → NamesWell place
-  at_begin begin place from below well = let same : begin ≡ place = omega arith in subst NamesWell same well
+  at_begin : (begin index : ℕ) → begin ≤ index → index < suc begin → NamesWell begin → NamesWell index
+  at_begin begin index from below well = let same : begin ≡ index = omega arith in subst NamesWell same well
 
   -- the operations of a block name indexes as they should
-  pub names : {around begin end : ℕ} → Block around begin end → end < length ops → (place : ℕ) → begin ≤ place → place < end → NamesWell place
-  names (one {begin = begin} {op = op} there plain) within place from below = at_begin begin place from below (is_named begin op there (plain_named begin op plain))
-  names (both {middle = middle} first second) within place from below =
+  pub names : {around begin end : ℕ} → Block around begin end → end < length ops → (index : ℕ) → begin ≤ index → index < end → NamesWell index
+  names (one {begin = begin} {op = op} there plain) within index from below = at_begin begin index from below (is_named begin op there (plain_named begin op plain))
+  names (both {middle = middle} first second) within index from below =
       let k = forth second in
-      elim (leb_tells middle place) [
-        | inl w ↦ names second within place w.1 below
-        | inr w ↦ names first (omega arith) place from w.1
+      elim (leb_tells middle index) [
+        | inl w ↦ names second within index w.1 below
+        | inr w ↦ names first (omega arith) index from w.1
       ]
-  names (skips {begin = begin} {end = end} {op = op} there to rest) within place from below =
+  names (skips {begin = begin} {end = end} {op = op} there to rest) within index from below =
       let ahead = forth rest in
-      elim (leb_tells (suc begin) place) [
-        | inl w ↦ names rest within place w.1 below
-        | inr w ↦ at_begin begin place from w.1 (is_named begin op there (skip_named begin end op to (omega arith) within))
+      elim (leb_tells (suc begin) index) [
+        | inl w ↦ names rest within index w.1 below
+        | inr w ↦ at_begin begin index from w.1 (is_named begin op there (skip_named begin end op to (omega arith) within))
       ]
-  names (branches {begin = begin} {middle = middle} {end = end} branch met jump unmet) within place from below =
-      let ahead = forth met in
-      let further = forth unmet in
-      elim (leb_tells (suc middle) place) [
-        | inl w ↦ names unmet within place w.1 below
-        | inr w ↦ elim (leb_tells middle place) [
-          | inl v ↦ at_begin middle place v.1 w.1 (is_named middle (Jump jumps.Always end) jump (goes_forward middle end (omega arith) within))
-          | inr v ↦ elim (leb_tells (suc begin) place) [
-            | inl u ↦ names met (omega arith) place u.1 v.1
-            | inr u ↦ at_begin begin place from u.1 (is_named begin (Jump jumps.Branch (suc middle)) branch (goes_forward begin (suc middle) (omega arith) (omega arith)))
+  names (branches {begin = begin} {middle = middle} {end = end} branch then_branch jump else_branch) within index from below =
+      let ahead = forth then_branch in
+      let further = forth else_branch in
+      elim (leb_tells (suc middle) index) [
+        | inl w ↦ names else_branch within index w.1 below
+        | inr w ↦ elim (leb_tells middle index) [
+          | inl v ↦ at_begin middle index v.1 w.1 (is_named middle (Jump jumps.Always end) jump (moves_forward middle end (omega arith) within))
+          | inr v ↦ elim (leb_tells (suc begin) index) [
+            | inl u ↦ names then_branch (omega arith) index u.1 v.1
+            | inr u ↦ at_begin begin index from u.1 (is_named begin (Jump jumps.Branch (suc middle)) branch (moves_forward begin (suc middle) (omega arith) (omega arith)))
           ]
         ]
       ]
-  names (loops {begin = begin} {step = step} {predicate = predicate} few enter body step_there) within place from below =
+  names (loops {begin = begin} {step = step} {predicate = predicate} few enter body step_there) within index from below =
       let ahead = forth body in
-      elim (leb_tells step place) [
-        | inl w ↦ at_begin step place w.1 below (is_named step (Step predicate begin) step_there (step_named step begin predicate (omega arith) (omega arith) enter))
-        | inr w ↦ elim (leb_tells (suc begin) place) [
-          | inl v ↦ names body (omega arith) place v.1 w.1
-          | inr v ↦ at_begin begin place from v.1 (is_named begin (Enter predicate step) enter (enter_named begin step predicate (omega arith) (omega arith) step_there))
+      elim (leb_tells step index) [
+        | inl w ↦ at_begin step index w.1 below (is_named step (Step predicate begin) step_there (step_named step begin predicate (omega arith) (omega arith) enter))
+        | inr w ↦ elim (leb_tells (suc begin) index) [
+          | inl v ↦ names body (omega arith) index v.1 w.1
+          | inr v ↦ at_begin begin index from v.1 (is_named begin (Enter predicate step) enter (enter_named begin step predicate (omega arith) (omega arith) step_there))
         ]
       ]
 
   -- ---- loops
 
   -- where the names of all indexes are as they should be
-  module _ (paired : (place : ℕ) (op : Op) → At place op → names_well ops place op ≡ None) where
-    abbrev NestsWell : (place : ℕ) → Type 0
-    NestsWell place = (op : Op) → At place op → nests_well ops place op ≡ None
+  module _ (paired : (index : ℕ) (op : Op) → At index op → names_well ops index op ≡ None) where
+    abbrev NestsWell : (index : ℕ) → Type 0
+    NestsWell index = (op : Op) → At index op → nests_well ops index op ≡ None
 
     abbrev EntersBelow : ℕ → Type 0
     EntersBelow n = (enter step : ℕ) (predicate : Predicate) → enter < n → At enter (Enter predicate step) → nests_well ops enter (Enter predicate step) ≡ None
 
-    is_nested : (place : ℕ) (op : Op) → At place op → nests_well ops place op ≡ None → NestsWell place
-    is_nested place op there well other also = subst (λ op. nests_well ops place op ≡ None) (one_op place op other there also) well
+    is_nested : (index : ℕ) (op : Op) → At index op → nests_well ops index op ≡ None → NestsWell index
+    is_nested index op there well other also = subst (λ op. nests_well ops index op ≡ None) (one_op index op other there also) well
 
-    plain_nested : (place : ℕ) (op : Op) → IsPlain op → nests_well ops place op ≡ None
-    plain_nested place (Jump jump target) plain = absurd plain
-    plain_nested place (Enter predicate step) plain = absurd plain
-    plain_nested place Return plain = absurd plain
-    plain_nested place op plain = refl
+    plain_nested : (index : ℕ) (op : Op) → IsPlain op → nests_well ops index op ≡ None
+    plain_nested index (Jump jump target) plain = absurd plain
+    plain_nested index (Enter predicate step) plain = absurd plain
+    plain_nested index Return plain = absurd plain
+    plain_nested index op plain = refl
 
     no_loop : (op : Op) → IsPlain op → IsNoLoop op
     no_loop (Jump jump target) plain = tt
@@ -161,13 +161,13 @@ module _ (ops : List Op) where
     alike_loops [] = refl
     alike_loops (enter ∷ enters) = rw (itself enter, alike_loops enters) refl
 
-    stays_there : (place target : ℕ) → loops_around ops place ≡ loops_around ops target → stays ops place target ≡ None
-    stays_there place target same = rw (same, alike_loops (loops_around ops target)) refl
+    stays_there : (index target : ℕ) → loops_around ops index ≡ loops_around ops target → stays ops index target ≡ None
+    stays_there index target same = rw (same, alike_loops (loops_around ops target)) refl
 
-    skip_nested : (place target : ℕ) (op : Op) → SkipsTo target op → loops_around ops place ≡ loops_around ops target → nests_well ops place op ≡ None
-    skip_nested place target (Jump jumps.And named) to same = rw to (stays_there place target same)
-    skip_nested place target (Jump jumps.Or named) to same = rw to (stays_there place target same)
-    skip_nested place target op to same = absurd to
+    skip_nested : (index target : ℕ) (op : Op) → SkipsTo target op → loops_around ops index ≡ loops_around ops target → nests_well ops index op ≡ None
+    skip_nested index target (Jump jumps.And named) to same = rw to (stays_there index target same)
+    skip_nested index target (Jump jumps.Or named) to same = rw to (stays_there index target same)
+    skip_nested index target op to same = absurd to
 
     skip_no_loop : (target : ℕ) (op : Op) → SkipsTo target op → IsNoLoop op
     skip_no_loop target (Jump jumps.And named) to = tt
@@ -176,75 +176,75 @@ module _ (ops : List Op) where
 
     -- the operations of a block are nested as they should be, and after it the same loops are around as before it
     record Nested (around begin end : ℕ) : Type 0 where
-      each : (place : ℕ) → begin ≤ place → place < end → NestsWell place
-      behind : loops_around ops end ≡ loops_around ops begin
+      each : (index : ℕ) → begin ≤ index → index < end → NestsWell index
+      later : loops_around ops end ≡ loops_around ops begin
 
-    below_or_in : (begin end : ℕ) → EntersBelow begin → ((place : ℕ) → begin ≤ place → place < end → NestsWell place) → EntersBelow end
+    below_or_in : (begin end : ℕ) → EntersBelow begin → ((index : ℕ) → begin ≤ index → index < end → NestsWell index) → EntersBelow end
     below_or_in begin end before each enter step predicate below there = elim (leb_tells begin enter) [
       | inl w ↦ each enter w.1 below (Enter predicate step) there
       | inr w ↦ before enter step predicate w.1 there
     ]
 
-    reach_less : (enters : List ℕ) (before place : ℕ) → before ≤ place → in_innermost ops enters place ≡ true → in_innermost ops enters before ≡ true
-    reach_less [] before place less h = refl
-    reach_less (enter ∷ outer) before place less h = reaches_less (nth ops enter) place before less h
+    reach_less : (enters : List ℕ) (before index : ℕ) → before ≤ index → in_innermost ops enters index ≡ true → in_innermost ops enters before ≡ true
+    reach_less [] before index less h = refl
+    reach_less (enter ∷ outer) before index less h = reaches_less (nth ops enter) index before less h
 
-    at_first : (begin place : ℕ) → begin ≤ place → place < suc begin → NestsWell begin → NestsWell place
-    at_first begin place from below well = let same : begin ≡ place = omega arith in subst NestsWell same well
+    at_first : (begin index : ℕ) → begin ≤ index → index < suc begin → NestsWell begin → NestsWell index
+    at_first begin index from below well = let same : begin ≡ index = omega arith in subst NestsWell same well
 
     -- after an operation that begins no loop
-    no_enter : (place : ℕ) (op : Op) → At place op → IsNoLoop op → EntersBelow place → EntersBelow (suc place)
-    no_enter place op there plain before enter step predicate below enter_there = elim (leb_tells place enter) [
-      | inl w ↦ let same : place ≡ enter = omega (arith, w.1) in absurd (subst IsNoLoop (one_op place op (Enter predicate step) there (subst (λ at. At at (Enter predicate step)) (sym same) enter_there)) plain)
+    no_enter : (index : ℕ) (op : Op) → At index op → IsNoLoop op → EntersBelow index → EntersBelow (suc index)
+    no_enter index op there plain before enter step predicate below enter_there = elim (leb_tells index enter) [
+      | inl w ↦ let same : index ≡ enter = omega (arith, w.1) in absurd (subst IsNoLoop (one_op index op (Enter predicate step) there (subst (λ at. At at (Enter predicate step)) (sym same) enter_there)) plain)
       | inr w ↦ before enter step predicate w.1 enter_there
     ]
 
     nest : {around begin end : ℕ} → Block around begin end → in_innermost ops (loops_around ops begin) end ≡ true → length (loops_around ops begin) ≡ around → EntersBelow begin → Nested around begin end
     nest (one {begin = begin} {op = op} there plain) inner deep before =
-        record { each = λ place from below. at_first begin place from below (is_nested begin op there (plain_nested begin op plain)); behind = stays_around ops paired begin op there (no_loop op plain) }
+        record { each = λ index from below. at_first begin index from below (is_nested begin op there (plain_nested begin op plain)); later = stays_around ops paired begin op there (no_loop op plain) }
     nest (both {begin = begin} {middle = middle} {end = end} first second) inner deep before =
         let k = forth second in
         let one_nest = nest first (reach_less (loops_around ops begin) middle end k inner) deep before in
-        let other = nest second (rw one_nest.behind inner) (rw one_nest.behind deep) (below_or_in begin middle before one_nest.each) in
+        let other = nest second (rw one_nest.later inner) (rw one_nest.later deep) (below_or_in begin middle before one_nest.each) in
         record {
-          each = λ place from below. elim (leb_tells middle place) [
-            | inl w ↦ other.each place w.1 below
-            | inr w ↦ one_nest.each place from w.1
+          each = λ index from below. elim (leb_tells middle index) [
+            | inl w ↦ other.each index w.1 below
+            | inr w ↦ one_nest.each index from w.1
           ];
-          behind = other.behind ∙ one_nest.behind;
+          later = other.later ∙ one_nest.later;
         }
     nest (skips {begin = begin} {end = end} {op = op} there to rest) inner deep before =
         let next : loops_around ops (suc begin) ≡ loops_around ops begin = stays_around ops paired begin op there (skip_no_loop end op to) in
         let rest_nest = nest rest (rw next inner) (rw next deep) (no_enter begin op there (skip_no_loop end op to) before) in
-        let behind : loops_around ops end ≡ loops_around ops begin = rest_nest.behind ∙ next in
+        let later : loops_around ops end ≡ loops_around ops begin = rest_nest.later ∙ next in
         record {
-          each = λ place from below. elim (leb_tells (suc begin) place) [
-            | inl w ↦ rest_nest.each place w.1 below
-            | inr w ↦ at_first begin place from w.1 (is_nested begin op there (skip_nested begin end op to (sym behind)))
+          each = λ index from below. elim (leb_tells (suc begin) index) [
+            | inl w ↦ rest_nest.each index w.1 below
+            | inr w ↦ at_first begin index from w.1 (is_nested begin op there (skip_nested begin end op to (sym later)))
           ];
-          behind = behind;
+          later = later;
         }
-    nest (branches {begin = begin} {middle = middle} {end = end} branch met jump unmet) inner deep before =
-        let ahead = forth met in
-        let further = forth unmet in
+    nest (branches {begin = begin} {middle = middle} {end = end} branch then_branch jump else_branch) inner deep before =
+        let ahead = forth then_branch in
+        let further = forth else_branch in
         let next : loops_around ops (suc begin) ≡ loops_around ops begin = stays_around ops paired begin (Jump jumps.Branch (suc middle)) branch tt in
-        let met_nest = nest met (rw next (reach_less (loops_around ops begin) middle end (omega arith) inner)) (rw next deep) (no_enter begin (Jump jumps.Branch (suc middle)) branch tt before) in
-        let at_jump : loops_around ops middle ≡ loops_around ops begin = met_nest.behind ∙ next in
-        let behind_jump : loops_around ops (suc middle) ≡ loops_around ops begin = stays_around ops paired middle (Jump jumps.Always end) jump tt ∙ at_jump in
-        let unmet_nest = nest unmet (rw behind_jump inner) (rw behind_jump deep) (no_enter middle (Jump jumps.Always end) jump tt (below_or_in (suc begin) middle (no_enter begin (Jump jumps.Branch (suc middle)) branch tt before) met_nest.each)) in
-        let behind : loops_around ops end ≡ loops_around ops begin = unmet_nest.behind ∙ behind_jump in
+        let then_nest = nest then_branch (rw next (reach_less (loops_around ops begin) middle end (omega arith) inner)) (rw next deep) (no_enter begin (Jump jumps.Branch (suc middle)) branch tt before) in
+        let at_jump : loops_around ops middle ≡ loops_around ops begin = then_nest.later ∙ next in
+        let after_jump : loops_around ops (suc middle) ≡ loops_around ops begin = stays_around ops paired middle (Jump jumps.Always end) jump tt ∙ at_jump in
+        let else_nest = nest else_branch (rw after_jump inner) (rw after_jump deep) (no_enter middle (Jump jumps.Always end) jump tt (below_or_in (suc begin) middle (no_enter begin (Jump jumps.Branch (suc middle)) branch tt before) then_nest.each)) in
+        let later : loops_around ops end ≡ loops_around ops begin = else_nest.later ∙ after_jump in
         record {
-          each = λ place from below. elim (leb_tells (suc middle) place) [
-            | inl w ↦ unmet_nest.each place w.1 below
-            | inr w ↦ elim (leb_tells middle place) [
-              | inl v ↦ at_first middle place v.1 w.1 (is_nested middle (Jump jumps.Always end) jump (stays_there middle end (at_jump ∙ sym behind)))
-              | inr v ↦ elim (leb_tells (suc begin) place) [
-                | inl u ↦ met_nest.each place u.1 v.1
-                | inr u ↦ at_first begin place from u.1 (is_nested begin (Jump jumps.Branch (suc middle)) branch (stays_there begin (suc middle) (sym behind_jump)))
+          each = λ index from below. elim (leb_tells (suc middle) index) [
+            | inl w ↦ else_nest.each index w.1 below
+            | inr w ↦ elim (leb_tells middle index) [
+              | inl v ↦ at_first middle index v.1 w.1 (is_nested middle (Jump jumps.Always end) jump (stays_there middle end (at_jump ∙ sym later)))
+              | inr v ↦ elim (leb_tells (suc begin) index) [
+                | inl u ↦ then_nest.each index u.1 v.1
+                | inr u ↦ at_first begin index from u.1 (is_nested begin (Jump jumps.Branch (suc middle)) branch (stays_there begin (suc middle) (sym after_jump)))
               ]
             ]
           ];
-          behind = behind;
+          later = later;
         }
     nest (loops {around = around} {begin = begin} {step = step} {predicate = predicate} few enter body step_there) inner deep before =
         let ahead = forth body in
@@ -252,45 +252,45 @@ module _ (ops : List Op) where
         let shallow : nat_le (length (loops_around ops (suc begin))) most_loops ≡ true = rw (next, deep) (le-leb (suc around) most_loops few) in
         let inside_it : in_innermost ops (loops_around ops begin) step ≡ true = reach_less (loops_around ops begin) step (suc step) (omega arith) inner in
         let enter_nested : nests_well ops begin (Enter predicate step) ≡ None = rw (shallow, inside_it) refl in
-        let entered = below_or_in begin (suc begin) before (λ place from below. at_first begin place from below (is_nested begin (Enter predicate step) enter enter_nested)) in
+        let entered = below_or_in begin (suc begin) before (λ index from below. at_first begin index from below (is_nested begin (Enter predicate step) enter enter_nested)) in
         let own : in_innermost ops (loops_around ops (suc begin)) step ≡ true = rw (next, enter) (le-leb step step (omega arith)) in
         let body_nest = nest body own (rw next (ap suc deep)) entered in
         record {
-          each = λ place from below. elim (leb_tells step place) [
-            | inl w ↦ at_first step place w.1 below (is_nested step (Step predicate begin) step_there refl)
-            | inr w ↦ elim (leb_tells (suc begin) place) [
-              | inl v ↦ body_nest.each place v.1 w.1
-              | inr v ↦ at_first begin place from v.1 (is_nested begin (Enter predicate step) enter enter_nested)
+          each = λ index from below. elim (leb_tells step index) [
+            | inl w ↦ at_first step index w.1 below (is_nested step (Step predicate begin) step_there refl)
+            | inr w ↦ elim (leb_tells (suc begin) index) [
+              | inl v ↦ body_nest.each index v.1 w.1
+              | inr v ↦ at_first begin index from v.1 (is_nested begin (Enter predicate step) enter enter_nested)
             ]
           ];
-          behind = behind_step ops paired step (below_or_in (suc begin) step entered body_nest.each) predicate step begin step_there (omega arith);
+          later = after_step ops paired step (below_or_in (suc begin) step entered body_nest.each) predicate step begin step_there (omega arith);
         }
 
   -- ---- code that is a block and then Return
 
   module _ (end : ℕ) (block : Block 0 0 end) (last : At end Return) (long : length ops ≡ suc end) where
-    names_each : (place : ℕ) (op : Op) → At place op → names_well ops place op ≡ None
-    names_each place op there =
-        let below = stands_below ops place op there in
-        elim (leb_tells end place) [
-          | inl w ↦ at_begin end place w.1 (omega (arith, below, long)) (is_named end Return last refl) op there
-          | inr w ↦ names block (omega arith) place (omega arith) w.1 op there
+    names_each : (index : ℕ) (op : Op) → At index op → names_well ops index op ≡ None
+    names_each index op there =
+        let below = is_below ops index op there in
+        elim (leb_tells end index) [
+          | inl w ↦ at_begin end index w.1 (omega (arith, below, long)) (is_named end Return last refl) op there
+          | inr w ↦ names block (omega arith) index (omega arith) w.1 op there
         ]
 
-    nests_each : (place : ℕ) (op : Op) → At place op → nests_well ops place op ≡ None
-    nests_each place op there =
-        let below = stands_below ops place op there in
+    nests_each : (index : ℕ) (op : Op) → At index op → nests_well ops index op ≡ None
+    nests_each index op there =
+        let below = is_below ops index op there in
         let nested = nest names_each block refl refl (λ enter step predicate less there. absurd (omega arith)) in
-        elim (leb_tells end place) [
-          | inl w ↦ at_first names_each end place w.1 (omega (arith, below, long)) (is_nested names_each end Return last (rw nested.behind refl)) op there
-          | inr w ↦ nested.each place (omega arith) w.1 op there
+        elim (leb_tells end index) [
+          | inl w ↦ at_first names_each end index w.1 (omega (arith, below, long)) (is_nested names_each end Return last (rw nested.later refl)) op there
+          | inr w ↦ nested.each index (omega arith) w.1 op there
         ]
 
     some_ops : has_ops ops ≡ Ok tt
     some_ops = there_are ops long
 
     -- the passes 1 to 4 find nothing
-    pub places_are_well : places_pass ops ≡ Ok tt
-    places_are_well =
+    pub indices_are_well : indices_pass ops ≡ Ok tt
+    indices_are_well =
         let minus : length ops - 1 ≡ end = omega (arith, long) in
         rw (some_ops, all_pass_each (names_well ops) ops names_each, all_pass_each (nests_well ops) ops nests_each, minus, last) refl

@@ -19,9 +19,9 @@ use Rattle.ar_compile.specs.Length.{length_of, operations, operations_of_items}
 use Rattle.ar_tree.specs.Limits.{AllInLimits, InLimits, IsShortLiteral}
 use Rattle.ar_compile.proofs.Standing.{GrowTables, is_there, items_grow, length_is, one_text_grows, tables_grow, then_grow}
 
-all_behind : {A : Type 0} (P : A → Type 0) (xs ys : List A) → AllByRecursion P xs → AllByRecursion P ys → AllByRecursion P (xs ++ ys)
-all_behind P [] ys h k = k
-all_behind P (x ∷ xs) ys h k = (h.0, all_behind P xs ys h.1 k)
+all_after : {A : Type 0} (P : A → Type 0) (xs ys : List A) → AllByRecursion P xs → AllByRecursion P ys → AllByRecursion P (xs ++ ys)
+all_after P [] ys h k = k
+all_after P (x ∷ xs) ys h k = (h.0, all_after P xs ys h.1 k)
 
 below : (texts : List (List ℕ)) (n : ℕ) (text : List ℕ) → nth texts n ≡ Some text → n < length texts
 below [] n text is = absurd cc
@@ -69,7 +69,7 @@ all_short text (first ∷ others) short h = (h.0, short_by (bytes_eq first text)
 
 literal_little : (literal : Literal) (tables : Tables) → IsShortLiteral literal → Little tables (literal_tables literal tables) 1
 literal_little literals.Nil tables short = no_growth tables 1
-literal_little (literals.Bool truth) tables short = no_growth tables 1
+literal_little (literals.Bool boolean) tables short = no_growth tables 1
 literal_little (literals.Whole value) tables short = no_growth tables 1
 literal_little (literals.Decimal millionths) tables short = no_growth tables 1
 literal_little (literals.Text letters) tables short = record { texts = one_longer letters tables.texts; names = omega arith; short_texts = λ h. all_short letters tables.texts short h; short_names = λ h. h }
@@ -116,12 +116,12 @@ mutual
   tables_little (typed.either left right) tables h =
       then_little tables (tables_with left tables) (tables_with right (tables_with left tables)) (operations left) (operations right) (operations left + 1 + operations right) (jump_room (operations left) (operations right))
       (tables_little left tables h.0) (tables_little right (tables_with left tables) h.1)
-  tables_little (typed.choice condition met unmet) tables h =
+  tables_little (typed.choice condition then_branch else_branch) tables h =
       let c = tables_with condition tables in
-      let m = tables_with met c in
-      let u = tables_with unmet m in
-      then_little tables c u (operations condition) (operations met + operations unmet) (operations condition + 1 + operations met + 1 + operations unmet) (choice_room (operations condition) (operations met) (operations unmet))
-      (tables_little condition tables h.0) (then_little c m u (operations met) (operations unmet) (operations met + operations unmet) (exact_room (operations met) (operations unmet)) (tables_little met c h.1) (tables_little unmet m h.2))
+      let m = tables_with then_branch c in
+      let u = tables_with else_branch m in
+      then_little tables c u (operations condition) (operations then_branch + operations else_branch) (operations condition + 1 + operations then_branch + 1 + operations else_branch) (choice_room (operations condition) (operations then_branch) (operations else_branch))
+      (tables_little condition tables h.0) (then_little c m u (operations then_branch) (operations else_branch) (operations then_branch + operations else_branch) (exact_room (operations then_branch) (operations else_branch)) (tables_little then_branch c h.1) (tables_little else_branch m h.2))
   tables_little (typed.listed scalar items) tables h = more_room tables (tables_with_items items tables) (operations_of_items items) (operations_of_items items + 1) (one_room (operations_of_items items)) (items_little items tables h.0)
   tables_little (typed.predicate predicate list body) tables h =
       then_little tables (tables_with list tables) (tables_with body (tables_with list tables)) (operations list) (operations body) (operations list + 1 + operations body + 1) (loop_room (operations list) (operations body))
@@ -143,70 +143,70 @@ module _ (final : Tables) where
   AllFit ops = AllByRecursion Fits ops
 
   one_fits : (ops : List Op) (op : Op) → AllFit ops → Fits op → AllFit (ops ++ op ∷ [])
-  one_fits ops op h k = all_behind Fits ops (op ∷ []) h (k, tt)
+  one_fits ops op h k = all_after Fits ops (op ∷ []) h (k, tt)
 
   two_fit : (xs ys : List Op) (op : Op) → AllFit xs → AllFit ys → Fits op → AllFit (xs ++ (ys ++ op ∷ []))
-  two_fit xs ys op h k l = all_behind Fits xs (ys ++ op ∷ []) h (one_fits ys op k l)
+  two_fit xs ys op h k l = all_after Fits xs (ys ++ op ∷ []) h (one_fits ys op k l)
 
   jump_fits : (xs ys : List Op) (op : Op) → AllFit xs → AllFit ys → Fits op → AllFit (xs ++ (op ∷ ys))
-  jump_fits xs ys op h k l = all_behind Fits xs (op ∷ ys) h (l, k)
+  jump_fits xs ys op h k l = all_after Fits xs (op ∷ ys) h (l, k)
 
   literal_fits : (literal : Literal) (tables : Tables) → GrowTables (literal_tables literal tables) final → Fits (literal_op literal tables)
   literal_fits literals.Nil tables grow = tt
-  literal_fits (literals.Bool truth) tables grow = tt
+  literal_fits (literals.Bool boolean) tables grow = tt
   literal_fits (literals.Whole value) tables grow = tt
   literal_fits (literals.Decimal millionths) tables grow = tt
   literal_fits (literals.Text letters) tables grow = below final.texts (index_among letters tables.texts) letters (grow.0 (index_among letters tables.texts) letters (is_there letters tables.texts))
 
   mutual
-    code_fits : (tree : Typed) (place : ℕ) (tables : Tables) → InLimits tree → GrowTables (tables_with tree tables) final → AllFit (code_at place tables tree)
-    code_fits typed.result place tables h grow = (tt, tt)
-    code_fits typed.item place tables h grow = (tt, tt)
-    code_fits (typed.literal literal) place tables h grow = (literal_fits literal tables grow, tt)
-    code_fits (typed.field owner name) place tables h grow =
+    code_fits : (tree : Typed) (index : ℕ) (tables : Tables) → InLimits tree → GrowTables (tables_with tree tables) final → AllFit (code_at index tables tree)
+    code_fits typed.result index tables h grow = (tt, tt)
+    code_fits typed.item index tables h grow = (tt, tt)
+    code_fits (typed.literal literal) index tables h grow = (literal_fits literal tables grow, tt)
+    code_fits (typed.field owner name) index tables h grow =
         let to = tables_with owner tables in
         let n = index_among name to.names in
-        one_fits (code_at place tables owner) (Field n) (code_fits owner place tables h.0 (grow.0, λ k found is. grow.1 k found (one_text_grows name to.names k found is)))
+        one_fits (code_at index tables owner) (Field n) (code_fits owner index tables h.0 (grow.0, λ k found is. grow.1 k found (one_text_grows name to.names k found is)))
         (below final.names n name (grow.1 n name (is_there name to.names)))
-    code_fits (typed.unary operator operand) place tables h grow = one_fits (code_at place tables operand) (Unary operator) (code_fits operand place tables h grow) tt
-    code_fits (typed.binary operator left right) place tables h grow =
+    code_fits (typed.unary operator operand) index tables h grow = one_fits (code_at index tables operand) (Unary operator) (code_fits operand index tables h grow) tt
+    code_fits (typed.binary operator left right) index tables h grow =
         let tl = tables_with left tables in
-        two_fit (code_at place tables left) (code_at (place + operations left) tl right) (Binary operator) (code_fits left place tables h.0 (then_grow tl (tables_with right tl) final (tables_grow right tl) grow))
-        (code_fits right (place + operations left) tl h.1 grow) tt
-    code_fits (typed.both left right) place tables h grow =
+        two_fit (code_at index tables left) (code_at (index + operations left) tl right) (Binary operator) (code_fits left index tables h.0 (then_grow tl (tables_with right tl) final (tables_grow right tl) grow))
+        (code_fits right (index + operations left) tl h.1 grow) tt
+    code_fits (typed.both left right) index tables h grow =
         let tl = tables_with left tables in
-        jump_fits (code_at place tables left) (code_at (place + operations left + 1) tl right) (Jump jumps.And (place + operations left + 1 + operations right))
-        (code_fits left place tables h.0 (then_grow tl (tables_with right tl) final (tables_grow right tl) grow)) (code_fits right (place + operations left + 1) tl h.1 grow) tt
-    code_fits (typed.either left right) place tables h grow =
+        jump_fits (code_at index tables left) (code_at (index + operations left + 1) tl right) (Jump jumps.And (index + operations left + 1 + operations right))
+        (code_fits left index tables h.0 (then_grow tl (tables_with right tl) final (tables_grow right tl) grow)) (code_fits right (index + operations left + 1) tl h.1 grow) tt
+    code_fits (typed.either left right) index tables h grow =
         let tl = tables_with left tables in
-        jump_fits (code_at place tables left) (code_at (place + operations left + 1) tl right) (Jump jumps.Or (place + operations left + 1 + operations right))
-        (code_fits left place tables h.0 (then_grow tl (tables_with right tl) final (tables_grow right tl) grow)) (code_fits right (place + operations left + 1) tl h.1 grow) tt
-    code_fits (typed.choice condition met unmet) place tables h grow =
+        jump_fits (code_at index tables left) (code_at (index + operations left + 1) tl right) (Jump jumps.Or (index + operations left + 1 + operations right))
+        (code_fits left index tables h.0 (then_grow tl (tables_with right tl) final (tables_grow right tl) grow)) (code_fits right (index + operations left + 1) tl h.1 grow) tt
+    code_fits (typed.choice condition then_branch else_branch) index tables h grow =
         let c = tables_with condition tables in
-        let m = tables_with met c in
-        let u = tables_with unmet m in
-        let p = place + operations condition + 1 in
-        let q = p + operations met + 1 in
-        let met_grows = then_grow m u final (tables_grow unmet m) grow in
-        let met_code = code_at p c met in
-        let unmet_code = code_at q m unmet in
-        let behind = jump_fits met_code unmet_code (Jump jumps.Always (q + operations unmet)) (code_fits met p c h.1 met_grows) (code_fits unmet q m h.2 grow) tt in
-        jump_fits (code_at place tables condition) (met_code ++ (Jump jumps.Always (q + operations unmet) ∷ unmet_code)) (Jump jumps.Branch q)
-        (code_fits condition place tables h.0 (then_grow c m final (tables_grow met c) met_grows)) behind tt
-    code_fits (typed.listed scalar items) place tables h grow = one_fits (items_at place tables items) (MakeList scalar (how_many items)) (items_fit items place tables h.0 grow) h.1
-    code_fits (typed.predicate predicate list body) place tables h grow =
+        let m = tables_with then_branch c in
+        let u = tables_with else_branch m in
+        let p = index + operations condition + 1 in
+        let q = p + operations then_branch + 1 in
+        let then_grows = then_grow m u final (tables_grow else_branch m) grow in
+        let then_code = code_at p c then_branch in
+        let else_code = code_at q m else_branch in
+        let later = jump_fits then_code else_code (Jump jumps.Always (q + operations else_branch)) (code_fits then_branch p c h.1 then_grows) (code_fits else_branch q m h.2 grow) tt in
+        jump_fits (code_at index tables condition) (then_code ++ (Jump jumps.Always (q + operations else_branch) ∷ else_code)) (Jump jumps.Branch q)
+        (code_fits condition index tables h.0 (then_grow c m final (tables_grow then_branch c) then_grows)) later tt
+    code_fits (typed.listed scalar items) index tables h grow = one_fits (items_at index tables items) (MakeList scalar (how_many items)) (items_fit items index tables h.0 grow) h.1
+    code_fits (typed.predicate predicate list body) index tables h grow =
         let l = tables_with list tables in
-        let p = place + operations list + 1 in
+        let p = index + operations list + 1 in
         let body_code = code_at p l body in
-        jump_fits (code_at place tables list) (body_code ++ Step predicate (place + operations list) ∷ []) (Enter predicate (p + operations body))
-        (code_fits list place tables h.0 (then_grow l (tables_with body l) final (tables_grow body l) grow)) (one_fits body_code (Step predicate (place + operations list)) (code_fits body p l h.1 grow) tt) tt
+        jump_fits (code_at index tables list) (body_code ++ Step predicate (index + operations list) ∷ []) (Enter predicate (p + operations body))
+        (code_fits list index tables h.0 (then_grow l (tables_with body l) final (tables_grow body l) grow)) (one_fits body_code (Step predicate (index + operations list)) (code_fits body p l h.1 grow) tt) tt
 
-    items_fit : (items : Typeds) (place : ℕ) (tables : Tables) → AllInLimits items → GrowTables (tables_with_items items tables) final → AllFit (items_at place tables items)
-    items_fit typed.none place tables h grow = tt
-    items_fit (typed.more first others) place tables h grow =
+    items_fit : (items : Typeds) (index : ℕ) (tables : Tables) → AllInLimits items → GrowTables (tables_with_items items tables) final → AllFit (items_at index tables items)
+    items_fit typed.none index tables h grow = tt
+    items_fit (typed.more first others) index tables h grow =
         let t = tables_with first tables in
-        all_behind Fits (code_at place tables first) (items_at (place + operations first) t others) (code_fits first place tables h.0 (then_grow t (tables_with_items others t) final (items_grow others t) grow))
-        (items_fit others (place + operations first) t h.1 grow)
+        all_after Fits (code_at index tables first) (items_at (index + operations first) t others) (code_fits first index tables h.0 (then_grow t (tables_with_items others t) final (items_grow others t) grow))
+        (items_fit others (index + operations first) t h.1 grow)
 
 -- ---- conditions
 

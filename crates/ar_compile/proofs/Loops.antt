@@ -5,7 +5,7 @@ use Rattle.std.proofs.lemmas.Bool.{eq-eqb}
 use Rattle.ar_value.proofs.Predicates.{itself}
 use Rattle.ar_value.specs.Answer.{◌>>=◌}
 use Rattle.ar_value.specs.Fits.{all_items, fits}
-use Rattle.ar_value.specs.Operators.{Failure, Meaning, faulted, ill_kinded, truth}
+use Rattle.ar_value.specs.Operators.{Failure, Meaning, faulted, ill_kinded, boolean}
 use Rattle.ar_value.specs.Shape.{Shape}
 use Rattle.ar_value.specs.Value.{Value, Items, count, item, items_of, no_items}
 use Rattle.ar_value.specs.Value as values
@@ -14,7 +14,7 @@ use Rattle.ar_value.specs.declared.operator.Predicate.{Predicate}
 use Rattle.ar_value.specs.declared.operator.Predicate.TheVariants as predicates
 use Rattle.ar_tree.specs.Meaning.{all_hold, any_holds, mean, none_holds, over, those}
 use Rattle.ar_tree.specs.Typed.{Typed}
-use Rattle.ar_value.specs.Kind.{truth_kind}
+use Rattle.ar_value.specs.Kind.{boolean_kind}
 use Rattle.ar_check.proofs.Means.{MeansKind, both_hold}
 use Rattle.ar_check.proofs.Operands.{on_bool}
 use Rattle.ar_op.specs.Code.{Code}
@@ -66,7 +66,7 @@ module _ (code : Code) (result : Value) (answer : Result Bool Fault) (body : Typ
 
   -- whether the predicate holds of an item
   abbrev holds : Value → Result Bool Failure
-  holds value = mean result (Some value) body >>= truth
+  holds value = mean result (Some value) body >>= boolean
 
   -- what is given of the items found before, and of those that are left
   abbrev gathered : (Items → Value) → (found : List Value) → Items → Meaning
@@ -173,7 +173,7 @@ module _ (code : Code) (result : Value) (answer : Result Bool Fault) (body : Typ
 
   module _ (predicate : Predicate) (shape : Shape) (begins : At code enter (Enter predicate step)) (steps : At code step (Step predicate enter))
       (runs : (loop : Loop) → loop.floor ≡ length operands → fits loop.here shape ≡ true → LeadsTo code result answer (mean result (Some loop.here) body) step operands (loop ∷ loops) → Reached code result answer (suc enter) operands (loop ∷ loops))
-      (says : (v : Value) → fits v shape ≡ true → MeansKind truth_kind (mean result (Some v) body)) where
+      (says : (v : Value) → fits v shape ≡ true → MeansKind boolean_kind (mean result (Some v) body)) where
     -- what the next item leads to, or the end
     abbrev After : Items → Type 0
     After rest = (loop : Loop) (found held : List Value) (around : List Loop) (cost : ℕ) → loop.enter ≡ enter → loop.floor ≡ length operands → LeadsBy (left_over predicate found rest) Left
@@ -198,12 +198,12 @@ module _ (code : Code) (result : Value) (answer : Result Bool Fault) (body : Typ
     run_item first rest found fit after h =
         let loop = loop_at first rest found in
         runs loop refl fit
-        (leads_fit code result answer truth_kind (mean result (Some first) body) (λ v. LeadsBy (truth v) (λ b. Then predicate (found_by b loop) rest (decided predicate b)))
+        (leads_fit code result answer boolean_kind (mean result (Some first) body) (λ v. LeadsBy (boolean v) (λ b. Then predicate (found_by b loop) rest (decided predicate b)))
         (λ v. Reached code result answer step (v ∷ operands) (loop ∷ loops)) (says first fit)
-        (λ v fits k. on_bool (λ v. LeadsBy (truth v) (λ b. Then predicate (found_by b loop) rest (decided predicate b)) → Reached code result answer step (v ∷ operands) (loop ∷ loops))
+        (λ v fits k. on_bool (λ v. LeadsBy (boolean v) (λ b. Then predicate (found_by b loop) rest (decided predicate b)) → Reached code result answer step (v ∷ operands) (loop ∷ loops))
         (λ b k. by_op code result answer (Step predicate enter) step (values.bool b ∷ operands) (loop ∷ loops) steps (room_for_one 1 (length operands) (length operands) refl (none_above (length operands)))
         (λ cost. at_step first rest found b cost after k)) v fits k)
-        (leads_bind code result answer (mean result (Some first) body) truth (λ b. Then predicate (found_by b loop) rest (decided predicate b)) (by_item predicate found first rest h)))
+        (leads_bind code result answer (mean result (Some first) body) boolean (λ b. Then predicate (found_by b loop) rest (decided predicate b)) (by_item predicate found first rest h)))
 
     after_all : (rest : Items) → all_items (λ v. fits v shape) rest ≡ true → After rest
     after_all values.no_items fit loop found held around cost is floor h = at_end predicate found h cost

@@ -2,7 +2,7 @@
 use Rattle.std.proofs.Common.{◌≡◌, ℕ, suc, true, nat_le, Option, Some, None, IfSome, Ok, Err, refl, subst}
 use Rattle.ar_value.specs.Answer.{◌>>=◌}
 use Rattle.ar_value.specs.Fits.{all_items, fits}
-use Rattle.ar_value.specs.Kind.{Kind, shaped, fits_kind, scalar_shape, truth_kind}
+use Rattle.ar_value.specs.Kind.{Kind, shaped, fits_kind, scalar_shape, boolean_kind}
 use Rattle.ar_value.specs.Operators.{Meaning, faulted, ill_kinded}
 use Rattle.ar_value.specs.Operators as operators
 use Rattle.ar_value.specs.Shape.{Shape}
@@ -42,8 +42,8 @@ given_means None kind m is h = absurd cc
 unary_means : (operator : UnaryOperator) (of kind : Kind) (v : Value) → unary_kind operator of ≡ Some kind → fits_kind v of ≡ true → MeansKind kind (operators.unary_meaning operator v)
 unary_means operator of kind v gives fits = given_means (unary_kind operator of) kind (operators.unary_meaning operator v) gives (unary_sound operator of v fits)
 
-binary_means : (operator : BinaryOperator) (of beside kind : Kind) (v w : Value) → binary_kind operator of beside ≡ Some kind → fits_kind v of ≡ true → fits_kind w beside ≡ true → MeansKind kind (operators.binary_meaning operator v w)
-binary_means operator of beside kind v w gives fits also = given_means (binary_kind operator of beside) kind (operators.binary_meaning operator v w) gives (binary_sound operator of beside v w fits also)
+binary_means : (operator : BinaryOperator) (of next_to kind : Kind) (v w : Value) → binary_kind operator of next_to ≡ Some kind → fits_kind v of ≡ true → fits_kind w next_to ≡ true → MeansKind kind (operators.binary_meaning operator v w)
+binary_means operator of next_to kind v w gives fits also = given_means (binary_kind operator of next_to) kind (operators.binary_meaning operator v w) gives (binary_sound operator of next_to v w fits also)
 
 module _ (wanted : Shape) (result : Value) (fit : fits result wanted ≡ true) where
   mutual
@@ -56,24 +56,24 @@ module _ (wanted : Shape) (result : Value) (fit : fits result wanted ≡ true) w
         field_means result at_hand fields shape owner name named (kinded_means inner at_hand there around owner (shaped (shapes.object fields)) owner_is)
     kinded_means inner at_hand there around (typed.unary operator operand) kind (of_unary {of = of} operand_is gives) =
         means_then (λ v. fits_kind v of ≡ true) _ (mean result at_hand operand) (operators.unary_meaning operator) (kinded_means inner at_hand there around operand of operand_is) (λ v fits. unary_means operator of kind v gives fits)
-    kinded_means inner at_hand there around (typed.binary operator left right) kind (of_binary {of = of} {beside = beside} left_is right_is gives) =
+    kinded_means inner at_hand there around (typed.binary operator left right) kind (of_binary {of = of} {next_to = next_to} left_is right_is gives) =
         means_then (λ v. fits_kind v of ≡ true) _ (mean result at_hand left) (λ v. mean result at_hand right >>= λ w. operators.binary_meaning operator v w) (kinded_means inner at_hand there around left of left_is)
-        (λ v fits. means_then (λ w. fits_kind w beside ≡ true) _ (mean result at_hand right) (λ w. operators.binary_meaning operator v w) (kinded_means inner at_hand there around right beside right_is)
-        (λ w also. binary_means operator of beside kind v w gives fits also))
+        (λ v fits. means_then (λ w. fits_kind w next_to ≡ true) _ (mean result at_hand right) (λ w. operators.binary_meaning operator v w) (kinded_means inner at_hand there around right next_to right_is)
+        (λ w also. binary_means operator of next_to kind v w gives fits also))
     kinded_means inner at_hand there around (typed.both left right) kind (of_both left_is right_is) =
-        both_means result at_hand left right (kinded_means inner at_hand there around left truth_kind left_is) (kinded_means inner at_hand there around right truth_kind right_is)
+        both_means result at_hand left right (kinded_means inner at_hand there around left boolean_kind left_is) (kinded_means inner at_hand there around right boolean_kind right_is)
     kinded_means inner at_hand there around (typed.either left right) kind (of_either left_is right_is) =
-        one_means result at_hand left right (kinded_means inner at_hand there around left truth_kind left_is) (kinded_means inner at_hand there around right truth_kind right_is)
-    kinded_means inner at_hand there around (typed.choice condition met unmet) kind (of_choice {left = left} {right = right} condition_is met_is unmet_is merged) =
-        choice_means result at_hand kind condition met unmet (kinded_means inner at_hand there around condition truth_kind condition_is)
-        (means_more left kind (left_fits left right kind merged) (mean result at_hand met) (kinded_means inner at_hand there around met left met_is))
-        (means_more right kind (right_fits left right kind merged) (mean result at_hand unmet) (kinded_means inner at_hand there around unmet right unmet_is))
+        one_means result at_hand left right (kinded_means inner at_hand there around left boolean_kind left_is) (kinded_means inner at_hand there around right boolean_kind right_is)
+    kinded_means inner at_hand there around (typed.choice condition then_branch else_branch) kind (of_choice {left = left} {right = right} condition_is then_is else_is merged) =
+        choice_means result at_hand kind condition then_branch else_branch (kinded_means inner at_hand there around condition boolean_kind condition_is)
+        (means_more left kind (left_fits left right kind merged) (mean result at_hand then_branch) (kinded_means inner at_hand there around then_branch left then_is))
+        (means_more right kind (right_fits left right kind merged) (mean result at_hand else_branch) (kinded_means inner at_hand there around else_branch right else_is))
     kinded_means inner at_hand there around (typed.listed scalar items) kind (of_list all_are) =
         means_then (Fill result at_hand (scalar_shape scalar) (how_many items)) _ (items_mean result at_hand items) (λ vs. Ok (values.list vs)) (all_mean inner at_hand there around items scalar all_are)
         (λ vs all. both (nat_le (count vs) (how_many items)) (all_items (λ v. fits v (scalar_shape scalar)) vs) (as_long result at_hand (count vs) (how_many items) all.0) all.1)
     kinded_means inner at_hand there around (typed.predicate predicate list body) kind (of_predicate {max = max} {shape = shape} list_is within body_is) =
         predicate_means result at_hand predicate shape max list body (kinded_means inner at_hand there around list (shaped (shapes.list shape max)) list_is)
-        (λ v fits. kinded_means (Some shape) (Some v) fits (suc around) body truth_kind body_is)
+        (λ v fits. kinded_means (Some shape) (Some v) fits (suc around) body boolean_kind body_is)
 
     all_mean : (inner : Option Shape) (at_hand : Option Value) → IsThere inner at_hand → (around : ℕ) (items : Typeds) (scalar : Scalar) → AllKinded wanted inner around items scalar
         → Means (Fill result at_hand (scalar_shape scalar) (how_many items)) (items_mean result at_hand items)

@@ -93,8 +93,8 @@ mutual
   fields_taken nothing first all nothing = (no_fields, nothing, nothing)
   fields_taken (fields {name = name} inner others) first all (fields {left = left} {shape = shape} {lefts = lefts} {others = rest} outer further) =
       let front = taken_first inner left shape outer in
-      let behind = fields_taken others lefts rest further in
-      (field name front.0 behind.0, fields front.1 behind.1, fields front.2 behind.2)
+      let later = fields_taken others lefts rest further in
+      (field name front.0 later.0, fields front.1 later.1, fields front.2 later.2)
 
 -- three shapes, the last two of which are taken together first
 shapes_taken : (first second third both all : Shape) → widest second third ≡ Some both → widest first both ≡ Some all → (front : Shape) × (widest first second ≡ Some front) × (widest front third ≡ Some all)
@@ -161,14 +161,14 @@ Front first second third all = (front : Kind) × (merge first second ≡ Some fr
 
 of_shapes : (first second third : Shape) (both all : Kind) → merge (shaped second) (shaped third) ≡ Some both → merge (shaped first) both ≡ Some all → Front (shaped first) (shaped second) (shaped third) all
 of_shapes first second third both all h k =
-    let behind = to_both second third both h in
-    let parts = common_parts second third behind.0 behind.1 in
-    let with_behind : merge (shaped first) (shaped (with_nil (is_optional second || is_optional third) behind.0)) ≡ Some all = ap (merge (shaped first)) behind.2 ∙ k in
-    let whole_is = to_both first (with_nil (is_optional second || is_optional third) behind.0) all with_behind in
-    let taken = shapes_taken (plain first) (plain second) (plain third) behind.0 whole_is.0 behind.1 (ap (widest (plain first)) (sym parts.0) ∙ whole_is.1) in
+    let later = to_both second third both h in
+    let parts = common_parts second third later.0 later.1 in
+    let with_after : merge (shaped first) (shaped (with_nil (is_optional second || is_optional third) later.0)) ≡ Some all = ap (merge (shaped first)) later.2 ∙ k in
+    let whole_is = to_both first (with_nil (is_optional second || is_optional third) later.0) all with_after in
+    let taken = shapes_taken (plain first) (plain second) (plain third) later.0 whole_is.0 later.1 (ap (widest (plain first)) (sym parts.0) ∙ whole_is.1) in
     let front_parts = common_parts first second taken.0 taken.1 in
     let front = with_nil (is_optional first || is_optional second) taken.0 in
-    let nils : (is_optional front || is_optional third) ≡ (is_optional first || is_optional (with_nil (is_optional second || is_optional third) behind.0)) =
+    let nils : (is_optional front || is_optional third) ≡ (is_optional first || is_optional (with_nil (is_optional second || is_optional third) later.0)) =
     ap (λ b. b || is_optional third) front_parts.1 ∙ either_of_three (is_optional first) (is_optional second) (is_optional third) ∙ ap (λ b. is_optional first || b) (sym parts.1) in
     let last : merge (shaped front) (shaped third) ≡ Some (shaped (with_nil (is_optional front || is_optional third) whole_is.0)) = of_both front third whole_is.0 (ap (λ s. widest s (plain third)) front_parts.0 ∙ taken.2) in
     (shaped front, of_both first second taken.0 taken.1, last ∙ ap (λ b. Some (shaped (with_nil b whole_is.0))) nils ∙ ap Some whole_is.2)
@@ -181,13 +181,13 @@ or_true true = refl
 or_true false = refl
 
 -- a shape next to nil, which may be nil
-beside_nil : (first third : Shape) (all : Kind) → merge (shaped first) (shaped (or_nil third)) ≡ Some all → Front (shaped first) nil (shaped third) all
-beside_nil first third all h =
+next_to_nil : (first third : Shape) (all : Kind) → merge (shaped first) (shaped (or_nil third)) ≡ Some all → Front (shaped first) nil (shaped third) all
+next_to_nil first third all h =
     let parts = to_both first (or_nil third) all h in
     (shaped (or_nil first), refl, of_both (or_nil first) third parts.0 parts.1 ∙ ap (λ b. Some (shaped (with_nil b parts.0))) (sym (or_true (is_optional first))) ∙ ap Some parts.2)
 
-behind_nil : (first second : Shape) (all : Kind) → merge (shaped first) (shaped (or_nil second)) ≡ Some all → Front (shaped first) (shaped second) nil all
-behind_nil first second all h =
+after_nil : (first second : Shape) (all : Kind) → merge (shaped first) (shaped (or_nil second)) ≡ Some all → Front (shaped first) (shaped second) nil all
+after_nil first second all h =
     let parts = to_both first (or_nil second) all h in
     let front_parts = common_parts first second parts.0 parts.1 in (
       shaped (with_nil (is_optional first || is_optional second) parts.0),
@@ -197,10 +197,10 @@ behind_nil first second all h =
 
 before_nil : (second third : Shape) (both all : Kind) → merge (shaped second) (shaped third) ≡ Some both → merge nil both ≡ Some all → Front nil (shaped second) (shaped third) all
 before_nil second third both all h k =
-    let behind = to_both second third both h in
-    let parts = common_parts second third behind.0 behind.1 in
-    let all_is : Some (shaped (optional (plain (with_nil (is_optional second || is_optional third) behind.0)))) ≡ Some all = ap (merge nil) behind.2 ∙ k in
-    (shaped (or_nil second), refl, of_both (or_nil second) third behind.0 behind.1 ∙ ap (λ s. Some (shaped (optional s))) (sym parts.0) ∙ all_is)
+    let later = to_both second third both h in
+    let parts = common_parts second third later.0 later.1 in
+    let all_is : Some (shaped (optional (plain (with_nil (is_optional second || is_optional third) later.0)))) ≡ Some all = ap (merge nil) later.2 ∙ k in
+    (shaped (or_nil second), refl, of_both (or_nil second) third later.0 later.1 ∙ ap (λ s. Some (shaped (optional s))) (sym parts.0) ∙ all_is)
 
 merged_front : (first second third both all : Kind) → merge second third ≡ Some both → merge first both ≡ Some all → Front first second third all
 merged_front nil nil nil both all h k = let same : nil ≡ both = one_kind nil both h in (nil, refl, ap (merge nil) same ∙ k)
@@ -208,8 +208,8 @@ merged_front nil nil (shaped third) both all h k = let same : shaped (or_nil thi
 merged_front nil (shaped second) nil both all h k = let same : shaped (or_nil second) ≡ both = one_kind (shaped (or_nil second)) both h in (shaped (or_nil second), refl, ap (merge nil) same ∙ k)
 merged_front (shaped first) nil nil both all h k = let same : nil ≡ both = one_kind nil both h in (shaped (or_nil first), refl, ap (merge (shaped first)) same ∙ k)
 merged_front nil (shaped second) (shaped third) both all h k = before_nil second third both all h k
-merged_front (shaped first) nil (shaped third) both all h k = beside_nil first third all (ap (merge (shaped first)) (one_kind (shaped (or_nil third)) both h) ∙ k)
-merged_front (shaped first) (shaped second) nil both all h k = behind_nil first second all (ap (merge (shaped first)) (one_kind (shaped (or_nil second)) both h) ∙ k)
+merged_front (shaped first) nil (shaped third) both all h k = next_to_nil first third all (ap (merge (shaped first)) (one_kind (shaped (or_nil third)) both h) ∙ k)
+merged_front (shaped first) (shaped second) nil both all h k = after_nil first second all (ap (merge (shaped first)) (one_kind (shaped (or_nil second)) both h) ∙ k)
 merged_front (shaped first) (shaped second) (shaped third) both all h k = of_shapes first second third both all h k
 
 -- ---- operands
@@ -231,17 +231,17 @@ FrontOf first second third all = (front : List Kind) × (merged first second ≡
 kinds_front : (first second third both all : List Kind) → merged second third ≡ Some both → merged first both ≡ Some all → FrontOf first second third all
 kinds_front [] [] [] both all h k = let same : [] ≡ both = one_list [] both h in ([], refl, ap (merged []) same ∙ k)
 kinds_front (x ∷ xs) (y ∷ ys) (z ∷ zs) both all h k =
-    let behind = both_parts (merge y z) (merged ys zs) both h in
-    let whole_is = both_parts (merge x behind.0) (merged xs behind.1) all (ap (merged (x ∷ xs)) behind.4 ∙ k) in
-    let head = merged_front x y z behind.0 whole_is.0 behind.2 whole_is.2 in
-    let tail = kinds_front xs ys zs behind.1 whole_is.1 behind.3 whole_is.3 in
+    let later = both_parts (merge y z) (merged ys zs) both h in
+    let whole_is = both_parts (merge x later.0) (merged xs later.1) all (ap (merged (x ∷ xs)) later.4 ∙ k) in
+    let head = merged_front x y z later.0 whole_is.0 later.2 whole_is.2 in
+    let tail = kinds_front xs ys zs later.1 whole_is.1 later.3 whole_is.3 in
     (head.0 ∷ tail.0, rw (head.1, tail.1) refl, rw (head.2, tail.2) (ap Some whole_is.4))
 kinds_front [] [] (z ∷ zs) both all h k = absurd cc
 kinds_front first [] (z ∷ zs) both all h k = absurd cc
 kinds_front first (y ∷ ys) [] both all h k = absurd cc
 kinds_front [] (y ∷ ys) (z ∷ zs) both all h k =
-    let behind = both_parts (merge y z) (merged ys zs) both h in
-    let none : merged [] (behind.0 ∷ behind.1) ≡ Some all = ap (merged []) behind.4 ∙ k in absurd cc
+    let later = both_parts (merge y z) (merged ys zs) both h in
+    let none : merged [] (later.0 ∷ later.1) ≡ Some all = ap (merged []) later.4 ∙ k in absurd cc
 kinds_front (x ∷ xs) [] [] both all h k =
     let same : [] ≡ both = one_list [] both h in
     let none : merged (x ∷ xs) [] ≡ Some all = ap (merged (x ∷ xs)) same ∙ k in absurd cc
@@ -262,8 +262,8 @@ JoinedFront around first second all others = merged_all (of_loops around (merged
 -- once more, where the second one and the next have something in common
 joined_step : (around : List Around) (first second all : List Kind) (next : Operands) (others : List Operands) (middle : List Kind) → merged second next.kinds ≡ Some middle → (whole : Option (List Kind)) → merged first middle ≡ whole
     → merged_all (of_loops around whole) others ≡ Ok (operands all around) → JoinedFront around first second all (next ∷ others)
-joined_step around first second all next others middle is (Some behind) also h =
-    let front = kinds_front first second next.kinds middle behind is also in
+joined_step around first second all next others middle is (Some later) also h =
+    let front = kinds_front first second next.kinds middle later is also in
     rw (front.1, front.2) h
 joined_step around first second all next others middle is None also h = absurd (never_joined BadMerge others (operands all around) h)
 

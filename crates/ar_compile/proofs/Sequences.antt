@@ -9,7 +9,7 @@ use Rattle.ar_compile.specs.Length.{operations, operations_of_items}
 use Rattle.ar_tree.specs.Limits.{AllInLimits, InLimits}
 use Rattle.ar_compile.specs.Private.Drafts.{drafted, drafted_items}
 use Rattle.ar_compile.specs.Private.Trees.{Agree}
-use Rattle.ar_compile.proofs.Drafts.{drafted_length, one_place_more, same_place}
+use Rattle.ar_compile.proofs.Drafts.{drafted_length, one_index_more, same_place}
 
 -- the first of those that are left
 pub first_left : {A : Type 0} (xs : List A) (i : ℕ) (x : A) → i < length xs → x ≡ slice_index_or xs i x → drop i xs ≡ x ∷ drop (i + 1) xs
@@ -58,4 +58,4 @@ unfolding Agree
 all_are_inside f xs i whole past agree = (λ e. agree.1 (subst (λ ys. AllInLimits (typeds (map f ys))) (sym (drop_of_length-le xs past)) tt), λ h. refl)
 
 -- what is said of a draft by what it was before, and of the parts of a tree one by one
-pub ruleset drafts = (drafted_length, one_place_more, same_place, next_operations, no_operations, next_limits, next_drafted, none_drafted, as_many)
+pub ruleset drafts = (drafted_length, one_index_more, same_place, next_operations, no_operations, next_limits, next_drafted, none_drafted, as_many)

@@ -14,7 +14,7 @@ use Rattle.ar_op.specs.declared.op.Jump.TheVariants as jumps
 use Rattle.ar_op.specs.declared.op.Op.TheVariants.{MakeList, Field, Jump, Enter, Step, Return, Unary, Binary}
 use Rattle.ar_compile.specs.Compiled.{Tables, code_at, compiled, items_at, literal_op, literal_tables, no_tables, index_among, tables_with, tables_with_items, with_text}
 use Rattle.ar_compile.specs.Length.{operations, operations_of_items}
-use Rattle.ar_compile.specs.Private.Standing.{At, StandItems, Stands, StandsLiteral}
+use Rattle.ar_compile.specs.Private.Standing.{At, AreItemsAt, IsAt, IsLiteralAt}
 
 -- ---- lengths
 
@@ -40,42 +40,42 @@ loop_sum : (m n : ℕ) → m + 1 + (n + 1) ≡ m + 1 + n + 1
 loop_sum m n = omega arith
 
 mutual
-  pub length_is : (place : ℕ) (tables : Tables) (tree : Typed) → length (code_at place tables tree) ≡ operations tree
-  length_is place tables typed.result = refl
-  length_is place tables typed.item = refl
-  length_is place tables (typed.literal literal) = refl
-  length_is place tables (typed.field owner name) = one_length (code_at place tables owner) (Field (index_among name (tables_with owner tables).names)) (operations owner) (length_is place tables owner)
-  length_is place tables (typed.unary operator operand) = one_length (code_at place tables operand) (Unary operator) (operations operand) (length_is place tables operand)
-  length_is place tables (typed.binary operator left right) =
-      two_lengths (code_at place tables left) (code_at (place + operations left) (tables_with left tables) right) (Binary operator) (operations left) (operations right)
-      (length_is place tables left) (length_is (place + operations left) (tables_with left tables) right)
-  length_is place tables (typed.both left right) =
-      around_length (code_at place tables left) (code_at (place + operations left + 1) (tables_with left tables) right) (Jump jumps.And (place + operations left + 1 + operations right)) (operations left) (operations right)
-      (length_is place tables left) (length_is (place + operations left + 1) (tables_with left tables) right)
-  length_is place tables (typed.either left right) =
-      around_length (code_at place tables left) (code_at (place + operations left + 1) (tables_with left tables) right) (Jump jumps.Or (place + operations left + 1 + operations right)) (operations left) (operations right)
-      (length_is place tables left) (length_is (place + operations left + 1) (tables_with left tables) right)
-  length_is place tables (typed.choice condition met unmet) =
-      let p = place + operations condition + 1 in
-      let q = p + operations met + 1 in
-      let met_code = code_at p (tables_with condition tables) met in
-      let unmet_code = code_at q (tables_with met (tables_with condition tables)) unmet in
-      let behind = around_length met_code unmet_code (Jump jumps.Always (q + operations unmet)) (operations met) (operations unmet) (length_is p (tables_with condition tables) met) (length_is q (tables_with met (tables_with condition tables)) unmet) in
-      around_length (code_at place tables condition) (met_code ++ (Jump jumps.Always (q + operations unmet) ∷ unmet_code)) (Jump jumps.Branch q) (operations condition) (operations met + 1 + operations unmet) (length_is place tables condition) behind
-      ∙ three_sum (operations condition) (operations met) (operations unmet)
-  length_is place tables (typed.listed scalar items) = one_length (items_at place tables items) (MakeList scalar (how_many items)) (operations_of_items items) (items_length place tables items)
-  length_is place tables (typed.predicate predicate list body) =
-      let p = place + operations list + 1 in
+  pub length_is : (index : ℕ) (tables : Tables) (tree : Typed) → length (code_at index tables tree) ≡ operations tree
+  length_is index tables typed.result = refl
+  length_is index tables typed.item = refl
+  length_is index tables (typed.literal literal) = refl
+  length_is index tables (typed.field owner name) = one_length (code_at index tables owner) (Field (index_among name (tables_with owner tables).names)) (operations owner) (length_is index tables owner)
+  length_is index tables (typed.unary operator operand) = one_length (code_at index tables operand) (Unary operator) (operations operand) (length_is index tables operand)
+  length_is index tables (typed.binary operator left right) =
+      two_lengths (code_at index tables left) (code_at (index + operations left) (tables_with left tables) right) (Binary operator) (operations left) (operations right)
+      (length_is index tables left) (length_is (index + operations left) (tables_with left tables) right)
+  length_is index tables (typed.both left right) =
+      around_length (code_at index tables left) (code_at (index + operations left + 1) (tables_with left tables) right) (Jump jumps.And (index + operations left + 1 + operations right)) (operations left) (operations right)
+      (length_is index tables left) (length_is (index + operations left + 1) (tables_with left tables) right)
+  length_is index tables (typed.either left right) =
+      around_length (code_at index tables left) (code_at (index + operations left + 1) (tables_with left tables) right) (Jump jumps.Or (index + operations left + 1 + operations right)) (operations left) (operations right)
+      (length_is index tables left) (length_is (index + operations left + 1) (tables_with left tables) right)
+  length_is index tables (typed.choice condition then_branch else_branch) =
+      let p = index + operations condition + 1 in
+      let q = p + operations then_branch + 1 in
+      let then_code = code_at p (tables_with condition tables) then_branch in
+      let else_code = code_at q (tables_with then_branch (tables_with condition tables)) else_branch in
+      let later = around_length then_code else_code (Jump jumps.Always (q + operations else_branch)) (operations then_branch) (operations else_branch) (length_is p (tables_with condition tables) then_branch) (length_is q (tables_with then_branch (tables_with condition tables)) else_branch) in
+      around_length (code_at index tables condition) (then_code ++ (Jump jumps.Always (q + operations else_branch) ∷ else_code)) (Jump jumps.Branch q) (operations condition) (operations then_branch + 1 + operations else_branch) (length_is index tables condition) later
+      ∙ three_sum (operations condition) (operations then_branch) (operations else_branch)
+  length_is index tables (typed.listed scalar items) = one_length (items_at index tables items) (MakeList scalar (how_many items)) (operations_of_items items) (items_length index tables items)
+  length_is index tables (typed.predicate predicate list body) =
+      let p = index + operations list + 1 in
       let body_code = code_at p (tables_with list tables) body in
-      let behind = one_length body_code (Step predicate (place + operations list)) (operations body) (length_is p (tables_with list tables) body) in
-      around_length (code_at place tables list) (body_code ++ Step predicate (place + operations list) ∷ []) (Enter predicate (p + operations body)) (operations list) (operations body + 1) (length_is place tables list) behind
+      let later = one_length body_code (Step predicate (index + operations list)) (operations body) (length_is p (tables_with list tables) body) in
+      around_length (code_at index tables list) (body_code ++ Step predicate (index + operations list) ∷ []) (Enter predicate (p + operations body)) (operations list) (operations body + 1) (length_is index tables list) later
       ∙ loop_sum (operations list) (operations body)
 
-  pub items_length : (place : ℕ) (tables : Tables) (items : Typeds) → length (items_at place tables items) ≡ operations_of_items items
-  items_length place tables typed.none = refl
-  items_length place tables (typed.more first others) =
-      length-append (code_at place tables first) (items_at (place + operations first) (tables_with first tables) others)
-      ∙ rw (length_is place tables first, items_length (place + operations first) (tables_with first tables) others) refl
+  pub items_length : (index : ℕ) (tables : Tables) (items : Typeds) → length (items_at index tables items) ≡ operations_of_items items
+  items_length index tables typed.none = refl
+  items_length index tables (typed.more first others) =
+      length-append (code_at index tables first) (items_at (index + operations first) (tables_with first tables) others)
+      ∙ rw (length_is index tables first, items_length (index + operations first) (tables_with first tables) others) refl
 
 -- ---- tables
 
@@ -116,7 +116,7 @@ is_there text (first ∷ others) = there_by (bytes_eq first text) first text oth
 
 pub literal_grows : (literal : Literal) (tables : Tables) → GrowTables tables (literal_tables literal tables)
 literal_grows literals.Nil tables = stay tables
-literal_grows (literals.Bool truth) tables = stay tables
+literal_grows (literals.Bool boolean) tables = stay tables
 literal_grows (literals.Whole value) tables = stay tables
 literal_grows (literals.Decimal millionths) tables = stay tables
 literal_grows (literals.Text letters) tables = (one_text_grows letters tables.texts, λ n name is. is)
@@ -136,10 +136,10 @@ mutual
       then_grow tables (tables_with left tables) (tables_with right (tables_with left tables)) (tables_grow left tables) (tables_grow right (tables_with left tables))
   tables_grow (typed.either left right) tables =
       then_grow tables (tables_with left tables) (tables_with right (tables_with left tables)) (tables_grow left tables) (tables_grow right (tables_with left tables))
-  tables_grow (typed.choice condition met unmet) tables =
+  tables_grow (typed.choice condition then_branch else_branch) tables =
       let c = tables_with condition tables in
-      let m = tables_with met c in
-      then_grow tables c (tables_with unmet m) (tables_grow condition tables) (then_grow c m (tables_with unmet m) (tables_grow met c) (tables_grow unmet m))
+      let m = tables_with then_branch c in
+      then_grow tables c (tables_with else_branch m) (tables_grow condition tables) (then_grow c m (tables_with else_branch m) (tables_grow then_branch c) (tables_grow else_branch m))
   tables_grow (typed.listed scalar items) tables = items_grow items tables
   tables_grow (typed.predicate predicate list body) tables =
       then_grow tables (tables_with list tables) (tables_with body (tables_with list tables)) (tables_grow list tables) (tables_grow body (tables_with list tables))
@@ -152,41 +152,41 @@ mutual
 -- ---- operations
 
 -- operations are one after the other from an index
-abbrev pub Hold : List Op → (place : ℕ) → List Op → Type 0
-Hold ops place [] = Unit {0}
-Hold ops place (op ∷ others) = (nth ops place ≡ Some op) × Hold ops (place + 1) others
+abbrev pub Hold : List Op → (index : ℕ) → List Op → Type 0
+Hold ops index [] = Unit {0}
+Hold ops index (op ∷ others) = (nth ops index ≡ Some op) × Hold ops (index + 1) others
 
-next_place : (place n : ℕ) → place + 1 + n ≡ place + suc n
-next_place place n = omega arith
+next_index : (index n : ℕ) → index + 1 + n ≡ index + suc n
+next_index index n = omega arith
 
-no_more : (place : ℕ) → place + 0 ≡ place
-no_more place = omega arith
+no_more : (index : ℕ) → index + 0 ≡ index
+no_more index = omega arith
 
-hold_split : (ops : List Op) (place : ℕ) (xs ys : List Op) → Hold ops place (xs ++ ys) → Hold ops place xs × Hold ops (place + length xs) ys
-hold_split ops place [] ys h = (tt, subst (λ (p : ℕ). Hold ops p ys) (sym (no_more place)) h)
-hold_split ops place (x ∷ xs) ys h =
-    let others = hold_split ops (place + 1) xs ys h.1 in
-    ((h.0, others.0), subst (λ (p : ℕ). Hold ops p ys) (next_place place (length xs)) others.1)
+hold_split : (ops : List Op) (index : ℕ) (xs ys : List Op) → Hold ops index (xs ++ ys) → Hold ops index xs × Hold ops (index + length xs) ys
+hold_split ops index [] ys h = (tt, subst (λ (p : ℕ). Hold ops p ys) (sym (no_more index)) h)
+hold_split ops index (x ∷ xs) ys h =
+    let others = hold_split ops (index + 1) xs ys h.1 in
+    ((h.0, others.0), subst (λ (p : ℕ). Hold ops p ys) (next_index index (length xs)) others.1)
 
 -- parts of which the first has `n` operations
-hold_parts : (ops : List Op) (place n : ℕ) (xs ys : List Op) → length xs ≡ n → Hold ops place (xs ++ ys) → Hold ops place xs × Hold ops (place + n) ys
-hold_parts ops place n xs ys is h =
-    let parts = hold_split ops place xs ys h in (parts.0, subst (λ (m : ℕ). Hold ops (place + m) ys) is parts.1)
+hold_parts : (ops : List Op) (index n : ℕ) (xs ys : List Op) → length xs ≡ n → Hold ops index (xs ++ ys) → Hold ops index xs × Hold ops (index + n) ys
+hold_parts ops index n xs ys is h =
+    let parts = hold_split ops index xs ys h in (parts.0, subst (λ (m : ℕ). Hold ops (index + m) ys) is parts.1)
 
-behind : (before : List Op) (op : Op) (others : List Op) → nth (before ++ (op ∷ others)) (length before) ≡ Some op
-behind [] op others = refl
-behind (first ∷ before) op others = behind before op others
+later : (before : List Op) (op : Op) (others : List Op) → nth (before ++ (op ∷ others)) (length before) ≡ Some op
+later [] op others = refl
+later (first ∷ before) op others = later before op others
 
-hold_behind : (before ops : List Op) → Hold (before ++ ops) (length before) ops
-hold_behind before [] = tt
-hold_behind before (op ∷ others) =
-    let rest : Hold ((before ++ op ∷ []) ++ others) (length (before ++ op ∷ [])) others = hold_behind (before ++ op ∷ []) others in
+hold_after : (before ops : List Op) → Hold (before ++ ops) (length before) ops
+hold_after before [] = tt
+hold_after before (op ∷ others) =
+    let rest : Hold ((before ++ op ∷ []) ++ others) (length (before ++ op ∷ [])) others = hold_after (before ++ op ∷ []) others in
     let here : Hold (before ++ (op ∷ others)) (length (before ++ op ∷ [])) others = subst (λ (ops : List Op). Hold ops (length (before ++ op ∷ [])) others) (append_assoc before (op ∷ []) others) rest in
-    (behind before op others, subst (λ (p : ℕ). Hold (before ++ (op ∷ others)) p others) (one_length before op (length before) refl) here)
+    (later before op others, subst (λ (p : ℕ). Hold (before ++ (op ∷ others)) p others) (one_length before op (length before) refl) here)
 
 -- all operations are there from the first index
 pub hold_all : (ops : List Op) → Hold ops 0 ops
-hold_all ops = hold_behind [] ops
+hold_all ops = hold_after [] ops
 
 -- ---- trees
 
@@ -199,116 +199,116 @@ module _ (code : Code) where
   have_before tables grown h k = (λ n text is. k.0 n text (h.0 n text is), λ n name is. k.1 n name (h.1 n name is))
 
   -- an operation after n others
-  at_end : (place m n : ℕ) (op : Op) → m ≡ n → Hold code.ops (place + m) (op ∷ []) → At code (place + n) op
-  at_end place m n op is h = subst (λ (k : ℕ). At code (place + k) op) is h.0
+  at_end : (index m n : ℕ) (op : Op) → m ≡ n → Hold code.ops (index + m) (op ∷ []) → At code (index + n) op
+  at_end index m n op is h = subst (λ (k : ℕ). At code (index + k) op) is h.0
 
-  literal_stands : (place : ℕ) (tables : Tables) (literal : Literal) → Hold code.ops place (literal_op literal tables ∷ []) → Have (literal_tables literal tables) → StandsLiteral code place literal
-  literal_stands place tables literals.Nil h have = h.0
-  literal_stands place tables (literals.Bool truth) h have = h.0
-  literal_stands place tables (literals.Whole value) h have = h.0
-  literal_stands place tables (literals.Decimal millionths) h have = h.0
-  literal_stands place tables (literals.Text letters) h have = (index_among letters tables.texts, h.0, have.0 (index_among letters tables.texts) letters (is_there letters tables.texts))
+  literal_is_at : (index : ℕ) (tables : Tables) (literal : Literal) → Hold code.ops index (literal_op literal tables ∷ []) → Have (literal_tables literal tables) → IsLiteralAt code index literal
+  literal_is_at index tables literals.Nil h have = h.0
+  literal_is_at index tables (literals.Bool boolean) h have = h.0
+  literal_is_at index tables (literals.Whole value) h have = h.0
+  literal_is_at index tables (literals.Decimal millionths) h have = h.0
+  literal_is_at index tables (literals.Text letters) h have = (index_among letters tables.texts, h.0, have.0 (index_among letters tables.texts) letters (is_there letters tables.texts))
 
-  abbrev After : Tables → (place : ℕ) → Typed → Type 0
-  After tables place tree = Hold code.ops place (code_at place tables tree)
+  abbrev After : Tables → (index : ℕ) → Typed → Type 0
+  After tables index tree = Hold code.ops index (code_at index tables tree)
 
   -- of two parts and an operation after them
-  record TwoHold (place : ℕ) (tables : Tables) (left right : Typed) (op : Op) : Type 0 where
-    first : After tables place left
-    second : After (tables_with left tables) (place + operations left) right
-    last : At code (place + operations left + operations right) op
+  record TwoHold (index : ℕ) (tables : Tables) (left right : Typed) (op : Op) : Type 0 where
+    first : After tables index left
+    second : After (tables_with left tables) (index + operations left) right
+    last : At code (index + operations left + operations right) op
 
-  two_hold : (place : ℕ) (tables : Tables) (left right : Typed) (op : Op)
-      → Hold code.ops place (code_at place tables left ++ (code_at (place + operations left) (tables_with left tables) right ++ op ∷ [])) → TwoHold place tables left right op
-  two_hold place tables left right op h =
-      let r = code_at (place + operations left) (tables_with left tables) right in
-      let parts = hold_parts code.ops place (operations left) (code_at place tables left) (r ++ op ∷ []) (length_is place tables left) h in
-      let others = hold_parts code.ops (place + operations left) (operations right) r (op ∷ []) (length_is (place + operations left) (tables_with left tables) right) parts.1 in
+  two_hold : (index : ℕ) (tables : Tables) (left right : Typed) (op : Op)
+      → Hold code.ops index (code_at index tables left ++ (code_at (index + operations left) (tables_with left tables) right ++ op ∷ [])) → TwoHold index tables left right op
+  two_hold index tables left right op h =
+      let r = code_at (index + operations left) (tables_with left tables) right in
+      let parts = hold_parts code.ops index (operations left) (code_at index tables left) (r ++ op ∷ []) (length_is index tables left) h in
+      let others = hold_parts code.ops (index + operations left) (operations right) r (op ∷ []) (length_is (index + operations left) (tables_with left tables) right) parts.1 in
       record { first = parts.0; second = others.0; last = others.1.0 }
 
   -- of two parts and a jump between them
-  record JumpHolds (place : ℕ) (tables : Tables) (left right : Typed) (op : Op) : Type 0 where
-    first : After tables place left
-    jump : At code (place + operations left) op
-    second : After (tables_with left tables) (place + operations left + 1) right
+  record JumpHolds (index : ℕ) (tables : Tables) (left right : Typed) (op : Op) : Type 0 where
+    first : After tables index left
+    jump : At code (index + operations left) op
+    second : After (tables_with left tables) (index + operations left + 1) right
 
-  jump_holds : (place : ℕ) (tables : Tables) (left right : Typed) (op : Op)
-      → Hold code.ops place (code_at place tables left ++ (op ∷ code_at (place + operations left + 1) (tables_with left tables) right)) → JumpHolds place tables left right op
-  jump_holds place tables left right op h =
-      let r = code_at (place + operations left + 1) (tables_with left tables) right in
-      let parts = hold_parts code.ops place (operations left) (code_at place tables left) (op ∷ r) (length_is place tables left) h in
+  jump_holds : (index : ℕ) (tables : Tables) (left right : Typed) (op : Op)
+      → Hold code.ops index (code_at index tables left ++ (op ∷ code_at (index + operations left + 1) (tables_with left tables) right)) → JumpHolds index tables left right op
+  jump_holds index tables left right op h =
+      let r = code_at (index + operations left + 1) (tables_with left tables) right in
+      let parts = hold_parts code.ops index (operations left) (code_at index tables left) (op ∷ r) (length_is index tables left) h in
       record { first = parts.0; jump = parts.1.0; second = parts.1.1 }
 
-  one_holds : (place : ℕ) (tables : Tables) (operand : Typed) (op : Op) → Hold code.ops place (code_at place tables operand ++ op ∷ []) → After tables place operand × At code (place + operations operand) op
-  one_holds place tables operand op h =
-      let parts = hold_parts code.ops place (operations operand) (code_at place tables operand) (op ∷ []) (length_is place tables operand) h in (parts.0, parts.1.0)
+  one_holds : (index : ℕ) (tables : Tables) (operand : Typed) (op : Op) → Hold code.ops index (code_at index tables operand ++ op ∷ []) → After tables index operand × At code (index + operations operand) op
+  one_holds index tables operand op h =
+      let parts = hold_parts code.ops index (operations operand) (code_at index tables operand) (op ∷ []) (length_is index tables operand) h in (parts.0, parts.1.0)
 
   have_left : (left right : Typed) (tables : Tables) → Have (tables_with right (tables_with left tables)) → Have (tables_with left tables)
   have_left left right tables have = have_before (tables_with left tables) (tables_with right (tables_with left tables)) (tables_grow right (tables_with left tables)) have
 
   mutual
-    pub standing : (tree : Typed) (place : ℕ) (tables : Tables) → After tables place tree → Have (tables_with tree tables) → Stands code place tree
-    standing typed.result place tables h have = h.0
-    standing typed.item place tables h have = h.0
-    standing (typed.literal literal) place tables h have = literal_stands place tables literal h have
-    standing (typed.field owner name) place tables h have =
+    pub standing : (tree : Typed) (index : ℕ) (tables : Tables) → After tables index tree → Have (tables_with tree tables) → IsAt code index tree
+    standing typed.result index tables h have = h.0
+    standing typed.item index tables h have = h.0
+    standing (typed.literal literal) index tables h have = literal_is_at index tables literal h have
+    standing (typed.field owner name) index tables h have =
         let before = tables_with owner tables in
         let n = index_among name before.names in
-        let parts = one_holds place tables owner (Field n) h in
-        (standing owner place tables parts.0 (have.0, λ k found is. have.1 k found (one_text_grows name before.names k found is)), (n, parts.1, have.1 n name (is_there name before.names)))
-    standing (typed.unary operator operand) place tables h have = let parts = one_holds place tables operand (Unary operator) h in (standing operand place tables parts.0 have, parts.1)
-    standing (typed.binary operator left right) place tables h have =
-        let parts = two_hold place tables left right (Binary operator) h in
-        (standing left place tables parts.first (have_left left right tables have), standing right (place + operations left) (tables_with left tables) parts.second have, parts.last)
-    standing (typed.both left right) place tables h have =
-        let parts = jump_holds place tables left right (Jump jumps.And (place + operations left + 1 + operations right)) h in
-        (standing left place tables parts.first (have_left left right tables have), parts.jump, standing right (place + operations left + 1) (tables_with left tables) parts.second have)
-    standing (typed.either left right) place tables h have =
-        let parts = jump_holds place tables left right (Jump jumps.Or (place + operations left + 1 + operations right)) h in
-        (standing left place tables parts.first (have_left left right tables have), parts.jump, standing right (place + operations left + 1) (tables_with left tables) parts.second have)
-    standing (typed.choice condition met unmet) place tables h have =
-        let p = place + operations condition + 1 in
-        let q = p + operations met + 1 in
+        let parts = one_holds index tables owner (Field n) h in
+        (standing owner index tables parts.0 (have.0, λ k found is. have.1 k found (one_text_grows name before.names k found is)), (n, parts.1, have.1 n name (is_there name before.names)))
+    standing (typed.unary operator operand) index tables h have = let parts = one_holds index tables operand (Unary operator) h in (standing operand index tables parts.0 have, parts.1)
+    standing (typed.binary operator left right) index tables h have =
+        let parts = two_hold index tables left right (Binary operator) h in
+        (standing left index tables parts.first (have_left left right tables have), standing right (index + operations left) (tables_with left tables) parts.second have, parts.last)
+    standing (typed.both left right) index tables h have =
+        let parts = jump_holds index tables left right (Jump jumps.And (index + operations left + 1 + operations right)) h in
+        (standing left index tables parts.first (have_left left right tables have), parts.jump, standing right (index + operations left + 1) (tables_with left tables) parts.second have)
+    standing (typed.either left right) index tables h have =
+        let parts = jump_holds index tables left right (Jump jumps.Or (index + operations left + 1 + operations right)) h in
+        (standing left index tables parts.first (have_left left right tables have), parts.jump, standing right (index + operations left + 1) (tables_with left tables) parts.second have)
+    standing (typed.choice condition then_branch else_branch) index tables h have =
+        let p = index + operations condition + 1 in
+        let q = p + operations then_branch + 1 in
         let c = tables_with condition tables in
-        let m = tables_with met c in
-        let met_code = code_at p c met in
-        let unmet_code = code_at q m unmet in
-        let parts = hold_parts code.ops place (operations condition) (code_at place tables condition) (Jump jumps.Branch q ∷ (met_code ++ (Jump jumps.Always (q + operations unmet) ∷ unmet_code))) (length_is place tables condition) h in
-        let others = hold_parts code.ops p (operations met) met_code (Jump jumps.Always (q + operations unmet) ∷ unmet_code) (length_is p c met) parts.1.1 in
-        let have_m = have_before m (tables_with unmet m) (tables_grow unmet m) have in
-        let have_c = have_before c m (tables_grow met c) have_m in
-        (standing condition place tables parts.0 have_c, parts.1.0, standing met p c others.0 have_m, others.1.0, standing unmet q m others.1.1 have)
-    standing (typed.listed scalar items) place tables h have =
-        let parts = hold_parts code.ops place (operations_of_items items) (items_at place tables items) (MakeList scalar (how_many items) ∷ []) (items_length place tables items) h in
-        (items_standing items place tables parts.0 have, parts.1.0)
-    standing (typed.predicate predicate list body) place tables h have =
-        let p = place + operations list + 1 in
+        let m = tables_with then_branch c in
+        let then_code = code_at p c then_branch in
+        let else_code = code_at q m else_branch in
+        let parts = hold_parts code.ops index (operations condition) (code_at index tables condition) (Jump jumps.Branch q ∷ (then_code ++ (Jump jumps.Always (q + operations else_branch) ∷ else_code))) (length_is index tables condition) h in
+        let others = hold_parts code.ops p (operations then_branch) then_code (Jump jumps.Always (q + operations else_branch) ∷ else_code) (length_is p c then_branch) parts.1.1 in
+        let have_m = have_before m (tables_with else_branch m) (tables_grow else_branch m) have in
+        let have_c = have_before c m (tables_grow then_branch c) have_m in
+        (standing condition index tables parts.0 have_c, parts.1.0, standing then_branch p c others.0 have_m, others.1.0, standing else_branch q m others.1.1 have)
+    standing (typed.listed scalar items) index tables h have =
+        let parts = hold_parts code.ops index (operations_of_items items) (items_at index tables items) (MakeList scalar (how_many items) ∷ []) (items_length index tables items) h in
+        (items_standing items index tables parts.0 have, parts.1.0)
+    standing (typed.predicate predicate list body) index tables h have =
+        let p = index + operations list + 1 in
         let l = tables_with list tables in
         let body_code = code_at p l body in
-        let parts = hold_parts code.ops place (operations list) (code_at place tables list) (Enter predicate (p + operations body) ∷ (body_code ++ Step predicate (place + operations list) ∷ [])) (length_is place tables list) h in
-        let others = hold_parts code.ops p (operations body) body_code (Step predicate (place + operations list) ∷ []) (length_is p l body) parts.1.1 in
-        (standing list place tables parts.0 (have_left list body tables have), parts.1.0, standing body p l others.0 have, others.1.0)
+        let parts = hold_parts code.ops index (operations list) (code_at index tables list) (Enter predicate (p + operations body) ∷ (body_code ++ Step predicate (index + operations list) ∷ [])) (length_is index tables list) h in
+        let others = hold_parts code.ops p (operations body) body_code (Step predicate (index + operations list) ∷ []) (length_is p l body) parts.1.1 in
+        (standing list index tables parts.0 (have_left list body tables have), parts.1.0, standing body p l others.0 have, others.1.0)
 
-    items_standing : (items : Typeds) (place : ℕ) (tables : Tables) → Hold code.ops place (items_at place tables items) → Have (tables_with_items items tables) → StandItems code place items
-    items_standing typed.none place tables h have = tt
-    items_standing (typed.more first others) place tables h have =
+    items_standing : (items : Typeds) (index : ℕ) (tables : Tables) → Hold code.ops index (items_at index tables items) → Have (tables_with_items items tables) → AreItemsAt code index items
+    items_standing typed.none index tables h have = tt
+    items_standing (typed.more first others) index tables h have =
         let t = tables_with first tables in
-        let parts = hold_parts code.ops place (operations first) (code_at place tables first) (items_at (place + operations first) t others) (length_is place tables first) h in
-        (standing first place tables parts.0 (have_before t (tables_with_items others t) (items_grow others t) have), items_standing others (place + operations first) t parts.1 have)
+        let parts = hold_parts code.ops index (operations first) (code_at index tables first) (items_at (index + operations first) t others) (length_is index tables first) h in
+        (standing first index tables parts.0 (have_before t (tables_with_items others t) (items_grow others t) have), items_standing others (index + operations first) t parts.1 have)
 
 -- ---- conditions
 
 -- compiled code has the condition's code, and after it Return
-pub record CompiledStands (code : Code) (condition : Typed) : Type 0 where
-  pub tree : Stands code 0 condition
+pub record CompiledIsAt (code : Code) (condition : Typed) : Type 0 where
+  pub tree : IsAt code 0 condition
   pub end : At code (operations condition) Return
 
 from_zero : (n : ℕ) → 0 + n ≡ n
 from_zero n = omega arith
 
-pub compiled_stands : (condition : Typed) → CompiledStands (compiled condition) condition
+pub compiled_is_at : (condition : Typed) → CompiledIsAt (compiled condition) condition
 unfolding compiled
-compiled_stands condition =
+compiled_is_at condition =
     let ops = code_at 0 no_tables condition in
     let code = code_of_parts (ops ++ Return ∷ []) (tables_with condition no_tables).texts (tables_with condition no_tables).names in
     let parts = hold_parts code.ops 0 (operations condition) ops (Return ∷ []) (length_is 0 no_tables condition) (hold_all code.ops) in

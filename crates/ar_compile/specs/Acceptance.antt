@@ -9,5 +9,5 @@ use Rattle.ar_safety.specs.declared.error.Reason.TheVariants.{BudgetTooLarge, St
 
 -- if it has a fault under a shape, then that a run of it may have too many operands, or cost too much
 pub record OnlyTooLarge (code : Code) (shape : Shape) : Type 0 where
-  pub for : (place : Index) (reason : Reason) → IsFault code shape place reason
+  pub for : (index : Index) (reason : Reason) → IsFault code shape index reason
       → (reason ≡ StackTooDeep) ⊎ (reason ≡ BudgetTooLarge)

@@ -52,8 +52,8 @@ abbrev mutual
   tables_with (typed.binary operator left right) tables = tables_with right (tables_with left tables)
   tables_with (typed.both left right) tables = tables_with right (tables_with left tables)
   tables_with (typed.either left right) tables = tables_with right (tables_with left tables)
-  tables_with (typed.choice condition met unmet) tables =
-      tables_with unmet (tables_with met (tables_with condition tables))
+  tables_with (typed.choice condition then_branch else_branch) tables =
+      tables_with else_branch (tables_with then_branch (tables_with condition tables))
   tables_with (typed.listed scalar items) tables = tables_with_items items tables
   tables_with (typed.predicate predicate list body) tables = tables_with body (tables_with list tables)
 
@@ -65,52 +65,52 @@ abbrev mutual
 
 abbrev pub literal_op : Literal → Tables → Op
 literal_op literals.Nil tables = Push sources.Nil
-literal_op (literals.Bool truth) tables = Push (sources.Bool truth)
+literal_op (literals.Bool boolean) tables = Push (sources.Bool boolean)
 literal_op (literals.Whole value) tables = Push (sources.Whole value)
 literal_op (literals.Decimal millionths) tables = Push (sources.Decimal millionths)
 literal_op (literals.Text letters) tables = Push (sources.Text (index_among letters tables.texts))
 
 abbrev mutual
-  -- the operations of a tree that begin at `place`, where tables are there already
-  pub code_at : (place : Index) → Tables → Typed → List Op
-  code_at place tables typed.result = Push sources.Result ∷ []
-  code_at place tables typed.item = Push sources.Item ∷ []
-  code_at place tables (typed.literal literal) = literal_op literal tables ∷ []
-  code_at place tables (typed.field owner name) =
-      code_at place tables owner ++ Field (index_among name (tables_with owner tables).names) ∷ []
-  code_at place tables (typed.unary operator operand) = code_at place tables operand ++ Unary operator ∷ []
-  code_at place tables (typed.binary operator left right) =
-      code_at place tables left
-      ++ (code_at (place + operations left) (tables_with left tables) right ++ Binary operator ∷ [])
+  -- the operations of a tree that begin at `index`, where tables are there already
+  pub code_at : (index : Index) → Tables → Typed → List Op
+  code_at index tables typed.result = Push sources.Result ∷ []
+  code_at index tables typed.item = Push sources.Item ∷ []
+  code_at index tables (typed.literal literal) = literal_op literal tables ∷ []
+  code_at index tables (typed.field owner name) =
+      code_at index tables owner ++ Field (index_among name (tables_with owner tables).names) ∷ []
+  code_at index tables (typed.unary operator operand) = code_at index tables operand ++ Unary operator ∷ []
+  code_at index tables (typed.binary operator left right) =
+      code_at index tables left
+      ++ (code_at (index + operations left) (tables_with left tables) right ++ Binary operator ∷ [])
   -- after the right side, with the left one on the stack, where that decides
-  code_at place tables (typed.both left right) =
-      code_at place tables left
-      ++ (Jump jumps.And (place + operations left + 1 + operations right)
-      ∷ code_at (place + operations left + 1) (tables_with left tables) right)
-  code_at place tables (typed.either left right) =
-      code_at place tables left
-      ++ (Jump jumps.Or (place + operations left + 1 + operations right)
-      ∷ code_at (place + operations left + 1) (tables_with left tables) right)
-  code_at place tables (typed.choice condition met unmet) =
-      code_at place tables condition
-      ++ (Jump jumps.Branch (place + operations condition + 1 + operations met + 1)
-      ∷ (code_at (place + operations condition + 1) (tables_with condition tables) met
-      ++ (Jump jumps.Always (place + operations condition + 1 + operations met + 1 + operations unmet)
-      ∷ code_at (place + operations condition + 1 + operations met + 1)
-      (tables_with met (tables_with condition tables)) unmet)))
-  code_at place tables (typed.listed scalar items) =
-      items_at place tables items ++ MakeList scalar (how_many items) ∷ []
+  code_at index tables (typed.both left right) =
+      code_at index tables left
+      ++ (Jump jumps.And (index + operations left + 1 + operations right)
+      ∷ code_at (index + operations left + 1) (tables_with left tables) right)
+  code_at index tables (typed.either left right) =
+      code_at index tables left
+      ++ (Jump jumps.Or (index + operations left + 1 + operations right)
+      ∷ code_at (index + operations left + 1) (tables_with left tables) right)
+  code_at index tables (typed.choice condition then_branch else_branch) =
+      code_at index tables condition
+      ++ (Jump jumps.Branch (index + operations condition + 1 + operations then_branch + 1)
+      ∷ (code_at (index + operations condition + 1) (tables_with condition tables) then_branch
+      ++ (Jump jumps.Always (index + operations condition + 1 + operations then_branch + 1 + operations else_branch)
+      ∷ code_at (index + operations condition + 1 + operations then_branch + 1)
+      (tables_with then_branch (tables_with condition tables)) else_branch)))
+  code_at index tables (typed.listed scalar items) =
+      items_at index tables items ++ MakeList scalar (how_many items) ∷ []
   -- the Enter names the index of its Step, and the Step that of its Enter
-  code_at place tables (typed.predicate predicate list body) =
-      code_at place tables list
-      ++ (Enter predicate (place + operations list + 1 + operations body)
-      ∷ (code_at (place + operations list + 1) (tables_with list tables) body
-      ++ Step predicate (place + operations list) ∷ []))
+  code_at index tables (typed.predicate predicate list body) =
+      code_at index tables list
+      ++ (Enter predicate (index + operations list + 1 + operations body)
+      ∷ (code_at (index + operations list + 1) (tables_with list tables) body
+      ++ Step predicate (index + operations list) ∷ []))
 
-  pub items_at : (place : Index) → Tables → Typeds → List Op
-  items_at place tables typed.none = []
-  items_at place tables (typed.more first others) =
-      code_at place tables first ++ items_at (place + operations first) (tables_with first tables) others
+  pub items_at : (index : Index) → Tables → Typeds → List Op
+  items_at index tables typed.none = []
+  items_at index tables (typed.more first others) =
+      code_at index tables first ++ items_at (index + operations first) (tables_with first tables) others
 
 -- ---- conditions
 

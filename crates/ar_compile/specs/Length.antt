@@ -16,7 +16,8 @@ abbrev mutual
   operations (typed.both left right) = operations left + 1 + operations right
   operations (typed.either left right) = operations left + 1 + operations right
   -- a branch comes before the then branch, and a jump after it
-  operations (typed.choice condition met unmet) = operations condition + 1 + operations met + 1 + operations unmet
+  operations (typed.choice condition then_branch else_branch) =
+      operations condition + 1 + operations then_branch + 1 + operations else_branch
   operations (typed.listed scalar items) = operations_of_items items + 1
   -- the body is between the loop's Enter and its Step
   operations (typed.predicate predicate list body) = operations list + 1 + operations body + 1

@@ -10,7 +10,7 @@ ghost use Rattle.ar_op.specs.declared.op.Op.TheVariants.{MakeList, Jump as JumpT
 ghost use Rattle.ar_compile.specs.Answer.{CompilesTo};
 ghost use Rattle.ar_compile.specs.Compiled.{compiled};
 ghost use Rattle.ar_compile.specs.Length.{length_of, operations, operations_of_items};
-ghost use Rattle.ar_compile.specs.Private.Drafts.{drafted, drafted_items, jumps_on, draft_place, with_field, with_literal, with_op};
+ghost use Rattle.ar_compile.specs.Private.Drafts.{drafted, drafted_items, jumps_on, draft_index, with_field, with_literal, with_op};
 ghost use Rattle.ar_compile.specs.Private.Trees.{items_view};
 
 use crate::draft::Draft;
@@ -25,12 +25,12 @@ use ar_value::operator::{Predicate, Scalar};
 use std::alloc::{AllocError, Global};
 
 fn put_literal(alloc: Global, draft: &mut Draft, literal: &Literal) -> Result<(), AllocError>
-    requires { draft_place draft.old ≤ most_code_entries }
+    requires { draft_index draft.old ≤ most_code_entries }
     ensures { OnOk result (draft.new ≡ with_literal literal.now draft.old) }
 {
     match literal {
         Literal::Nil => draft.push(Op::Push(Source::Nil)),
-        Literal::Bool(truth) => draft.push(Op::Push(Source::Bool(*truth))),
+        Literal::Bool(boolean) => draft.push(Op::Push(Source::Bool(*boolean))),
         Literal::Whole(value) => draft.push(Op::Push(Source::Whole(*value))),
         Literal::Decimal(decimal) => draft.push(Op::Push(Source::Decimal(decimal.millionths()))),
         Literal::Text(text) => draft.push_text(alloc, text.as_str()),
@@ -41,7 +41,7 @@ fn put_literal(alloc: Global, draft: &mut Draft, literal: &Literal) -> Result<()
 #[cycle(compiler)]
 pub(crate) fn put(alloc: Global, draft: &mut Draft, tree: &Typed) -> Result<(), AllocError>
     requires { (InLimits (typed_view tree.now))
-        × (draft_place draft.old + operations (typed_view tree.now) ≤ most_code_entries) }
+        × (draft_index draft.old + operations (typed_view tree.now) ≤ most_code_entries) }
     ensures { OnOk result (draft.new ≡ drafted (typed_view tree.now) draft.old) }
 {
     match tree {
@@ -59,7 +59,11 @@ pub(crate) fn put(alloc: Global, draft: &mut Draft, tree: &Typed) -> Result<(), 
         } => put_two(alloc, draft, left, right, Op::Binary(*operator)),
         Typed::And { left, right } => put_sides(alloc, draft, Jump::And, left, right),
         Typed::Or { left, right } => put_sides(alloc, draft, Jump::Or, left, right),
-        Typed::Choice { condition, yes, no } => put_choice(alloc, draft, condition, yes, no),
+        Typed::Choice {
+            condition,
+            then_branch,
+            else_branch,
+        } => put_choice(alloc, draft, condition, then_branch, else_branch),
         Typed::List { scalar, items } => put_list(alloc, draft, *scalar, &items.items),
         Typed::Predicate {
             predicate,
@@ -74,7 +78,7 @@ pub(crate) fn put(alloc: Global, draft: &mut Draft, tree: &Typed) -> Result<(), 
 #[tactic(auto, using(crate::proofs::Drafts::drafted_length))]
 fn put_field(alloc: Global, draft: &mut Draft, owner: &Typed, name: &str) -> Result<(), AllocError>
     requires { (InLimits (typed_view owner.now))
-        × (draft_place draft.old + operations (typed_view owner.now) ≤ most_code_entries) }
+        × (draft_index draft.old + operations (typed_view owner.now) ≤ most_code_entries) }
     ensures { OnOk result (draft.new ≡ with_field name.now (drafted (typed_view owner.now) draft.old)) }
 {
     put(alloc, draft, owner)?;
@@ -85,7 +89,7 @@ fn put_field(alloc: Global, draft: &mut Draft, owner: &Typed, name: &str) -> Res
 #[cycle(compiler)]
 fn put_one(alloc: Global, draft: &mut Draft, operand: &Typed, op: Op) -> Result<(), AllocError>
     requires { (InLimits (typed_view operand.now))
-        × (draft_place draft.old + operations (typed_view operand.now) ≤ most_code_entries) }
+        × (draft_index draft.old + operations (typed_view operand.now) ≤ most_code_entries) }
     ensures { OnOk result (draft.new ≡ with_op op (drafted (typed_view operand.now) draft.old)) }
 {
     put(alloc, draft, operand)?;
@@ -103,7 +107,7 @@ fn put_two(
     op: Op,
 ) -> Result<(), AllocError>
     requires { (InLimits (typed_view left.now)) × (InLimits (typed_view right.now))
-        × (draft_place draft.old + operations (typed_view left.now) + operations (typed_view right.now)
+        × (draft_index draft.old + operations (typed_view left.now) + operations (typed_view right.now)
         ≤ most_code_entries) }
     ensures { OnOk result
         (draft.new ≡ with_op op (drafted (typed_view right.now) (drafted (typed_view left.now) draft.old))) }
@@ -115,7 +119,7 @@ fn put_two(
 
 /// Two sides, of which the right one is jumped over where the left one decides.
 #[cycle(compiler)]
-#[tactic(auto, using(crate::proofs::Drafts::drafted_length, crate::proofs::Drafts::one_place_more))]
+#[tactic(auto, using(crate::proofs::Drafts::drafted_length, crate::proofs::Drafts::one_index_more))]
 fn put_sides(
     alloc: Global,
     draft: &mut Draft,
@@ -124,47 +128,49 @@ fn put_sides(
     right: &Typed,
 ) -> Result<(), AllocError>
     requires { (InLimits (typed_view left.now)) × (InLimits (typed_view right.now))
-        × (draft_place draft.old + operations (typed_view left.now) + 1 + operations (typed_view right.now)
+        × (draft_index draft.old + operations (typed_view left.now) + 1 + operations (typed_view right.now)
         ≤ most_code_entries) }
-    ensures { OnOk result (draft.new ≡ jumps_on jump (draft_place (drafted (typed_view left.now) draft.old))
+    ensures { OnOk result (draft.new ≡ jumps_on jump (draft_index (drafted (typed_view left.now) draft.old))
         (drafted (typed_view right.now) (with_op (JumpTo jump 0) (drafted (typed_view left.now) draft.old)))) }
 {
     put(alloc, draft, left)?;
-    let place = draft.place();
+    let index = draft.index();
     draft.push(Op::Jump(jump, 0))?;
     put(alloc, draft, right)?;
-    let end = draft.place();
-    draft.set(place, Op::Jump(jump, end as u32));
+    let end = draft.index();
+    draft.set(index, Op::Jump(jump, end as u32));
     Ok(())
 }
 
 /// One of two branches.
 #[cycle(compiler)]
-#[tactic(auto, using(crate::proofs::Drafts::drafted_length, crate::proofs::Drafts::one_place_more, crate::proofs::Drafts::same_place))]
+#[tactic(auto, using(crate::proofs::Drafts::drafted_length, crate::proofs::Drafts::one_index_more, crate::proofs::Drafts::same_place))]
 fn put_choice(
     alloc: Global,
     draft: &mut Draft,
     condition: &Typed,
-    met: &Typed,
-    unmet: &Typed,
+    then_branch: &Typed,
+    else_branch: &Typed,
 ) -> Result<(), AllocError>
-    requires { (InLimits (typed_view condition.now)) × (InLimits (typed_view met.now))
-        × (InLimits (typed_view unmet.now))
-        × (draft_place draft.old + operations
-        (typed.choice (typed_view condition.now) (typed_view met.now) (typed_view unmet.now)) ≤ most_code_entries) }
+    requires { (InLimits (typed_view condition.now)) × (InLimits (typed_view then_branch.now))
+        × (InLimits (typed_view else_branch.now))
+        × (draft_index draft.old + operations
+        (typed.choice (typed_view condition.now) (typed_view then_branch.now) (typed_view else_branch.now))
+        ≤ most_code_entries) }
     ensures { OnOk result (draft.new
-        ≡ drafted (typed.choice (typed_view condition.now) (typed_view met.now) (typed_view unmet.now)) draft.old) }
+        ≡ drafted (typed.choice (typed_view condition.now) (typed_view then_branch.now) (typed_view else_branch.now))
+        draft.old) }
 {
     put(alloc, draft, condition)?;
-    let branch = draft.place();
+    let branch = draft.index();
     draft.push(Op::Jump(Jump::Branch, 0))?;
-    put(alloc, draft, met)?;
-    let jump = draft.place();
+    put(alloc, draft, then_branch)?;
+    let jump = draft.index();
     draft.push(Op::Jump(Jump::Always, 0))?;
-    let behind_met = draft.place();
-    draft.set(branch, Op::Jump(Jump::Branch, behind_met as u32));
-    put(alloc, draft, unmet)?;
-    let end = draft.place();
+    let after_then = draft.index();
+    draft.set(branch, Op::Jump(Jump::Branch, after_then as u32));
+    put(alloc, draft, else_branch)?;
+    let end = draft.index();
     draft.set(jump, Op::Jump(Jump::Always, end as u32));
     Ok(())
 }
@@ -179,7 +185,7 @@ fn put_list(
     items: &[Typed],
 ) -> Result<(), AllocError>
     requires { (AllInLimits (items_view items.now)) × (how_many (items_view items.now) ≤ most_literal_items)
-        × (draft_place draft.old + operations_of_items (items_view items.now) ≤ most_code_entries) }
+        × (draft_index draft.old + operations_of_items (items_view items.now) ≤ most_code_entries) }
     ensures { OnOk result (draft.new
         ≡ with_op (MakeList scalar (how_many (items_view items.now)))
         (drafted_items (items_view items.now) draft.old)) }
@@ -193,7 +199,7 @@ fn put_list(
 #[tactic(auto, using(crate::proofs::Sequences::next_operations, crate::proofs::Sequences::no_operations, crate::proofs::Sequences::next_limits, crate::proofs::Sequences::next_drafted, crate::proofs::Sequences::none_drafted, crate::proofs::Drafts::drafted_length))]
 fn put_items(alloc: Global, draft: &mut Draft, items: &[Typed]) -> Result<(), AllocError>
     requires { (AllInLimits (items_view items.now))
-        × (draft_place draft.old + operations_of_items (items_view items.now) ≤ most_code_entries) }
+        × (draft_index draft.old + operations_of_items (items_view items.now) ≤ most_code_entries) }
     ensures { OnOk result (draft.new ≡ drafted_items (items_view items.now) draft.old) }
 {
     for item in items {
@@ -204,7 +210,7 @@ fn put_items(alloc: Global, draft: &mut Draft, items: &[Typed]) -> Result<(), Al
 
 /// A loop over a list.
 #[cycle(compiler)]
-#[tactic(auto, using(crate::proofs::Drafts::drafted_length, crate::proofs::Drafts::one_place_more))]
+#[tactic(auto, using(crate::proofs::Drafts::drafted_length, crate::proofs::Drafts::one_index_more))]
 fn put_loop(
     alloc: Global,
     draft: &mut Draft,
@@ -213,16 +219,16 @@ fn put_loop(
     body: &Typed,
 ) -> Result<(), AllocError>
     requires { (InLimits (typed_view list.now)) × (InLimits (typed_view body.now))
-        × (draft_place draft.old + operations (typed_view list.now) + 1 + operations (typed_view body.now) + 1
+        × (draft_index draft.old + operations (typed_view list.now) + 1 + operations (typed_view body.now) + 1
         ≤ most_code_entries) }
     ensures { OnOk result
         (draft.new ≡ drafted (typed.predicate predicate (typed_view list.now) (typed_view body.now)) draft.old) }
 {
     put(alloc, draft, list)?;
-    let enter = draft.place();
+    let enter = draft.index();
     draft.push(Op::Enter(predicate, 0))?;
     put(alloc, draft, body)?;
-    let step = draft.place();
+    let step = draft.index();
     draft.set(enter, Op::Enter(predicate, step as u32));
     draft.push(Op::Step(predicate, enter as u32))
 }

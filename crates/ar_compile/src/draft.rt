@@ -3,7 +3,7 @@
 ghost use Rattle.std.specs.Prelude.{◌≡◌, ◌<◌, ◌≤◌, ◌^◌, [], OnOk, length, map, string_bytes};
 ghost use Rattle.ar_value.specs.Limits.{most_code_entries};
 ghost use Rattle.ar_op.specs.Code.{IsCode, code_of_parts};
-ghost use Rattle.ar_compile.specs.Private.Drafts.{no_code, draft_place, with_field, with_op, with_push_text, with_set};
+ghost use Rattle.ar_compile.specs.Private.Drafts.{no_code, draft_index, with_field, with_op, with_push_text, with_set};
 
 use crate::table::{add_text, number_of};
 use ar_op::op::Source;
@@ -43,8 +43,8 @@ impl Draft {
     }
 
     /// The index of the next operation.
-    pub(crate) fn place(&self) -> usize
-        ensures { result ≡ draft_place self.now }
+    pub(crate) fn index(&self) -> usize
+        ensures { result ≡ draft_index self.now }
     {
         self.ops.len()
     }
@@ -58,7 +58,7 @@ impl Draft {
 
     /// Adds the operation that pushes a text, with the text's number.
     pub(crate) fn push_text(&mut self, alloc: Global, text: &str) -> Result<(), AllocError>
-        requires { draft_place self.old ≤ most_code_entries }
+        requires { draft_index self.old ≤ most_code_entries }
         ensures { OnOk result (self.new ≡ with_push_text text.now self.old) }
     {
         let number = number_of(&self.texts, text);
@@ -68,7 +68,7 @@ impl Draft {
 
     /// Adds the operation that takes a record's field, with its name's number.
     pub(crate) fn push_field(&mut self, alloc: Global, name: &str) -> Result<(), AllocError>
-        requires { draft_place self.old ≤ most_code_entries }
+        requires { draft_index self.old ≤ most_code_entries }
         ensures { OnOk result (self.new ≡ with_field name.now self.old) }
     {
         let number = number_of(&self.names, name);
@@ -76,12 +76,12 @@ impl Draft {
         add_text(alloc, &mut self.names, name, number)
     }
 
-    /// Puts another operation at `place`.
-    pub(crate) fn set(&mut self, place: usize, op: Op)
-        requires { place < draft_place self.old }
-        ensures { self.new ≡ with_set place op self.old }
+    /// Puts another operation at `index`.
+    pub(crate) fn set(&mut self, index: usize, op: Op)
+        requires { index < draft_index self.old }
+        ensures { self.new ≡ with_set index op self.old }
     {
-        self.ops[place] = op;
+        self.ops[index] = op;
     }
 
     pub(crate) fn into_code(self) -> Code

@@ -18,8 +18,12 @@ pub(crate) fn room_after(room: usize, tree: &Typed) -> Option<usize>
         Typed::Unary { operand, .. } => room_after_one(room, operand),
         Typed::Binary { left, right, .. } => room_after_two(room, left, right),
         Typed::And { left, right } | Typed::Or { left, right } => room_after_two(room, left, right),
-        Typed::Choice { condition, yes, no } => {
-            room_after(room_after_two(room, condition, yes)?, no)?.checked_sub(1)
+        Typed::Choice {
+            condition,
+            then_branch,
+            else_branch,
+        } => {
+            room_after(room_after_two(room, condition, then_branch)?, else_branch)?.checked_sub(1)
         }
         Typed::List { items, .. } => room_after_items(room, &items.items)?.checked_sub(1),
         Typed::Predicate { list, body, .. } => room_after_two(room, list, body)?.checked_sub(1),

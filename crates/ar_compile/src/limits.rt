@@ -35,9 +35,11 @@ pub fn in_limits(tree: &Typed) -> bool
         Typed::And { left, right } | Typed::Or { left, right } => {
             in_limits(left) && in_limits(right)
         }
-        Typed::Choice { condition, yes, no } => {
-            in_limits(condition) && in_limits(yes) && in_limits(no)
-        }
+        Typed::Choice {
+            condition,
+            then_branch,
+            else_branch,
+        } => { in_limits(condition) && in_limits(then_branch) && in_limits(else_branch) }
         Typed::List { items, .. } => { all_in_limits(&items.items) && is_few(&items.items) }
         Typed::Predicate { list, body, .. } => in_limits(list) && in_limits(body),
     }

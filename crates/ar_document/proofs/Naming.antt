@@ -23,41 +23,41 @@ abbrev or_next : Option ℕ → Bool → ℕ → Option ℕ
 or_next (Some number) same next = Some number
 or_next None same next = if same then Some next else None
 
-value_behind : (numbers : List (List ℕ × ℕ)) (name next : List ℕ) (number : ℕ) → value_of name (numbers ++ (next, number) ∷ []) ≡ or_next (value_of name numbers) (bytes_eq name next) number
-value_behind [] name next number = by_test (bytes_eq name next)
+value_after : (numbers : List (List ℕ × ℕ)) (name next : List ℕ) (number : ℕ) → value_of name (numbers ++ (next, number) ∷ []) ≡ or_next (value_of name numbers) (bytes_eq name next) number
+value_after [] name next number = by_test (bytes_eq name next)
   where
     by_test : (same : Bool) → (if same then Some number else None) ≡ or_next None same number
     by_test same = refl
-value_behind (first ∷ numbers) name next number = by_test (bytes_eq name first.0) (value_behind numbers name next number)
+value_after (first ∷ numbers) name next number = by_test (bytes_eq name first.0) (value_after numbers name next number)
   where
     by_test : (same : Bool) → value_of name (numbers ++ (next, number) ∷ []) ≡ or_next (value_of name numbers) (bytes_eq name next) number
         → (if same then Some first.1 else value_of name (numbers ++ (next, number) ∷ [])) ≡ or_next (if same then Some first.1 else value_of name numbers) (bytes_eq name next) number
-    by_test true behind = refl
-    by_test false behind = behind
+    by_test true after = refl
+    by_test false after = after
 
 number_one_more : (found : Option ℕ) (same : Bool) (count : ℕ) → option_map suc (or_next found same count) ≡ or_next (option_map suc found) same (suc count)
 number_one_more (Some number) same count = refl
 number_one_more None true count = refl
 number_one_more None false count = refl
 
-number_behind : (names : List (List ℕ)) (name next : List ℕ) → index_of_name name (names ++ next ∷ []) ≡ or_next (index_of_name name names) (bytes_eq name next) (length names)
-number_behind [] name next = by_test (bytes_eq name next)
+number_after : (names : List (List ℕ)) (name next : List ℕ) → index_of_name name (names ++ next ∷ []) ≡ or_next (index_of_name name names) (bytes_eq name next) (length names)
+number_after [] name next = by_test (bytes_eq name next)
   where
     by_test : (same : Bool) → (if same then Some 0 else None) ≡ or_next None same 0
     by_test same = refl
-number_behind (first ∷ names) name next = by_test (bytes_eq name first) (number_behind names name next)
+number_after (first ∷ names) name next = by_test (bytes_eq name first) (number_after names name next)
   where
     by_test : (same : Bool) → index_of_name name (names ++ next ∷ []) ≡ or_next (index_of_name name names) (bytes_eq name next) (length names)
         → (if same then Some 0 else option_map suc (index_of_name name (names ++ next ∷ []))) ≡ or_next (if same then Some 0 else option_map suc (index_of_name name names)) (bytes_eq name next) (suc (length names))
-    by_test true behind = refl
-    by_test false behind = ap (option_map suc) behind ∙ number_one_more (index_of_name name names) (bytes_eq name next) (length names)
+    by_test true after = refl
+    by_test false after = ap (option_map suc) after ∙ number_one_more (index_of_name name names) (bytes_eq name next) (length names)
 
 -- a name that is new gets the next number
 pub new_name : (names : List (List ℕ)) (numbers after : List (List ℕ × ℕ)) (name : List ℕ) (number : ℕ) → AreNumbers names numbers → value_of name numbers ≡ None → length names ≡ number
     → after ≡ with_value numbers name number → AreNumbers (names ++ name ∷ []) after
 new_name names numbers after name number are new count pushed =
     let last : after ≡ numbers ++ (name, number) ∷ [] = pushed ∙ with_new_value numbers name number new in
-    record { same = λ other. rw last (value_behind numbers other name number ∙ rw (are.same other, count) refl ∙ sym (number_behind names other name)) }
+    record { same = λ other. rw last (value_after numbers other name number ∙ rw (are.same other, count) refl ∙ sym (number_after names other name)) }
 
 stays : (found : Option ℕ) (same : Bool) (count : ℕ) → (same ≡ true → is_some found ≡ true) → found ≡ or_next found same count
 stays (Some number) same count old = refl
@@ -67,7 +67,7 @@ stays None false count old = refl
 -- a name that an earlier one is the same as has its number
 pub old_name : (names : List (List ℕ)) (numbers : List (List ℕ × ℕ)) (name : List ℕ) → AreNumbers names numbers → is_some (value_of name numbers) ≡ true → AreNumbers (names ++ name ∷ []) numbers
 old_name names numbers name are old =
-    record { same = λ other. are.same other ∙ stays (index_of_name other names) (bytes_eq other name) (length names) (λ same. subst (λ text. is_some (index_of_name text names) ≡ true) (sym ((bytes_eq-Decides other name).0 same)) (rw (are.same name) at old)) ∙ sym (number_behind names other name) }
+    record { same = λ other. are.same other ∙ stays (index_of_name other names) (bytes_eq other name) (length names) (λ same. subst (λ text. is_some (index_of_name text names) ≡ true) (sym ((bytes_eq-Decides other name).0 same)) (rw (are.same name) at old)) ∙ sym (number_after names other name) }
 
 -- the numbers of no names
 pub no_names : AreNumbers [] []
@@ -83,8 +83,8 @@ number_inside name [] = tt
 number_inside name (first ∷ names) = by_test (bytes_eq name first) (later (index_of_name name names) (length names) (number_inside name names))
   where
     by_test : (same : Bool) → IfSome (option_map suc (index_of_name name names)) (λ n. n < suc (length names)) → IfSome (if same then Some 0 else option_map suc (index_of_name name names)) (λ n. n < suc (length names))
-    by_test true behind = omega arith
-    by_test false behind = behind
+    by_test true after = omega arith
+    by_test false after = after
 
 pub run_inside : (runs : List Run) (name : List ℕ) (n : ℕ) → index_of_name name (names_of runs) ≡ Some n → n < length runs
 run_inside runs name n is =

@@ -21,11 +21,11 @@ use Rattle.ar_judge.proofs.OneCause.{judged_alone, one_error}
 -- ---- items and their positions
 
 -- an item before the end of what is taken is in it
-kept : {A : Type 0} (xs : List A) (end place : ℕ) (x : A) → place < end → slice_get xs place ≡ Some x → slice_get (take end xs) place ≡ Some x
-kept [] end place x less is = absurd cc
-kept (first ∷ xs) zero place x less is = absurd (omega arith)
+kept : {A : Type 0} (xs : List A) (end index : ℕ) (x : A) → index < end → slice_get xs index ≡ Some x → slice_get (take end xs) index ≡ Some x
+kept [] end index x less is = absurd cc
+kept (first ∷ xs) zero index x less is = absurd (omega arith)
 kept (first ∷ xs) (suc end) zero x less is = is
-kept (first ∷ xs) (suc end) (suc place) x less is = kept xs end place x (omega arith) is
+kept (first ∷ xs) (suc end) (suc index) x less is = kept xs end index x (omega arith) is
 
 -- of two positions one is the lower, or they are the same
 data Order (one other : ℕ) : Type 0 where
@@ -48,16 +48,16 @@ record Judged (metric : Metric) (own : BoundMetric) : Type 0 where
   judge : Judge
   is : IsJudge metric.shape own.success_condition own.failure_condition judge
 
-judged_at : (metrics : List Metric) (bound : List BoundMetric) (judges : List Judge) (place : ℕ) (metric : Metric) (own : BoundMetric) → AreJudges metrics bound judges
-    → slice_get metrics place ≡ Some metric → slice_get bound place ≡ Some own → Judged metric own
-judged_at [] bound judges place metric own are metric_is own_is = absurd cc
-judged_at (first ∷ metrics) [] judges place metric own are metric_is own_is = absurd are
-judged_at (first ∷ metrics) (next ∷ bound) [] place metric own are metric_is own_is = absurd are
+judged_at : (metrics : List Metric) (bound : List BoundMetric) (judges : List Judge) (index : ℕ) (metric : Metric) (own : BoundMetric) → AreJudges metrics bound judges
+    → slice_get metrics index ≡ Some metric → slice_get bound index ≡ Some own → Judged metric own
+judged_at [] bound judges index metric own are metric_is own_is = absurd cc
+judged_at (first ∷ metrics) [] judges index metric own are metric_is own_is = absurd are
+judged_at (first ∷ metrics) (next ∷ bound) [] index metric own are metric_is own_is = absurd are
 judged_at (first ∷ metrics) (next ∷ bound) (judge ∷ judges) zero metric own are metric_is own_is =
     let metric_same : first ≡ metric = cc in
     let own_same : next ≡ own = cc in
     record { judge = judge; is = subst (λ (m : Metric). IsJudge m.shape own.success_condition own.failure_condition judge) metric_same (subst (λ (o : BoundMetric). IsJudge first.shape o.success_condition o.failure_condition judge) own_same are.0) }
-judged_at (first ∷ metrics) (next ∷ bound) (judge ∷ judges) (suc place) metric own are metric_is own_is = judged_at metrics bound judges place metric own are.1 metric_is own_is
+judged_at (first ∷ metrics) (next ∷ bound) (judge ∷ judges) (suc index) metric own are metric_is own_is = judged_at metrics bound judges index metric own are.1 metric_is own_is
 
 -- all metrics are judged, or one is refused
 metric_alone : (opened : Opened) (run : Run) (bound : List BoundMetric) (judges : List Judge) (number : ℕ) (error : BuildError) (refused : RefusesMetric opened run number error)
@@ -120,13 +120,13 @@ record HasPart (opened : Opened) (run : Run) : Type 0 where
   part : RunPart
   is : IsPart opened run part
 
-part_at : (opened : Opened) (runs : List Run) (parts : List RunPart) (place : ℕ) (run : Run) → HaveParts opened runs parts → slice_get runs place ≡ Some run → HasPart opened run
-part_at opened [] parts place run are is = absurd cc
-part_at opened (first ∷ runs) [] place run are is = absurd are
+part_at : (opened : Opened) (runs : List Run) (parts : List RunPart) (index : ℕ) (run : Run) → HaveParts opened runs parts → slice_get runs index ≡ Some run → HasPart opened run
+part_at opened [] parts index run are is = absurd cc
+part_at opened (first ∷ runs) [] index run are is = absurd are
 part_at opened (first ∷ runs) (part ∷ parts) zero run are is =
     let same : first ≡ run = cc in
     record { part = part; is = subst (λ (r : Run). IsPart opened r part) same are.0 }
-part_at opened (first ∷ runs) (part ∷ parts) (suc place) run are is = part_at opened runs parts place run are.1 is
+part_at opened (first ∷ runs) (part ∷ parts) (suc index) run are is = part_at opened runs parts index run are.1 is
 
 -- all runs have their parts, or one is refused
 parts_alone : (opened : Opened) (parts : List RunPart) (error : BundleError) → HaveParts opened opened.runs parts → RefusesRuns opened error → ⊥

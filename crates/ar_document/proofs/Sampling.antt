@@ -20,12 +20,12 @@ use Rattle.ar_document.specs.declared.error.BundleError.{BundleError}
 use Rattle.ar_document.specs.declared.error.BundleError.TheVariants.{UnknownMetric}
 
 by_memory : (memory under : Bool) (P : Type 0) → (under ≡ true → memory ≡ true) → memory ≡ false → Unless under P → P
-by_memory memory true P more none told = absurd (let is = more refl in cc)
-by_memory memory false P more none told = told
+by_memory memory true P more none reported = absurd (let is = more refl in cc)
+by_memory memory false P more none reported = reported
 
 -- what was read is a misfit, where it isn't out of memory
-pub misfit_told : (shape : Shape) (json : Data) (fault : ShapeFault) → is_reading_memory fault ≡ false → Unless (is_memory_under shape fault) (read shape json ≡ Err fault) → sample_by (read shape json) ≡ misfit fault
-misfit_told shape json fault none told = rw (by_memory (is_reading_memory fault) (is_memory_under shape fault) (read shape json ≡ Err fault) (under_is_memory shape fault) none told) refl
+pub misfit_reported : (shape : Shape) (json : Data) (fault : ShapeFault) → is_reading_memory fault ≡ false → Unless (is_memory_under shape fault) (read shape json ≡ Err fault) → sample_by (read shape json) ≡ misfit fault
+misfit_reported shape json fault none reported = rw (by_memory (is_reading_memory fault) (is_memory_under shape fault) (read shape json ≡ Err fault) (under_is_memory shape fault) none reported) refl
 
 pub misfit_suits : (fault : ShapeFault) → is_reading_memory fault ≡ false → fault ≢ OutOfMemory
 misfit_suits fault none same = absurd (let is : is_reading_memory OutOfMemory ≡ false = rw same at none in cc)

@@ -18,7 +18,7 @@ use Rattle.ar_manifest.specs.Template.{TemplateArguments, arguments_of, metrics_
 use Rattle.ar_manifest.specs.declared.template.Metric.{Metric}
 use Rattle.ar_document.proofs.Growing.{one_more}
 use Rattle.ar_manifest.specs.declared.bound.BoundMetric.{BoundMetric}
-use Rattle.ar_value.specs.Answer.{◌>>=◌, each_behind, there_or}
+use Rattle.ar_value.specs.Answer.{◌>>=◌, each_after, there_or}
 use Rattle.ar_value.specs.Limits.{most_metrics}
 use Rattle.ar_json.specs.Members.{member_of_member, list_of}
 use Rattle.ar_manifest.specs.declared.error.ManifestError.{ManifestError}
@@ -32,11 +32,11 @@ module _ {A B : Type 0} (second : A → Result B ManifestError) (all : B) where
   first_answers (Err refusal) both = absurd cc
 
 -- one is made of each item
-pub as_many : {A B : Type 0} (step : List B → A → Result B ManifestError) (earlier : List B) (items : List A) (all : List B) → each_behind step earlier items ≡ Ok all → length all ≡ length earlier + length items
-unfolding each_behind
+pub as_many : {A B : Type 0} (step : List B → A → Result B ManifestError) (earlier : List B) (items : List A) (all : List B) → each_after step earlier items ≡ Ok all → length all ≡ length earlier + length items
+unfolding each_after
 as_many step earlier [] all is = let same : earlier ≡ all = cc in rw (← same) (omega arith)
 as_many {B = B} step earlier (item ∷ items) all is =
-    let made = first_answers (λ made. each_behind step (earlier ++ made ∷ []) items) all (step earlier item) is in
+    let made = first_answers (λ made. each_after step (earlier ++ made ∷ []) items) all (step earlier item) is in
     as_many step (earlier ++ made.0 ∷ []) items all made.2 ∙ rw (length-append {A = B} earlier (made.0 ∷ [])) (omega arith)
 
 few_items : (items some : List Data) → metrics_counted items ≡ Ok some → length some ≤ most_metrics
@@ -64,7 +64,7 @@ few_metrics document template is =
     let named = first_answers _ template (head_of document) is in
     let argued = first_answers _ template (arguments_of (member_of_member (codes "spec") (codes "args") document)) named.2 in
     let listed = first_answers _ template (counted_metrics (member_of_member (codes "spec") (codes "metrics") document)) argued.2 in
-    let made = first_answers _ template (each_behind metric_of [] listed.0) listed.2 in
+    let made = first_answers _ template (each_after metric_of [] listed.0) listed.2 in
     let marked = first_answers _ template (with_dry_run (member_of_member (codes "spec") (codes "dryRun") document) made.0) made.2 in
     let items = first_answers metrics_counted listed.0 (there_or NoMetrics (option_and_then list_of (member_of_member (codes "spec") (codes "metrics") document))) listed.1 in
     let few = few_items items.0 listed.0 items.2 in
@@ -124,11 +124,11 @@ positive_count arguments own i metric bound is =
 
 -- what holds of each that a step makes holds of all
 each_is : {A B : Type 0} (P : B → Type 0) (step : List B → A → Result B ManifestError) → ((earlier : List B) (item : A) (made : B) → step earlier item ≡ Ok made → P made) → (earlier : List B) (items : List A) (all : List B)
-    → AllByRecursion P earlier → each_behind step earlier items ≡ Ok all → AllByRecursion P all
-unfolding each_behind
+    → AllByRecursion P earlier → each_after step earlier items ≡ Ok all → AllByRecursion P all
+unfolding each_after
 each_is P step holds earlier [] all before is = subst (AllByRecursion P) (let same : earlier ≡ all = cc in same) before
 each_is {B = B} P step holds earlier (item ∷ items) all before is =
-    let made = first_answers (λ made. each_behind step (earlier ++ made ∷ []) items) all (step earlier item) is in
+    let made = first_answers (λ made. each_after step (earlier ++ made ∷ []) items) all (step earlier item) is in
     each_is P step holds (earlier ++ made.0 ∷ []) items all (one_more P earlier made.0 before (holds earlier item made.0 made.1)) made.2
 
 -- the counts of bound metrics are 1 or more

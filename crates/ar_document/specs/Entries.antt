@@ -3,7 +3,7 @@ use Rattle.std.specs.Prelude.{ℕ, nat_lt, Bool, false, if◌then◌else◌, Lis
 use Rattle.ar_value.specs.Terms.{Text}
 use Rattle.serde_json.specs.Data.{Data, boolean}
 use Rattle.serde_json.specs.Find.{get, as_str}
-use Rattle.ar_value.specs.Answer.{◌>>=◌, there_or, each_behind}
+use Rattle.ar_value.specs.Answer.{◌>>=◌, there_or, each_after}
 use Rattle.ar_json.specs.Reading.{read}
 use Rattle.ar_value.specs.Shape.{Shape}
 use Rattle.ar_value.specs.Value.{Value}
@@ -44,7 +44,7 @@ abbrev pub text_of : Text → Data → Option (List ℕ)
 text_of name item = option_and_then as_str (get name item)
 
 abbrev pub is_true : Option Data → Bool
-is_true (Some (boolean truth)) = truth
+is_true (Some (boolean value)) = value
 is_true found = false
 
 -- the value that was measured, or nothing where the provider failed: just one of the two is there, of any value
@@ -103,4 +103,4 @@ abbrev pub entry_items : Data → Result (List Data) BundleError
 entry_items document = listed_entries (member (codes "measurements") document) >>= few_entries
 
 unfoldable pub entries_in : Opened → Data → Result (List Entry) BundleError
-entries_in opened document = entry_items document >>= each_behind (entry_in opened) []
+entries_in opened document = entry_items document >>= each_after (entry_in opened) []

@@ -5,7 +5,7 @@ use Rattle.std.specs.Str.{bytes_eq}
 use Rattle.ar_value.specs.Terms.{Text}
 use Rattle.serde_json.specs.Data.{Data, null, string, object, Members, no_members, member}
 use Rattle.serde_json.specs.Find.{get, as_str}
-use Rattle.ar_value.specs.Answer.{◌>>=◌, there_or, holds_or, each_behind}
+use Rattle.ar_value.specs.Answer.{◌>>=◌, there_or, holds_or, each_after}
 use Rattle.ar_json.specs.Declaration.{shape_of}
 use Rattle.ar_value.specs.Shape.{Shape}
 use Rattle.ar_value.specs.View.{shape_view}
@@ -49,7 +49,7 @@ with_shape shapes earlier metric = do
   Ok (metric_with metric.name shape)
 
 abbrev pub metrics_in : (shapes : Option Data) → List templates.Metric → Result (List Metric) BundleError
-metrics_in shapes metrics = each_behind (with_shape shapes) [] metrics
+metrics_in shapes metrics = each_after (with_shape shapes) [] metrics
 
 -- ---- runs, as they are written
 
@@ -100,7 +100,7 @@ run_items document = there_or Runs (option_and_then list_of (get (codes "runs") 
 abbrev pub runs_in : Data → Result (List Run) BundleError
 runs_in document = do
   items ← run_items document
-  runs ← each_behind (λ earlier. run_of) [] items
+  runs ← each_after (λ earlier. run_of) [] items
   new ← are_new [] (names_of runs)
   Ok runs
 

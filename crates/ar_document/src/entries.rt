@@ -4,7 +4,7 @@ ghost use Rattle.std.specs.Prelude.{◌≡◌, ◌<◌, ◌≤◌, ℕ, List, []
 ghost use Rattle.std.specs.List.{AllByRecursion};
 ghost use Rattle.serde_json.specs.Find.{get};
 ghost use Rattle.serde_json.specs.View.{view};
-ghost use Rattle.ar_value.specs.Answer.{Gives, each_behind, there_or};
+ghost use Rattle.ar_value.specs.Answer.{Gives, each_after, there_or};
 ghost use Rattle.ar_value.specs.View.{shape_view};
 ghost use Rattle.ar_json.specs.Members.{unless_null};
 ghost use Rattle.ar_json.specs.Reading.{is_reading_memory as is_fault_of_memory};
@@ -49,7 +49,7 @@ fn is_true(found: Option<&Json>) -> bool
     ensures { result ≡ is_true (option_map (λ json. view json.now) found.entry) }
 {
     match found {
-        Some(Json::Bool(truth)) => *truth,
+        Some(Json::Bool(value)) => *value,
         _ => false,
     }
 }
@@ -80,7 +80,7 @@ fn misfit_of(fault: ShapeFault) -> Result<Sample, BundleError>
 }
 
 /// The sample of what was given, read under the shape of its metric.
-#[tactic(auto, using(crate::proofs::Sampling::misfit_told, crate::proofs::Sampling::misfit_suits))]
+#[tactic(auto, using(crate::proofs::Sampling::misfit_reported, crate::proofs::Sampling::misfit_suits))]
 fn sample_of(alloc: Global, reader: &Reader, found: Option<&Json>) -> Result<Sample, BundleError>
     ensures exact { IfOk result
         (λ sample. sample_view sample ≡ sample_of (shape_view reader.now)
@@ -232,7 +232,7 @@ fn entries_of(
 ) -> Result<Vec<EventPart>, BundleError>
     requires { IsOpened opened.now }
     ensures exact { Gives is_bundle_memory (λ entries. map entry_view entries.items) result
-        (each_behind (entry_in (opened_view opened.now)) [] (map (λ json. view json) items.items)) }
+        (each_after (entry_in (opened_view opened.now)) [] (map (λ json. view json) items.items)) }
     ensures each { IfOk result (λ entries. length entries.items ≡ length items.items) }
     ensures entries { IfOk result
         (λ entries. AllByRecursion

@@ -12,7 +12,7 @@ pub fn bundle_or_fault()
         → ReadsInput input (Err error) → ⊥ }
 {}
 
-/// It is refused for one fault.
+/// An input that is refused is refused for one fault, whatever else is wrong with it.
 #[tactic(auto, using(crate::proofs::OneAnswer::same_fault))]
 pub fn same_fault()
     ensures { (input : List ℕ) (error other : BundleError) → ReadsInput input (Err error) → ReadsInput input (Err other)

@@ -2,7 +2,7 @@
 
 ghost use Rattle.std.specs.Prelude.{◌≡◌, ◌≤◌, ◌++◌, ◌∷◌, ℕ, List, [], IfOk, OnOk, false, is_none, length, map, option_map};
 ghost use Rattle.serde_json.specs.View.{members_view, view};
-ghost use Rattle.ar_value.specs.Answer.{Gives, each_behind, holds_or};
+ghost use Rattle.ar_value.specs.Answer.{Gives, each_after, holds_or};
 ghost use Rattle.ar_value.specs.Limits.{most_runs};
 ghost use Rattle.ar_document.specs.Document.{is_bundle_memory};
 ghost use Rattle.ar_document.specs.Opening.{are_new, names_of, index_of_name, own_arguments, run_items, run_of, runs_in, texts_by_name};
@@ -98,7 +98,7 @@ fn run_items(document: &Json) -> Result<&[Json], BundleError>
 /// The runs of a document, whose names may still be the same.
 fn runs_of(alloc: Global, items: &[Json]) -> Result<Vec<Run>, BundleError>
     ensures exact { Gives is_bundle_memory (λ runs. runs.items) result
-        (each_behind (λ earlier. run_of) [] (map (λ json. view json) items.now)) }
+        (each_after (λ earlier. run_of) [] (map (λ json. view json) items.now)) }
     ensures each { IfOk result (λ runs. length runs.items ≡ length items.now) }
 {
     let mut runs = Vec::with_capacity(alloc, items.len())?;

@@ -13,7 +13,7 @@ use Rattle.ar_syntax.specs.Machine.{parser_step}
 use Rattle.ar_syntax.specs.Parse.{parse_of, tree_of}
 use Rattle.ar_syntax.specs.Roles.{follows, is_brace, is_group, is_in, field_name_of, begun_by, literal_text}
 use Rattle.ar_syntax.specs.Token.{word_of}
-use Rattle.ar_syntax.specs.Tokens.{base_of, front_of, number_at_front, sign_at, text_at_front, token_of, tokens_behind, tokens_of}
+use Rattle.ar_syntax.specs.Tokens.{base_of, front_of, number_at_front, sign_at, text_at_front, token_of, tokens_after, tokens_of}
 use Rattle.ar_syntax.specs.declared.error.SyntaxError.TheVariants.{LiteralTooFine, Unexpected}
 use Rattle.ar_check.specs.declared.error.TypeError.TheVariants.{WrongOperand}
 use Rattle.ar_eval.specs.Evaluation.{Prepared, meant, prepared}
@@ -39,27 +39,27 @@ abbrev document : List ℕ → Data → Data → Data
 document condition shape value = object (member (codes "condition") (string condition) (member (codes "shape") shape (member (codes "value") value no_members)))
 
 success_rate : said_of (document (codes "result >= 0.95") (string (codes "decimal")) (string (codes "0.9523809523809523"))) ≡ Ok (Some (Ok true))
-unfolding prepared shape_of parse_of tree_of fault_of parser_step begun_by follows field_name_of literal_text is_in is_group is_brace tokens_of tokens_behind front_of token_of number_at_front base_of text_at_front sign_at word_of decimal_of
+unfolding prepared shape_of parse_of tree_of fault_of parser_step begun_by follows field_name_of literal_text is_in is_group is_brace tokens_of tokens_after front_of token_of number_at_front base_of text_at_front sign_at word_of decimal_of
 success_rate = refl
 
 just_below : said_of (document (codes "result >= 0.95") (string (codes "decimal")) (string (codes "0.9499999999"))) ≡ Ok (Some (Ok false))
-unfolding prepared shape_of parse_of tree_of fault_of parser_step begun_by follows field_name_of literal_text is_in is_group is_brace tokens_of tokens_behind front_of token_of number_at_front base_of text_at_front sign_at word_of decimal_of
+unfolding prepared shape_of parse_of tree_of fault_of parser_step begun_by follows field_name_of literal_text is_in is_group is_brace tokens_of tokens_after front_of token_of number_at_front base_of text_at_front sign_at word_of decimal_of
 just_below = refl
 
 not_rounded : said_of (document (codes "result > 0.5") (string (codes "whole")) (number (unsigned 9223372036854775807))) ≡ Ok (Some (Ok true))
-unfolding prepared shape_of parse_of tree_of fault_of parser_step begun_by follows field_name_of literal_text is_in is_group is_brace tokens_of tokens_behind front_of token_of number_at_front base_of text_at_front sign_at word_of
+unfolding prepared shape_of parse_of tree_of fault_of parser_step begun_by follows field_name_of literal_text is_in is_group is_brace tokens_of tokens_after front_of token_of number_at_front base_of text_at_front sign_at word_of
 not_rounded = refl
 
 unequal : said_of (document (codes "result != false") (string (codes "bool")) (boolean false)) ≡ Ok (Some (Ok false))
-unfolding prepared shape_of parse_of tree_of fault_of parser_step begun_by follows field_name_of literal_text is_in is_group is_brace tokens_of tokens_behind front_of token_of number_at_front base_of text_at_front sign_at word_of
+unfolding prepared shape_of parse_of tree_of fault_of parser_step begun_by follows field_name_of literal_text is_in is_group is_brace tokens_of tokens_after front_of token_of number_at_front base_of text_at_front sign_at word_of
 unequal = refl
 
 no_order : fault_in (prepared (document (codes "result < true") (string (codes "bool")) (boolean true))) ≡ Some (Kinds (WrongOperand 7))
-unfolding prepared shape_of parse_of tree_of fault_of parser_step begun_by follows field_name_of literal_text is_in is_group is_brace tokens_of tokens_behind front_of token_of number_at_front base_of text_at_front sign_at word_of
+unfolding prepared shape_of parse_of tree_of fault_of parser_step begun_by follows field_name_of literal_text is_in is_group is_brace tokens_of tokens_after front_of token_of number_at_front base_of text_at_front sign_at word_of
 no_order = refl
 
 too_fine : fault_in (prepared (document (codes "result > 0.1234567") (string (codes "bool")) (boolean true))) ≡ Some (Grammar (LiteralTooFine 9))
-unfolding prepared shape_of parse_of tree_of fault_of parser_step begun_by follows field_name_of literal_text is_in is_group is_brace tokens_of tokens_behind front_of token_of number_at_front base_of text_at_front sign_at word_of
+unfolding prepared shape_of parse_of tree_of fault_of parser_step begun_by follows field_name_of literal_text is_in is_group is_brace tokens_of tokens_after front_of token_of number_at_front base_of text_at_front sign_at word_of
 too_fine = refl
 
 shape_first : said_of (document (codes "result >") (string (codes "float")) (boolean true)) ≡ Err (Shape UnknownShape)
@@ -67,11 +67,11 @@ unfolding prepared shape_of
 shape_first = refl
 
 unfinished : fault_in (prepared (document (codes "result >") (string (codes "bool")) (boolean true))) ≡ Some (Grammar (Unexpected 8))
-unfolding prepared shape_of parse_of tree_of fault_of parser_step begun_by follows field_name_of literal_text is_in is_group is_brace tokens_of tokens_behind front_of token_of number_at_front base_of text_at_front sign_at word_of
+unfolding prepared shape_of parse_of tree_of fault_of parser_step begun_by follows field_name_of literal_text is_in is_group is_brace tokens_of tokens_after front_of token_of number_at_front base_of text_at_front sign_at word_of
 unfinished = refl
 
 misfit_last : said_of (document (codes "result > 0") (string (codes "whole")) (string (codes "7"))) ≡ Err (Misfit WrongKind)
-unfolding prepared shape_of parse_of tree_of fault_of parser_step begun_by follows field_name_of literal_text is_in is_group is_brace tokens_of tokens_behind front_of token_of number_at_front base_of text_at_front sign_at word_of
+unfolding prepared shape_of parse_of tree_of fault_of parser_step begun_by follows field_name_of literal_text is_in is_group is_brace tokens_of tokens_after front_of token_of number_at_front base_of text_at_front sign_at word_of
 misfit_last = refl
 
 -- a fault of the condition on a value
@@ -79,7 +79,7 @@ rates : Data
 rates = object (member (codes "list") (string (codes "decimal")) (member (codes "max") (number (unsigned 10)) no_members))
 
 nothing_measured : said_of (document (codes "result[0] >= 0.95") rates (array no_items)) ≡ Ok (Some (Err IndexOutOfRange))
-unfolding prepared rates shape_of parse_of tree_of fault_of parser_step begun_by follows field_name_of literal_text is_in is_group is_brace tokens_of tokens_behind front_of token_of number_at_front base_of text_at_front sign_at word_of
+unfolding prepared rates shape_of parse_of tree_of fault_of parser_step begun_by follows field_name_of literal_text is_in is_group is_brace tokens_of tokens_after front_of token_of number_at_front base_of text_at_front sign_at word_of
 nothing_measured = refl
 
 no_object : said_of (string (codes "result")) ≡ Err BadDocument

@@ -29,7 +29,7 @@ not_built text shape measured causes.OutOfMemory refused = tt
 not_built text shape measured (causes.Grammar error) refused = refused
 not_built text shape measured (causes.Kinds error) refused = refused
 not_built text shape measured (causes.Compiler error) refused = refused
-not_built text shape measured (causes.Verifier place reason) refused = refused
+not_built text shape measured (causes.Verifier index reason) refused = refused
 
 said_as : (shape : Shape) (text : List ℕ) (condition : Condition) (value : Value) (answer : Result Bool Fault) → IsBuilt shape text condition → said (shape_view condition.verified.shape) condition.text value ≡ Some answer → said shape text value ≡ Some answer
 said_as shape text condition value answer built says = subst (λ text. said shape text value ≡ Some answer) built.text_is (subst (λ shape. said shape condition.text value ≡ Some answer) built.shape_is says)
@@ -43,11 +43,11 @@ answered text shape measured condition value answer built is_read says =
     (record { condition = condition; built = built }, rw (read_shape, said_shape) refl)
 
 -- a misfit of what was measured is reported, where the condition can be run
-pub misfit_told : (text : List ℕ) (shape : Shape) (measured : Data) (condition : Condition) (fault : ShapeFault) → IsBuilt shape text condition → Unless (is_reading_memory fault) (read (shape_view condition.verified.shape) measured ≡ Err fault)
+pub misfit_reported : (text : List ℕ) (shape : Shape) (measured : Data) (condition : Condition) (fault : ShapeFault) → IsBuilt shape text condition → Unless (is_reading_memory fault) (read (shape_view condition.verified.shape) measured ≡ Err fault)
     → UnlessMemory is_eval_memory (Err (of_misfit fault)) (Answers (prepared_of text shape measured))
-misfit_told text shape measured condition shape_fault.OutOfMemory built told = tt
-misfit_told text shape measured condition fault built told =
-    let unread : read shape measured ≡ Err fault = rw built.shape_is at told in
+misfit_reported text shape measured condition shape_fault.OutOfMemory built reported = tt
+misfit_reported text shape measured condition fault built reported =
+    let unread : read shape measured ≡ Err fault = rw built.shape_is at reported in
     (record { condition = condition; built = built }, rw unread refl)
 
 -- an answer for a document is one for the input that it is

@@ -71,7 +71,7 @@ abbrev pub Answers : Prepared → Result (Result Bool Fault) EvalError → Type 
 Answers given (Err (Grammar error)) = IsRefused given.shape given.text (causes.Grammar error)
 Answers given (Err (Kinds error)) = IsRefused given.shape given.text (causes.Kinds error)
 Answers given (Err (Compiler error)) = IsRefused given.shape given.text (causes.Compiler error)
-Answers given (Err (Verifier place reason)) = IsRefused given.shape given.text (causes.Verifier place reason)
+Answers given (Err (Verifier index reason)) = IsRefused given.shape given.text (causes.Verifier index reason)
 Answers given (Err error) = IsRunnable given × (meant given ≡ Err error)
 Answers given (Ok answer) = IsRunnable given × (meant given ≡ Ok (Some answer))
 
@@ -89,7 +89,7 @@ of_build causes.OutOfMemory = OutOfMemory
 of_build (causes.Grammar error) = Grammar error
 of_build (causes.Kinds error) = Kinds error
 of_build (causes.Compiler error) = Compiler error
-of_build (causes.Verifier place reason) = Verifier place reason
+of_build (causes.Verifier index reason) = Verifier index reason
 
 -- a fault of the shape, and of the value, in the same way
 abbrev pub of_shape : ShapeError → EvalError

@@ -62,7 +62,7 @@ impl From<BuildCause> for EvalError {
             BuildCause::Grammar(error) => EvalError::Grammar(error),
             BuildCause::Kinds(error) => EvalError::Kinds(error),
             BuildCause::Compiler(error) => EvalError::Compiler(error),
-            BuildCause::Verifier(place, reason) => EvalError::Verifier(place, reason),
+            BuildCause::Verifier(index, reason) => EvalError::Verifier(index, reason),
             BuildCause::OutOfMemory => EvalError::OutOfMemory,
         }
     }
@@ -164,7 +164,7 @@ fn judge_text(
     answer(alloc, &condition, measured)
 }
 
-/// What a condition says of what was measured.
+/// The answer of a condition on a measured JSON value: a boolean or a fault, or why the value doesn't fit the shape.
 #[tactic(auto, using(crate::proofs::Judging::answered))]
 fn answer(alloc: Global, condition: &Condition, measured: &Json) -> Result<Answer, EvalError>
     ensures { (text : List ℕ) (shape : Declared) → IsBuilt shape text condition.now

@@ -33,10 +33,10 @@ onto_one (first ∷ done) needs rest = ap (more first) (onto_one done needs rest
 
 -- the first fields were examined
 abbrev pub Inner_before : List (List ℕ) → List ShapeCode → ℕ → List NeedsCode → Type 0
-Inner_before names of place done = inner_needs (Of names of) ≡ inner_onto (map needs_view done) (inner_needs (Of (drop place names) (drop place of)))
+Inner_before names of index done = inner_needs (Of names of) ≡ inner_onto (map needs_view done) (inner_needs (Of (drop index names) (drop index of)))
 
 abbrev pub Required_before : List (List ℕ) → List ShapeCode → ℕ → List ℕ → Type 0
-Required_before names of place done = required_in 0 (Of names of) ≡ done ++ required_in place (Of (drop place names) (drop place of))
+Required_before names of index done = required_in 0 (Of names of) ≡ done ++ required_in index (Of (drop index names) (drop index of))
 
 pub no_inner : (names : List (List ℕ)) (of : List ShapeCode) (done : List NeedsCode) → done ≡ [] → Inner_before names of 0 done
 no_inner names of done is = rw is refl
@@ -46,49 +46,49 @@ none_required names of done is = rw is refl
 
 -- one field more
 
-module _ (names : List (List ℕ)) (of : List ShapeCode) (place : ℕ) (shape : ShapeCode) (in_names : place < length names) (in_shapes : place < length of) (is_shape : shape ≡ slice_index_or of place shape) where
+module _ (names : List (List ℕ)) (of : List ShapeCode) (index : ℕ) (shape : ShapeCode) (in_names : index < length names) (in_shapes : index < length of) (is_shape : shape ≡ slice_index_or of index shape) where
   abbrev later : FieldShapes
-  later = Of (drop (place + 1) names) (drop (place + 1) of)
+  later = Of (drop (index + 1) names) (drop (index + 1) of)
 
-  -- the field at the place is the first of those that are left
-  front : (name : List ℕ) × (Of (drop place names) (drop place of) ≡ shapes.field name (shape_view shape) later)
-  front = let name = there names place in_names in (name.0, field_at names of place name.0 shape in_names in_shapes name.1 is_shape)
+  -- the field at the index is the first of those that are left
+  front : (name : List ℕ) × (Of (drop index names) (drop index of) ≡ shapes.field name (shape_view shape) later)
+  front = let name = there names index in_names in (name.0, field_at names of index name.0 shape in_names in_shapes name.1 is_shape)
 
-  pub next_inner : (done : List NeedsCode) (needs : NeedsCode) → Inner_before names of place done → needs_view needs ≡ needs_of (shape_view shape) → Inner_before names of (place + 1) (done ++ needs ∷ [])
+  pub next_inner : (done : List NeedsCode) (needs : NeedsCode) → Inner_before names of index done → needs_view needs ≡ needs_of (shape_view shape) → Inner_before names of (index + 1) (done ++ needs ∷ [])
   next_inner done needs before is =
       before ∙ ap (λ fields. inner_onto (map needs_view done) (inner_needs fields)) front.1
       ∙ rw (map-append needs_view done (needs ∷ []), is) (onto_one (map needs_view done) (needs_of (shape_view shape)) (inner_needs later))
 
   pub required_here : (optional : Bool) → is_optional (shape_view shape) ≡ optional
-      → required_in place (Of (drop place names) (drop place of)) ≡ (if optional then required_in (place + 1) later else place ∷ required_in (place + 1) later)
+      → required_in index (Of (drop index names) (drop index of)) ≡ (if optional then required_in (index + 1) later else index ∷ required_in (index + 1) later)
   required_here optional is = rw (front.1, is, add-one) refl
 
-  pub next_optional : (done : List ℕ) → Required_before names of place done → is_optional (shape_view shape) ≡ true → Required_before names of (place + 1) done
+  pub next_optional : (done : List ℕ) → Required_before names of index done → is_optional (shape_view shape) ≡ true → Required_before names of (index + 1) done
   next_optional done before is = before ∙ ap (λ rest. done ++ rest) (required_here true is)
 
-  pub next_required : (done : List ℕ) → Required_before names of place done → is_optional (shape_view shape) ≡ false → Required_before names of (place + 1) (done ++ place ∷ [])
-  next_required done before is = before ∙ ap (λ rest. done ++ rest) (required_here false is) ∙ sym (append_assoc done (place ∷ []) (required_in (place + 1) later))
+  pub next_required : (done : List ℕ) → Required_before names of index done → is_optional (shape_view shape) ≡ false → Required_before names of (index + 1) (done ++ index ∷ [])
+  next_required done before is = before ∙ ap (λ rest. done ++ rest) (required_here false is) ∙ sym (append_assoc done (index ∷ []) (required_in (index + 1) later))
 
 -- no field is left
 
-pub inner_done : (names : List (List ℕ)) (of : List ShapeCode) (place : ℕ) (done : List NeedsCode) → min (length names) (length of) ≤ place → Inner_before names of place done
+pub inner_done : (names : List (List ℕ)) (of : List ShapeCode) (index : ℕ) (done : List NeedsCode) → min (length names) (length of) ≤ index → Inner_before names of index done
     → inner_of (map needs_view done) ≡ inner_needs (Of names of)
-inner_done names of place done past before = sym (before ∙ rw (no_field_at names of place past) (onto_none (map needs_view done)))
+inner_done names of index done past before = sym (before ∙ rw (no_field_at names of index past) (onto_none (map needs_view done)))
 
-pub required_done : (names : List (List ℕ)) (of : List ShapeCode) (place : ℕ) (done : List ℕ) → min (length names) (length of) ≤ place → Required_before names of place done
+pub required_done : (names : List (List ℕ)) (of : List ShapeCode) (index : ℕ) (done : List ℕ) → min (length names) (length of) ≤ index → Required_before names of index done
     → done ≡ required_in 0 (Of names of)
-required_done names of place done past before = sym (before ∙ rw (no_field_at names of place past) (append-nil done))
+required_done names of index done past before = sym (before ∙ rw (no_field_at names of index past) (append-nil done))
 
--- at each place are a shape and its needs
-pub needs_at : (names : List (List ℕ)) (of : List ShapeCode) (inner : List NeedsCode) (place : ℕ) → length names ≤ length of → place < length names → inner_of (map needs_view inner) ≡ inner_needs (Of names of) → AreNeedsAt of inner place
-needs_at [] of inner place long within is = absurd (omega (arith, within))
-needs_at (name ∷ names) [] inner place long within is = absurd (omega (arith, long))
-needs_at (name ∷ names) (shape ∷ of) [] place long within is = absurd (cc)
+-- at each index are a shape and its needs
+pub needs_at : (names : List (List ℕ)) (of : List ShapeCode) (inner : List NeedsCode) (index : ℕ) → length names ≤ length of → index < length names → inner_of (map needs_view inner) ≡ inner_needs (Of names of) → AreNeedsAt of inner index
+needs_at [] of inner index long within is = absurd (omega (arith, within))
+needs_at (name ∷ names) [] inner index long within is = absurd (omega (arith, long))
+needs_at (name ∷ names) (shape ∷ of) [] index long within is = absurd (cc)
 needs_at (name ∷ names) (shape ∷ of) (needs ∷ inner) zero long within is =
     (omega arith, omega arith, λ s n is_shape is_needs. let first : needs_view needs ≡ needs_of (shape_view shape) = cc in rw (is_shape, is_needs) first)
-needs_at (name ∷ names) (shape ∷ of) (needs ∷ inner) (suc place) long within is =
+needs_at (name ∷ names) (shape ∷ of) (needs ∷ inner) (suc index) long within is =
     let rest : inner_of (map needs_view inner) ≡ inner_needs (Of names of) = cc in
-    let at = needs_at names of inner place (omega (arith, long)) (omega (arith, within)) rest in
+    let at = needs_at names of inner index (omega (arith, long)) (omega (arith, within)) rest in
     (omega (arith, at.0), omega (arith, at.1), at.2)
 
 -- names past the shapes need nothing

@@ -49,11 +49,11 @@ item_same [] i x y within is_x is_y = absurd (omega (arith, within))
 item_same (first ∷ xs) zero x y within is_x is_y = is_x ∙ sym is_y
 item_same (first ∷ xs) (suc i) x y within is_x is_y = item_same xs i x y (omega (arith, within)) is_x is_y
 
--- what is read under the shape at a place
-pub nth_gives : (of : List ShapeCode) (place : ℕ) (at shape : ShapeCode) (d : Data) (r : Result ValueCode ShapeFault) → place < length of → at ≡ slice_index_or of place at → shape ≡ slice_index_or of place shape
+-- what is read under the shape at an index
+pub nth_gives : (of : List ShapeCode) (index : ℕ) (at shape : ShapeCode) (d : Data) (r : Result ValueCode ShapeFault) → index < length of → at ≡ slice_index_or of index at → shape ≡ slice_index_or of index shape
     → Gives (is_memory_under (shape_view at)) value_view r (read (shape_view at) d) → Gives is_reading_memory value_view r (read (shape_view shape) d)
-nth_gives of place at shape d r within is_at is_shape given =
-    subst (λ s. Gives is_reading_memory value_view r (read (shape_view s) d)) (item_same of place at shape within is_at is_shape)
+nth_gives of index at shape d r within is_at is_shape given =
+    subst (λ s. Gives is_reading_memory value_view r (read (shape_view s) d)) (item_same of index at shape within is_at is_shape)
     (gives_more (is_memory_under (shape_view at)) is_reading_memory value_view r (read (shape_view at) d) (under_is_memory (shape_view at)) given)
 
 -- Items that were read, before what is read of the rest.
@@ -108,59 +108,59 @@ no_item_left R json i done all past before =
 -- Fields that were read, before what is read of the rest.
 
 abbrev pub fields_onto : ℕ → List (List ℕ) → List ℕ → List Value → Fields → Fields
-fields_onto place [] places vs rest = rest
-fields_onto place (name ∷ names) places vs rest = field name (value_at place places vs) (fields_onto (suc place) names places vs rest)
+fields_onto index [] indices vs rest = rest
+fields_onto index (name ∷ names) indices vs rest = field name (value_at index indices vs) (fields_onto (suc index) names indices vs rest)
 
-onto_none : (place : ℕ) (names : List (List ℕ)) (places : List ℕ) (vs : List Value) → fields_onto place names places vs no_fields ≡ fields_from place names places vs
-onto_none place [] places vs = refl
-onto_none place (name ∷ names) places vs = ap (field name (value_at place places vs)) (onto_none (suc place) names places vs)
+onto_none : (index : ℕ) (names : List (List ℕ)) (indices : List ℕ) (vs : List Value) → fields_onto index names indices vs no_fields ≡ fields_from index names indices vs
+onto_none index [] indices vs = refl
+onto_none index (name ∷ names) indices vs = ap (field name (value_at index indices vs)) (onto_none (suc index) names indices vs)
 
-onto_name : (place : ℕ) (names : List (List ℕ)) (name : List ℕ) (places : List ℕ) (vs : List Value) (rest : Fields) (at : ℕ) → at ≡ place + length names
-    → fields_onto place (names ++ name ∷ []) places vs rest ≡ fields_onto place names places vs (field name (value_at at places vs) rest)
-onto_name place [] name places vs rest at is = ap (λ p. field name (value_at p places vs) rest) (omega (arith, is))
-onto_name place (n ∷ names) name places vs rest at is = ap (field n (value_at place places vs)) (onto_name (suc place) names name places vs rest at (omega (arith, is)))
+onto_name : (index : ℕ) (names : List (List ℕ)) (name : List ℕ) (indices : List ℕ) (vs : List Value) (rest : Fields) (at : ℕ) → at ≡ index + length names
+    → fields_onto index (names ++ name ∷ []) indices vs rest ≡ fields_onto index names indices vs (field name (value_at at indices vs) rest)
+onto_name index [] name indices vs rest at is = ap (λ p. field name (value_at p indices vs) rest) (omega (arith, is))
+onto_name index (n ∷ names) name indices vs rest at is = ap (field n (value_at index indices vs)) (onto_name (suc index) names name indices vs rest at (omega (arith, is)))
 
-is_other : (p place : ℕ) → (p ≡ place → ⊥) → (p == place) ≡ false
-is_other p place differs = not_true (p == place) (λ is. differs ((Decides-eqb p place).0 is))
+is_other : (p index : ℕ) → (p ≡ index → ⊥) → (p == index) ≡ false
+is_other p index differs = not_true (p == index) (λ is. differs ((Decides-eqb p index).0 is))
   where
     not_true : (test : Bool) → (test ≡ true → ⊥) → test ≡ false
     not_true true wrong = absurd (wrong refl)
     not_true false wrong = refl
 
 -- a value that is added changes none that was there
-at_other : (place : ℕ) (places : List ℕ) (vs : List Value) (at : ℕ) (v : Value) → length places ≡ length vs → (at ≡ place → ⊥) → value_at place (places ++ at ∷ []) (vs ++ v ∷ []) ≡ value_at place places vs
-at_other place [] [] at v same differs = rw (is_other at place differs) refl
-at_other place [] (w ∷ vs) at v same differs = absurd (omega (arith, same))
-at_other place (p ∷ places) [] at v same differs = absurd (omega (arith, same))
-at_other place (p ∷ places) (w ∷ vs) at v same differs = ap (λ later. if p == place then w else later) (at_other place places vs at v (omega (arith, same)) differs)
+at_other : (index : ℕ) (indices : List ℕ) (vs : List Value) (at : ℕ) (v : Value) → length indices ≡ length vs → (at ≡ index → ⊥) → value_at index (indices ++ at ∷ []) (vs ++ v ∷ []) ≡ value_at index indices vs
+at_other index [] [] at v same differs = rw (is_other at index differs) refl
+at_other index [] (w ∷ vs) at v same differs = absurd (omega (arith, same))
+at_other index (p ∷ indices) [] at v same differs = absurd (omega (arith, same))
+at_other index (p ∷ indices) (w ∷ vs) at v same differs = ap (λ later. if p == index then w else later) (at_other index indices vs at v (omega (arith, same)) differs)
 
--- it has its place, if that is after the others
-at_new : (place : ℕ) (places : List ℕ) (vs : List Value) (v : Value) → length places ≡ length vs → All (λ p. p < place) places → value_at place (places ++ place ∷ []) (vs ++ v ∷ []) ≡ v
-at_new place [] [] v same below = rw ((Decides-eqb place place).1 refl) refl
-at_new place [] (w ∷ vs) v same below = absurd (omega (arith, same))
-at_new place (p ∷ places) [] v same below = absurd (omega (arith, same))
-at_new place (p ∷ places) (w ∷ vs) v same below =
-    rw (is_other p place (λ is. absurd (omega (arith, is, below 0 0 (omega arith))))) (at_new place places vs v (omega (arith, same)) (λ k d within. below (suc k) d (omega arith)))
+-- it has its index, if that is after the others
+at_new : (index : ℕ) (indices : List ℕ) (vs : List Value) (v : Value) → length indices ≡ length vs → All (λ p. p < index) indices → value_at index (indices ++ index ∷ []) (vs ++ v ∷ []) ≡ v
+at_new index [] [] v same below = rw ((Decides-eqb index index).1 refl) refl
+at_new index [] (w ∷ vs) v same below = absurd (omega (arith, same))
+at_new index (p ∷ indices) [] v same below = absurd (omega (arith, same))
+at_new index (p ∷ indices) (w ∷ vs) v same below =
+    rw (is_other p index (λ is. absurd (omega (arith, is, below 0 0 (omega arith))))) (at_new index indices vs v (omega (arith, same)) (λ k d within. below (suc k) d (omega arith)))
 
--- no value is at a place after the others
-at_none : (place : ℕ) (places : List ℕ) (vs : List Value) → All (λ p. p < place) places → value_at place places vs ≡ nil
-at_none place [] vs below = refl
-at_none place (p ∷ places) [] below = refl
-at_none place (p ∷ places) (w ∷ vs) below =
-    rw (is_other p place (λ is. absurd (omega (arith, is, below 0 0 (omega arith))))) (at_none place places vs (λ k d within. below (suc k) d (omega arith)))
+-- no value is at an index after the others
+at_none : (index : ℕ) (indices : List ℕ) (vs : List Value) → All (λ p. p < index) indices → value_at index indices vs ≡ nil
+at_none index [] vs below = refl
+at_none index (p ∷ indices) [] below = refl
+at_none index (p ∷ indices) (w ∷ vs) below =
+    rw (is_other p index (λ is. absurd (omega (arith, is, below 0 0 (omega arith))))) (at_none index indices vs (λ k d within. below (suc k) d (omega arith)))
 
-onto_kept : (place : ℕ) (names : List (List ℕ)) (places : List ℕ) (vs : List Value) (at : ℕ) (v : Value) (rest : Fields) → length places ≡ length vs → place + length names ≤ at
-    → fields_onto place names (places ++ at ∷ []) (vs ++ v ∷ []) rest ≡ fields_onto place names places vs rest
-onto_kept place [] places vs at v rest same past = refl
-onto_kept place (n ∷ names) places vs at v rest same past =
-    rw (at_other place places vs at v same (λ is. absurd (omega (arith, is, past))), onto_kept (suc place) names places vs at v rest same (omega (arith, past))) refl
+onto_kept : (index : ℕ) (names : List (List ℕ)) (indices : List ℕ) (vs : List Value) (at : ℕ) (v : Value) (rest : Fields) → length indices ≡ length vs → index + length names ≤ at
+    → fields_onto index names (indices ++ at ∷ []) (vs ++ v ∷ []) rest ≡ fields_onto index names indices vs rest
+onto_kept index [] indices vs at v rest same past = refl
+onto_kept index (n ∷ names) indices vs at v rest same past =
+    rw (at_other index indices vs at v same (λ is. absurd (omega (arith, is, past))), onto_kept (suc index) names indices vs at v rest same (omega (arith, past))) refl
 
--- the fields before a place were read
-pub record Fields_before (names : List (List ℕ)) (of : List ShapeCode) (given : json.Members) (place : ℕ) (places : List ℕ) (vs : List ValueCode) : Type 0 where
-  pub same : length places ≡ length vs
-  pub below : All (λ p. p < place) places
+-- the fields before an index were read
+pub record Fields_before (names : List (List ℕ)) (of : List ShapeCode) (given : json.Members) (index : ℕ) (indices : List ℕ) (vs : List ValueCode) : Type 0 where
+  pub same : length indices ≡ length vs
+  pub below : All (λ p. p < index) indices
   pub read : fields_read (Of names of) given
-      ≡ (fields_read (Of (drop place names) (drop place of)) given >>= λ rest. Ok (fields_onto 0 (take place names) places (map value_view vs) rest))
+      ≡ (fields_read (Of (drop index names) (drop index of)) given >>= λ rest. Ok (fields_onto 0 (take index names) indices (map value_view vs) rest))
 
 pub no_field_yet : (names : List (List ℕ)) (of : List ShapeCode) (given : json.Members) → Fields_before names of given 0 [] []
 no_field_yet names of given = record { same = refl; below = λ k d within. absurd (omega (arith, within)); read = unchanged (fields_read (Of names of) given) }
@@ -169,71 +169,71 @@ no_field_yet names of given = record { same = refl; below = λ k d within. absur
     unchanged (Ok all) = refl
     unchanged (Err e) = refl
 
-module _ (names : List (List ℕ)) (of : List ShapeCode) (given : json.Members) (place : ℕ) (name : List ℕ) (shape : ShapeCode) (in_names : place < length names) (in_shapes : place < length of)
-    (is_name : name ≡ slice_index_or names place name) (is_shape : shape ≡ slice_index_or of place shape) where
+module _ (names : List (List ℕ)) (of : List ShapeCode) (given : json.Members) (index : ℕ) (name : List ℕ) (shape : ShapeCode) (in_names : index < length names) (in_shapes : index < length of)
+    (is_name : name ≡ slice_index_or names index name) (is_shape : shape ≡ slice_index_or of index shape) where
   abbrev later : Result Fields ShapeFault
-  later = fields_read (Of (drop (place + 1) names) (drop (place + 1) of)) given
+  later = fields_read (Of (drop (index + 1) names) (drop (index + 1) of)) given
 
   abbrev here : Result Value ShapeFault
   here = field_read (λ d. read (shape_view shape) d) (shape_view shape) (get_member name given)
 
-  fields_here : fields_read (Of (drop place names) (drop place of)) given ≡ (here >>= λ value. later >>= λ fields. Ok (field name value fields))
-  fields_here = rw (field_at names of place name shape in_names in_shapes is_name is_shape) refl
+  fields_here : fields_read (Of (drop index names) (drop index of)) given ≡ (here >>= λ value. later >>= λ fields. Ok (field name value fields))
+  fields_here = rw (field_at names of index name shape in_names in_shapes is_name is_shape) refl
 
-  named_before : (places : List ℕ) (vs : List Value) (rest : Fields)
-      → fields_onto 0 (take (place + 1) names) places vs rest ≡ fields_onto 0 (take place names) places vs (field name (value_at place places vs) rest)
-  named_before places vs rest =
-      ap (λ ns. fields_onto 0 ns places vs rest) (take_more names place name in_names ∙ ap (λ n. take place names ++ n ∷ []) (sym is_name))
-      ∙ onto_name 0 (take place names) name places vs rest place (omega (arith, length-take-le place names (omega (arith, in_names))))
+  named_before : (indices : List ℕ) (vs : List Value) (rest : Fields)
+      → fields_onto 0 (take (index + 1) names) indices vs rest ≡ fields_onto 0 (take index names) indices vs (field name (value_at index indices vs) rest)
+  named_before indices vs rest =
+      ap (λ ns. fields_onto 0 ns indices vs rest) (take_more names index name in_names ∙ ap (λ n. take index names ++ n ∷ []) (sym is_name))
+      ∙ onto_name 0 (take index names) name indices vs rest index (omega (arith, length-take-le index names (omega (arith, in_names))))
 
-  moved : (places added : List ℕ) (vs more : List Value) (value : Value) (rest : Result Fields ShapeFault) → value_at place added more ≡ value
-      → ((rest : Fields) → fields_onto 0 (take place names) added more rest ≡ fields_onto 0 (take place names) places vs rest)
-      → ((rest >>= λ fields. Ok (field name value fields)) >>= λ fields. Ok (fields_onto 0 (take place names) places vs fields)) ≡ (rest >>= λ fields. Ok (fields_onto 0 (take (place + 1) names) added more fields))
-  moved places added vs more value (Err e) is kept = refl
-  moved places added vs more value (Ok rest) is kept =
+  moved : (indices added : List ℕ) (vs more : List Value) (value : Value) (rest : Result Fields ShapeFault) → value_at index added more ≡ value
+      → ((rest : Fields) → fields_onto 0 (take index names) added more rest ≡ fields_onto 0 (take index names) indices vs rest)
+      → ((rest >>= λ fields. Ok (field name value fields)) >>= λ fields. Ok (fields_onto 0 (take index names) indices vs fields)) ≡ (rest >>= λ fields. Ok (fields_onto 0 (take (index + 1) names) added more fields))
+  moved indices added vs more value (Err e) is kept = refl
+  moved indices added vs more value (Ok rest) is kept =
       ap (λ (fields : Fields). Ok fields) (sym (named_before added more rest ∙ rw is (kept (field name value rest))))
 
-  below_next : (places : List ℕ) → All (λ p. p < place) places → All (λ p. p < place + 1) places
-  below_next places below = λ k d within. omega (arith, below k d within)
+  below_next : (indices : List ℕ) → All (λ p. p < index) indices → All (λ p. p < index + 1) indices
+  below_next indices below = λ k d within. omega (arith, below k d within)
 
-  next_read : (places added : List ℕ) (vs more : List ValueCode) (value : Value) → here ≡ Ok value → value_at place added (map value_view more) ≡ value
-      → ((rest : Fields) → fields_onto 0 (take place names) added (map value_view more) rest ≡ fields_onto 0 (take place names) places (map value_view vs) rest)
-      → Fields_before names of given place places vs
-      → fields_read (Of names of) given ≡ (later >>= λ rest. Ok (fields_onto 0 (take (place + 1) names) added (map value_view more) rest))
-  next_read places added vs more value is at kept before =
-      before.read ∙ ap (λ all. all >>= λ rest. Ok (fields_onto 0 (take place names) places (map value_view vs) rest)) (fields_here ∙ rw is refl)
-      ∙ moved places added (map value_view vs) (map value_view more) value later at kept
+  next_read : (indices added : List ℕ) (vs more : List ValueCode) (value : Value) → here ≡ Ok value → value_at index added (map value_view more) ≡ value
+      → ((rest : Fields) → fields_onto 0 (take index names) added (map value_view more) rest ≡ fields_onto 0 (take index names) indices (map value_view vs) rest)
+      → Fields_before names of given index indices vs
+      → fields_read (Of names of) given ≡ (later >>= λ rest. Ok (fields_onto 0 (take (index + 1) names) added (map value_view more) rest))
+  next_read indices added vs more value is at kept before =
+      before.read ∙ ap (λ all. all >>= λ rest. Ok (fields_onto 0 (take index names) indices (map value_view vs) rest)) (fields_here ∙ rw is refl)
+      ∙ moved indices added (map value_view vs) (map value_view more) value later at kept
 
   -- a field that is nil needs no value
-  pub field_absent : (places : List ℕ) (vs : List ValueCode) → Fields_before names of given place places vs → here ≡ Ok nil → Fields_before names of given (place + 1) places vs
-  field_absent places vs before is = record {
+  pub field_absent : (indices : List ℕ) (vs : List ValueCode) → Fields_before names of given index indices vs → here ≡ Ok nil → Fields_before names of given (index + 1) indices vs
+  field_absent indices vs before is = record {
     same = before.same;
-    below = below_next places before.below;
-    read = next_read places places vs vs nil is (at_none place places (map value_view vs) before.below) (λ rest. refl) before;
+    below = below_next indices before.below;
+    read = next_read indices indices vs vs nil is (at_none index indices (map value_view vs) before.below) (λ rest. refl) before;
   }
 
-  -- a field that was read has its place and its value
-  pub field_present : (places : List ℕ) (vs : List ValueCode) (v : ValueCode) → Fields_before names of given place places vs → here ≡ Ok (value_view v)
-      → Fields_before names of given (place + 1) (places ++ place ∷ []) (vs ++ v ∷ [])
-  field_present places vs v before is = record {
+  -- a field that was read has its index and its value
+  pub field_present : (indices : List ℕ) (vs : List ValueCode) (v : ValueCode) → Fields_before names of given index indices vs → here ≡ Ok (value_view v)
+      → Fields_before names of given (index + 1) (indices ++ index ∷ []) (vs ++ v ∷ [])
+  field_present indices vs v before is = record {
     same = rw (length_push, length_push, before.same) refl;
-    below = All-push (λ p. p < place + 1) places place (below_next places before.below) (omega arith);
-    read = next_read places (places ++ place ∷ []) vs (vs ++ v ∷ []) (value_view v) is
-        (rw (map-append value_view vs (v ∷ [])) (at_new place places (map value_view vs) (value_view v) (before.same ∙ sym (length-map vs value_view)) before.below))
+    below = All-push (λ p. p < index + 1) indices index (below_next indices before.below) (omega arith);
+    read = next_read indices (indices ++ index ∷ []) vs (vs ++ v ∷ []) (value_view v) is
+        (rw (map-append value_view vs (v ∷ [])) (at_new index indices (map value_view vs) (value_view v) (before.same ∙ sym (length-map vs value_view)) before.below))
         (λ rest. rw (map-append value_view vs (v ∷ []))
-        (onto_kept 0 (take place names) places (map value_view vs) place (value_view v) rest (before.same ∙ sym (length-map vs value_view)) (omega (arith, length-take-le place names (omega (arith, in_names))))))
+        (onto_kept 0 (take index names) indices (map value_view vs) index (value_view v) rest (before.same ∙ sym (length-map vs value_view)) (omega (arith, length-take-le index names (omega (arith, in_names))))))
         before;
   }
 
-  pub field_fails : (places : List ℕ) (vs : List ValueCode) (e : ShapeFault) → Fields_before names of given place places vs → Unless (is_reading_memory e) (here ≡ Err e) → Unless (is_reading_memory e) (fields_read (Of names of) given ≡ Err e)
-  field_fails places vs e before is =
-      leads (is_reading_memory e) (λ fails. before.read ∙ ap (λ all. all >>= λ rest. Ok (fields_onto 0 (take place names) places (map value_view vs) rest)) (fields_here ∙ failed here _ e fails)) is
+  pub field_fails : (indices : List ℕ) (vs : List ValueCode) (e : ShapeFault) → Fields_before names of given index indices vs → Unless (is_reading_memory e) (here ≡ Err e) → Unless (is_reading_memory e) (fields_read (Of names of) given ≡ Err e)
+  field_fails indices vs e before is =
+      leads (is_reading_memory e) (λ fails. before.read ∙ ap (λ all. all >>= λ rest. Ok (fields_onto 0 (take index names) indices (map value_view vs) rest)) (fields_here ∙ failed here _ e fails)) is
 
-pub no_field_left : (names : List (List ℕ)) (of : List ShapeCode) (given : json.Members) (place : ℕ) (places : List ℕ) (vs : List ValueCode) → length names ≤ length of → length names ≤ place
-    → Fields_before names of given place places vs → fields_read (Of names of) given ≡ Ok (fields_from 0 names places (map value_view vs))
-no_field_left names of given place places vs long past before =
+pub no_field_left : (names : List (List ℕ)) (of : List ShapeCode) (given : json.Members) (index : ℕ) (indices : List ℕ) (vs : List ValueCode) → length names ≤ length of → length names ≤ index
+    → Fields_before names of given index indices vs → fields_read (Of names of) given ≡ Ok (fields_from 0 names indices (map value_view vs))
+no_field_left names of given index indices vs long past before =
     before.read
-    ∙ rw (no_field_at names of place (omega (arith, long, past)), take_all place names past) (ap (λ (fields : Fields). Ok fields) (onto_none 0 names places (map value_view vs)))
+    ∙ rw (no_field_at names of index (omega (arith, long, past)), take_all index names past) (ap (λ (fields : Fields). Ok fields) (onto_none 0 names indices (map value_view vs)))
 
 -- names past the shapes name no field
 pub first_names : (names : List (List ℕ)) (of : List ShapeCode) → Of (take (length of) names) of ≡ Of names of
@@ -243,18 +243,18 @@ first_names (n ∷ names) [] = refl
 first_names (n ∷ names) (s ∷ of) = ap (shapes.field n (shape_view s)) (first_names names of)
 
 -- a record of names and values
-pub record_view : (fields : Box FieldsCode Global) → value_view (ObjectValue fields) ≡ object (fields_from 0 (out-Fields fields.value).names (out-Fields fields.value).places (map value_view (out-Fields fields.value).values.items))
+pub record_view : (fields : Box FieldsCode Global) → value_view (ObjectValue fields) ≡ object (fields_from 0 (out-Fields fields.value).names (out-Fields fields.value).indices (map value_view (out-Fields fields.value).values.items))
 record_view fields = rw (value_view-object fields, fields_view-from fields.value) refl
 
 pub record_read : (of : List (List ℕ)) (of_shapes : List ShapeCode) (given : json.Members) (fields : FieldsCode) (boxed : Box FieldsCode Global) → boxed.value ≡ fields
     → (out-Fields fields).names ≡ take (length of_shapes) of
-    → fields_read (Of (out-Fields fields).names of_shapes) given ≡ Ok (fields_from 0 (out-Fields fields).names (out-Fields fields).places (map value_view (out-Fields fields).values.items))
+    → fields_read (Of (out-Fields fields).names of_shapes) given ≡ Ok (fields_from 0 (out-Fields fields).names (out-Fields fields).indices (map value_view (out-Fields fields).values.items))
     → read (shapes.object (Of of of_shapes)) (json.object given) ≡ Ok (value_view (ObjectValue boxed))
 record_read of of_shapes given fields boxed is first is_read =
     ap (λ fs. fields_read fs given >>= λ f. Ok (object f)) (sym (first_names of of_shapes) ∙ ap (λ ns. Of ns of_shapes) (sym first))
     ∙ ap (λ all. all >>= λ f. Ok (object f)) is_read
     ∙ ap (λ (v : Value). Ok v)
-    (sym (record_view boxed ∙ ap (λ f. object (fields_from 0 (out-Fields f).names (out-Fields f).places (map value_view (out-Fields f).values.items))) is))
+    (sym (record_view boxed ∙ ap (λ f. object (fields_from 0 (out-Fields f).names (out-Fields f).indices (map value_view (out-Fields f).values.items))) is))
 
 pub record_fails : (of names : List (List ℕ)) (of_shapes : List ShapeCode) (given : json.Members) (e : ShapeFault) → names ≡ take (length of_shapes) of
     → Unless (is_reading_memory e) (fields_read (Of names of_shapes) given ≡ Err e) → Unless (is_reading_memory e) (read (shapes.object (Of of of_shapes)) (json.object given) ≡ Err e)

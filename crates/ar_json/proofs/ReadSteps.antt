@@ -76,8 +76,8 @@ below_later : (of name : List ℕ) → slice_cmp nat_cmp of name ≡ Less → (n
 below_later of name less [] below = tt
 below_later of name less (later ∷ names) below = (nat_list_cmp_total.trans of name later less below.0, below_later of name less names below.1)
 
-behind : (name of : List ℕ) → slice_cmp nat_cmp name of ≡ Less → is_eq (slice_cmp nat_cmp of name) ≡ false
-behind name of less = ap is_eq (nat_list_cmp_total.antisymm of name ∙ ap ordering_reverse less)
+is_later : (name of : List ℕ) → slice_cmp nat_cmp name of ≡ Less → is_eq (slice_cmp nat_cmp of name) ≡ false
+is_later name of less = ap is_eq (nat_list_cmp_total.antisymm of name ∙ ap ordering_reverse less)
 
 -- ---- one member more, whose name is looked for among the names that are left
 
@@ -97,9 +97,9 @@ module _ (given later : json.Members) (name : List ℕ) (d : Data) where
       by false (Some i) is is_found none rest = absurd (cc)
 
   -- those after its name are not its own
-  known_behind : (names : List (List ℕ)) → AllByRecursion (λ of. slice_cmp nat_cmp name of ≡ Less) names → AllByRecursion (Known given now) names → AllByRecursion (Known given later) names
-  known_behind [] below known = tt
-  known_behind (of ∷ names) below known = (known.0 ∙ unread of name d later (behind name of below.0), known_behind names below.1 known.1)
+  known_after : (names : List (List ℕ)) → AllByRecursion (λ of. slice_cmp nat_cmp name of ≡ Less) names → AllByRecursion (Known given now) names → AllByRecursion (Known given later) names
+  known_after [] below known = tt
+  known_after (of ∷ names) below known = (known.0 ∙ unread of name d later (is_later name of below.0), known_after names below.1 known.1)
 
   -- a name below some is below the one that is found among them
   below_found : (of : List ℕ) (names : List (List ℕ)) (i : ℕ) → AllByRecursion (λ other. slice_cmp nat_cmp of other ≡ Less) names → index_named name names ≡ Some i → slice_cmp nat_cmp of name ≡ Less
@@ -129,7 +129,7 @@ module _ (given later : json.Members) (name : List ℕ) (d : Data) where
           let is_name : of ≡ name = (bytes_eq-Decides of name).0 same in record {
             before = tt;
             here = λ first e. ap (λ n. get_member n given) e ∙ known.0 ∙ looked_at of name d later same;
-            after = known_behind names (subst (λ n. AllByRecursion (λ other. slice_cmp nat_cmp n other ≡ Less) names) is_name rise.0) known.1;
+            after = known_after names (subst (λ n. AllByRecursion (λ other. slice_cmp nat_cmp n other ≡ Less) names) is_name rise.0) known.1;
           }
       by true found (suc i) same is_found is rest = absurd (cc)
       by false None i same is_found is rest = absurd (cc)
@@ -161,29 +161,29 @@ drop_next [] later (suc i) first is = absurd (cc)
 drop_next (x ∷ xs) later zero first is = let e : xs ≡ later = cc in e
 drop_next (x ∷ xs) later (suc i) first is = drop_next xs later i first is
 
--- no field before a place is among these
+-- no field before an index is among these
 abbrev NoneBefore : ℕ → List ℕ → Type 0
-NoneBefore place [] = Unit {0}
-NoneBefore place (first ∷ later) = place ≤ first
+NoneBefore index [] = Unit {0}
+NoneBefore index (first ∷ later) = index ≤ first
 
 -- a field before it is
 abbrev OneBefore : ℕ → List ℕ → Type 0
-OneBefore place [] = Unit {0} → ⊥
-OneBefore place (first ∷ later) = first < place
+OneBefore index [] = Unit {0} → ⊥
+OneBefore index (first ∷ later) = first < index
 
-passes : (next place after : ℕ) (places : List ℕ) → passed_to next place (first_of places) ≡ Ok after → NoneBefore place places
-passes next place after [] is = tt
-passes next place after (first ∷ later) is = by (nat_lt first place) refl is
+passes : (next index after : ℕ) (indices : List ℕ) → passed_to next index (first_of indices) ≡ Ok after → NoneBefore index indices
+passes next index after [] is = tt
+passes next index after (first ∷ later) is = by (nat_lt first index) refl is
   where
-    by : (below : Bool) → nat_lt first place ≡ below → (if below then Err MissingField else (if first == place then Ok (suc next) else Ok next)) ≡ Ok after → place ≤ first
+    by : (below : Bool) → nat_lt first index ≡ below → (if below then Err MissingField else (if first == index then Ok (suc next) else Ok next)) ≡ Ok after → index ≤ first
     by true test is = absurd (cc)
     by false test is = grind (arith, nat_tests, test)
 
-stops : (next place : ℕ) (e : ShapeFault) (places : List ℕ) → passed_to next place (first_of places) ≡ Err e → OneBefore place places × (e ≡ MissingField)
-stops next place e [] is = absurd (cc)
-stops next place e (first ∷ later) is = by (nat_lt first place) (first == place) refl is
+stops : (next index : ℕ) (e : ShapeFault) (indices : List ℕ) → passed_to next index (first_of indices) ≡ Err e → OneBefore index indices × (e ≡ MissingField)
+stops next index e [] is = absurd (cc)
+stops next index e (first ∷ later) is = by (nat_lt first index) (first == index) refl is
   where
-    by : (below same : Bool) → nat_lt first place ≡ below → (if below then Err MissingField else (if same then Ok (suc next) else Ok next)) ≡ Err e → (first < place) × (e ≡ MissingField)
+    by : (below same : Bool) → nat_lt first index ≡ below → (if below then Err MissingField else (if same then Ok (suc next) else Ok next)) ≡ Err e → (first < index) × (e ≡ MissingField)
     by true same test is = (grind (arith, nat_tests, test), cc)
     by false true test is = absurd (cc)
     by false false test is = absurd (cc)
@@ -192,22 +192,22 @@ stops next place e (first ∷ later) is = by (nat_lt first place) (first == plac
 abbrev same_answer : ℕ → ℕ → Type 0
 same_answer a b = ◌≡◌ {A = Result ℕ ShapeFault} (Ok a) (Ok b)
 
--- the field at the place may be absent: the next that is required is after it
-stays : (next place after : ℕ) (places : List ℕ) → passed_to next place (first_of places) ≡ Ok after → NoneBefore (suc place) places → after ≡ next
-stays next place after [] is none = cc
-stays next place after (first ∷ later) is none =
-    let below : nat_lt first place ≡ false = grind (arith, nat_tests, none) in
-    let same : (first == place) ≡ false = grind (arith, nat_tests, none) in
+-- the field at the index may be absent: the next that is required is after it
+stays : (next index after : ℕ) (indices : List ℕ) → passed_to next index (first_of indices) ≡ Ok after → NoneBefore (suc index) indices → after ≡ next
+stays next index after [] is none = cc
+stays next index after (first ∷ later) is none =
+    let below : nat_lt first index ≡ false = grind (arith, nat_tests, none) in
+    let same : (first == index) ≡ false = grind (arith, nat_tests, none) in
     stepped (rw (below, same) at is)
   where
     stepped : same_answer next after → after ≡ next
     stepped e = cc
 
--- the field at the place is required, and is there
-goes_on : (next place after : ℕ) (later : List ℕ) → passed_to next place (Some place) ≡ Ok after → after ≡ suc next
-goes_on next place after later is =
-    let below : nat_lt place place ≡ false = grind (arith, nat_tests) in
-    let same : (place == place) ≡ true = grind (arith, nat_tests) in
+-- the field at the index is required, and is there
+continues : (next index after : ℕ) (later : List ℕ) → passed_to next index (Some index) ≡ Ok after → after ≡ suc next
+continues next index after later is =
+    let below : nat_lt index index ≡ false = grind (arith, nat_tests) in
+    let same : (index == index) ≡ true = grind (arith, nat_tests) in
     stepped (rw (below, same) at is)
   where
     stepped : same_answer (suc next) after → after ≡ suc next
@@ -226,53 +226,53 @@ required_absent : (shape : Shape) → is_optional shape ≡ false → absent_rea
 required_absent (shapes.optional shape) is = absurd (cc)
 required_absent shape is = refl
 
--- places of required fields are not before the first field's
-not_before : (place : ℕ) (fields : FieldShapes) → NoneBefore place (required_in place fields)
-not_before place shapes.no_fields = tt
-not_before place (shapes.field name shape others) = by (is_optional shape) (required_in (suc place) others) (not_before (suc place) others)
+-- indices of required fields are not before the first field's
+not_before : (index : ℕ) (fields : FieldShapes) → NoneBefore index (required_in index fields)
+not_before index shapes.no_fields = tt
+not_before index (shapes.field name shape others) = by (is_optional shape) (required_in (suc index) others) (not_before (suc index) others)
   where
-    by : (optional : Bool) (places : List ℕ) → NoneBefore (suc place) places → NoneBefore place (if optional then places else place ∷ places)
+    by : (optional : Bool) (indices : List ℕ) → NoneBefore (suc index) indices → NoneBefore index (if optional then indices else index ∷ indices)
     by true [] none = tt
-    by true (first ∷ places) none = omega (arith, none)
-    by false places none = omega arith
+    by true (first ∷ indices) none = omega (arith, none)
+    by false indices none = omega arith
 
-neither : (place : ℕ) (places : List ℕ) → NoneBefore place places → OneBefore place places → ⊥
-neither place [] none one = one tt
-neither place (first ∷ places) none one = absurd (omega (arith, none, one))
+neither : (index : ℕ) (indices : List ℕ) → NoneBefore index indices → OneBefore index indices → ⊥
+neither index [] none one = one tt
+neither index (first ∷ indices) none one = absurd (omega (arith, none, one))
 
--- the fields from a place on
+-- the fields from an index on
 abbrev pub Left : List (List ℕ) → List ShapeCode → ℕ → FieldShapes
-Left names of place = Of (drop place names) (drop place of)
+Left names of index = Of (drop index names) (drop index of)
 
 module _ (names : List (List ℕ)) (of : List ShapeCode) (given : json.Members) (long : length names ≤ length of) where
   absent_read_at : (name : List ℕ) (shape : ShapeCode) → Absent given name → field_read (λ d. read (shape_view shape) d) (shape_view shape) (get_member name given) ≡ absent_read (shape_view shape)
   absent_read_at name shape absent = rw absent refl
 
-  -- names that are absent, from a place on
+  -- names that are absent, from an index on
   absent_front : (from k : ℕ) (name : List ℕ) → from < length names → name ≡ slice_index_or names from name → AllByRecursion (Absent given) (take (suc k) (drop from names))
       → Absent given name × AllByRecursion (Absent given) (take k (drop (from + 1) names))
   absent_front from k name within is absent =
       let e : drop from names ≡ name ∷ drop (from + 1) names = drop_more names from name within ∙ ap (λ n. n ∷ drop (from + 1) names) (sym is) in rw e at absent
 
   -- absent fields of which none is required are skipped
-  gap : (k from to : ℕ) (places : List ℕ) (vs : List ValueCode) → to ≡ from + k → to ≤ length names → AllByRecursion (Absent given) (take k (drop from names)) → NoneBefore to (required_in from (Left names of from))
-      → Fields_before names of given from places vs → Fields_before names of given to places vs × (required_in from (Left names of from) ≡ required_in to (Left names of to))
-  gap zero from to places vs is inside absent none before = let e : from ≡ to = omega (arith, is) in
-      subst (λ at. Fields_before names of given at places vs × (required_in from (Left names of from) ≡ required_in at (Left names of at))) e (before, refl)
-  gap (suc k) from to places vs is inside absent none before =
+  gap : (k from to : ℕ) (indices : List ℕ) (vs : List ValueCode) → to ≡ from + k → to ≤ length names → AllByRecursion (Absent given) (take k (drop from names)) → NoneBefore to (required_in from (Left names of from))
+      → Fields_before names of given from indices vs → Fields_before names of given to indices vs × (required_in from (Left names of from) ≡ required_in to (Left names of to))
+  gap zero from to indices vs is inside absent none before = let e : from ≡ to = omega (arith, is) in
+      subst (λ at. Fields_before names of given at indices vs × (required_in from (Left names of from) ≡ required_in at (Left names of at))) e (before, refl)
+  gap (suc k) from to indices vs is inside absent none before =
       let name = there names from (omega (arith, is, inside)) in
       let shape = there of from (omega (arith, is, inside, long)) in
       let front = absent_front from k name.0 (omega (arith, is, inside)) name.1 absent in
       by name.0 shape.0 name.1 shape.1 front.0 (is_optional (shape_view shape.0)) refl
-      (λ none before. gap k (from + 1) to places vs (omega (arith, is)) inside front.1 none before)
+      (λ none before. gap k (from + 1) to indices vs (omega (arith, is)) inside front.1 none before)
     where
       by : (name : List ℕ) (shape : ShapeCode) → name ≡ slice_index_or names from name → shape ≡ slice_index_or of from shape → Absent given name → (optional : Bool) → is_optional (shape_view shape) ≡ optional
-          → (NoneBefore to (required_in (from + 1) (Left names of (from + 1))) → Fields_before names of given (from + 1) places vs → Fields_before names of given to places vs × (required_in (from + 1) (Left names of (from + 1)) ≡ required_in to (Left names of to)))
-          → Fields_before names of given to places vs × (required_in from (Left names of from) ≡ required_in to (Left names of to))
+          → (NoneBefore to (required_in (from + 1) (Left names of (from + 1))) → Fields_before names of given (from + 1) indices vs → Fields_before names of given to indices vs × (required_in (from + 1) (Left names of (from + 1)) ≡ required_in to (Left names of to)))
+          → Fields_before names of given to indices vs × (required_in from (Left names of from) ≡ required_in to (Left names of to))
       by name shape is_name is_shape missing true optional rest =
           let e = required_here names of from shape (omega (arith, is, inside)) (omega (arith, is, inside, long)) is_shape true optional in
           let done = rest (subst (NoneBefore to) e none)
-          (field_absent names of given from name shape (omega (arith, is, inside)) (omega (arith, is, inside, long)) is_name is_shape places vs before
+          (field_absent names of given from name shape (omega (arith, is, inside)) (omega (arith, is, inside, long)) is_name is_shape indices vs before
           (absent_read_at name shape missing ∙ optional_absent (shape_view shape) optional)) in
           (done.0, e ∙ done.1)
       by name shape is_name is_shape missing false optional rest =
@@ -280,35 +280,35 @@ module _ (names : List (List ℕ)) (of : List ShapeCode) (given : json.Members) 
           let wrong : to ≤ from = subst (NoneBefore to) e none in absurd (omega (arith, wrong, is))
 
   -- an absent field that is required is missing
-  missing : (k from to : ℕ) (places : List ℕ) (vs : List ValueCode) → to ≡ from + k → to ≤ length names → AllByRecursion (Absent given) (take k (drop from names)) → OneBefore to (required_in from (Left names of from))
-      → Fields_before names of given from places vs → fields_read (Of names of) given ≡ Err MissingField
-  missing zero from to places vs is inside absent one before =
+  missing : (k from to : ℕ) (indices : List ℕ) (vs : List ValueCode) → to ≡ from + k → to ≤ length names → AllByRecursion (Absent given) (take k (drop from names)) → OneBefore to (required_in from (Left names of from))
+      → Fields_before names of given from indices vs → fields_read (Of names of) given ≡ Err MissingField
+  missing zero from to indices vs is inside absent one before =
       let e : to ≡ from = omega (arith, is) in absurd (neither from (required_in from (Left names of from)) (not_before from (Left names of from)) (subst (λ at. OneBefore at (required_in from (Left names of from))) e one))
-  missing (suc k) from to places vs is inside absent one before =
+  missing (suc k) from to indices vs is inside absent one before =
       let name = there names from (omega (arith, is, inside)) in
       let shape = there of from (omega (arith, is, inside, long)) in
       let front = absent_front from k name.0 (omega (arith, is, inside)) name.1 absent in
       by name.0 shape.0 name.1 shape.1 front.0 (is_optional (shape_view shape.0)) refl
-      (λ one before. missing k (from + 1) to places vs (omega (arith, is)) inside front.1 one before)
+      (λ one before. missing k (from + 1) to indices vs (omega (arith, is)) inside front.1 one before)
     where
       by : (name : List ℕ) (shape : ShapeCode) → name ≡ slice_index_or names from name → shape ≡ slice_index_or of from shape → Absent given name → (optional : Bool) → is_optional (shape_view shape) ≡ optional
-          → (OneBefore to (required_in (from + 1) (Left names of (from + 1))) → Fields_before names of given (from + 1) places vs → fields_read (Of names of) given ≡ Err MissingField)
+          → (OneBefore to (required_in (from + 1) (Left names of (from + 1))) → Fields_before names of given (from + 1) indices vs → fields_read (Of names of) given ≡ Err MissingField)
           → fields_read (Of names of) given ≡ Err MissingField
       by name shape is_name is_shape absent true optional rest =
           let e = required_here names of from shape (omega (arith, is, inside)) (omega (arith, is, inside, long)) is_shape true optional in
           rest (subst (OneBefore to) e one)
-          (field_absent names of given from name shape (omega (arith, is, inside)) (omega (arith, is, inside, long)) is_name is_shape places vs before
+          (field_absent names of given from name shape (omega (arith, is, inside)) (omega (arith, is, inside, long)) is_name is_shape indices vs before
           (absent_read_at name shape absent ∙ optional_absent (shape_view shape) optional))
       by name shape is_name is_shape absent false optional rest =
-          field_fails names of given from name shape (omega (arith, is, inside)) (omega (arith, is, inside, long)) is_name is_shape places vs MissingField before
+          field_fails names of given from name shape (omega (arith, is, inside)) (omega (arith, is, inside, long)) is_name is_shape indices vs MissingField before
           (absent_read_at name shape absent ∙ required_absent (shape_view shape) optional)
 
 -- ---- the members that were read
 
 -- What was read so far: the fields before `from` with their values, where these members are left, and the required
--- field at the index `next` is the next that has to be present.
-pub record Members_read (names : List (List ℕ)) (of : List ShapeCode) (given : json.Members) (required : List ℕ) (left : List Entry) (from next : ℕ) (places : List ℕ) (vs : List ValueCode) : Type 0 where
-  pub before : Fields_before names of given from places vs
+-- field at the named `next` is the next that has to be present.
+pub record Members_read (names : List (List ℕ)) (of : List ShapeCode) (given : json.Members) (required : List ℕ) (left : List Entry) (from next : ℕ) (indices : List ℕ) (vs : List ValueCode) : Type 0 where
+  pub before : Fields_before names of given from indices vs
   pub inside : from ≤ length names
   pub known : AllByRecursion (Known given (members_view left)) (drop from names)
   pub rise : Rise (member_names (members_view left))
@@ -318,9 +318,9 @@ same_known : (given : json.Members) (names : List (List ℕ)) → AllByRecursion
 same_known given [] = tt
 same_known given (name ∷ names) = (refl, same_known given names)
 
-pub starts : (names : List (List ℕ)) (of : List ShapeCode) (required : List ℕ) (all left : List Entry) (places : List ℕ) (vs : List ValueCode) → left ≡ all → places ≡ [] → vs ≡ [] → IsStrictlySortedBy string_cmp (keys_of all)
-    → required ≡ required_in 0 (Of names of) → Members_read names of (members_view all) required left 0 0 places vs
-starts names of required all left places vs is none empty sorted wanted = rw (is, none, empty) (record {
+pub starts : (names : List (List ℕ)) (of : List ShapeCode) (required : List ℕ) (all left : List Entry) (indices : List ℕ) (vs : List ValueCode) → left ≡ all → indices ≡ [] → vs ≡ [] → IsStrictlySortedBy string_cmp (keys_of all)
+    → required ≡ required_in 0 (Of names of) → Members_read names of (members_view all) required left 0 0 indices vs
+starts names of required all left indices vs is none empty sorted wanted = rw (is, none, empty) (record {
   before = no_field_yet names of (members_view all);
   inside = omega arith;
   known = same_known (members_view all) names;
@@ -328,20 +328,20 @@ starts names of required all left places vs is none empty sorted wanted = rw (is
   wanted = wanted;
 })
 
-passed_from : (required places : List ℕ) (next place : ℕ) → drop next required ≡ places → passed required next place ≡ passed_to next place (first_of places)
-passed_from required places next place wanted = ap (passed_to next place) (get_first required next ∙ ap first_of wanted)
+passed_from : (required indices : List ℕ) (next index : ℕ) → drop next required ≡ indices → passed required next index ≡ passed_to next index (first_of indices)
+passed_from required indices next index wanted = ap (passed_to next index) (get_first required next ∙ ap first_of wanted)
 
--- the index of a name among all names
-index_among : (from place : ℕ) (found : Option ℕ) → Some place ≡ option_map (λ i. from + i) found → (i : ℕ) × (found ≡ Some i) × (place ≡ from + i)
-index_among from place None is = absurd (cc)
-index_among from place (Some i) is = (i, refl, cc)
+-- the named of a name among all names
+index_among : (from index : ℕ) (found : Option ℕ) → Some index ≡ option_map (λ i. from + i) found → (i : ℕ) × (found ≡ Some i) × (index ≡ from + i)
+index_among from index None is = absurd (cc)
+index_among from index (Some i) is = (i, refl, cc)
 
 no_index : (from : ℕ) (found : Option ℕ) → None ≡ option_map (λ i. from + i) found → found ≡ None
 no_index from None is = refl
 no_index from (Some i) is = absurd (cc)
 
 module _ {names : List (List ℕ)} {of : List ShapeCode} {given : json.Members} (long : length names ≤ length of) {required : List ℕ} {now later : List Entry} {name : String Global} {value : Json}
-    (is : now ≡ (name, value) ∷ later) {from next : ℕ} {places : List ℕ} {vs : List ValueCode} (so_far : Members_read names of given required now from next places vs) where
+    (is : now ≡ (name, value) ∷ later) {from next : ℕ} {indices : List ℕ} {vs : List ValueCode} (so_far : Members_read names of given required now from next indices vs) where
   known_now : AllByRecursion (Known given (json.member (string_bytes name) (view value) (members_view later))) (drop from names)
   known_now = rw is at so_far.known
 
@@ -353,7 +353,7 @@ module _ {names : List (List ℕ)} {of : List ShapeCode} {given : json.Members} 
   rise_later = rise_now.1
 
   -- a member that is no field
-  pub other_member : None ≡ option_map (λ i. from + i) (index_named (string_bytes name) (drop from names)) → Members_read names of given required later from next places vs
+  pub other_member : None ≡ option_map (λ i. from + i) (index_named (string_bytes name) (drop from names)) → Members_read names of given required later from next indices vs
   other_member none = record {
     before = so_far.before;
     inside = so_far.inside;
@@ -363,70 +363,70 @@ module _ {names : List (List ℕ)} {of : List ShapeCode} {given : json.Members} 
   }
 
   -- a member that is a field
-  module _ (rise : Rise names) (place : ℕ) (found : Some place ≡ option_map (λ i. from + i) (index_named (string_bytes name) (drop from names))) where
-    index : (i : ℕ) × (index_named (string_bytes name) (drop from names) ≡ Some i) × (place ≡ from + i)
-    index = index_among from place (index_named (string_bytes name) (drop from names)) found
+  module _ (rise : Rise names) (index : ℕ) (found : Some index ≡ option_map (λ i. from + i) (index_named (string_bytes name) (drop from names))) where
+    named : (i : ℕ) × (index_named (string_bytes name) (drop from names) ≡ Some i) × (index ≡ from + i)
+    named = index_among from index (index_named (string_bytes name) (drop from names)) found
 
-    facts : Found given (members_view later) (string_bytes name) (view value) (drop from names) index.0
-    facts = of_one given (members_view later) (string_bytes name) (view value) (drop from names) index.0 (sorted_drop (slice_cmp nat_cmp) from names rise) rise_now index.1 known_now
+    facts : Found given (members_view later) (string_bytes name) (view value) (drop from names) named.0
+    facts = of_one given (members_view later) (string_bytes name) (view value) (drop from names) named.0 (sorted_drop (slice_cmp nat_cmp) from names rise) rise_now named.1 known_now
 
-    pub place_inside : place < length names
-    place_inside = omega (arith, index.2, index_within (string_bytes name) (drop from names) index.0 index.1, length-drop from names)
+    pub index_inside : index < length names
+    index_inside = omega (arith, named.2, index_within (string_bytes name) (drop from names) named.0 named.1, length-drop from names)
 
     -- a required field before it is missing
-    pub place_missing : (e : ShapeFault) → Err e ≡ passed required next place → fields_read (Of names of) given ≡ Err e
-    place_missing e refused =
-        let stop = stops next place e (required_in from (Left names of from)) (sym (refused ∙ passed_from required _ next place so_far.wanted)) in
-        missing names of given long index.0 from place places vs index.2 (omega (arith, place_inside)) facts.before stop.0 so_far.before ∙ ap (λ (fault : ShapeFault). Err fault) (sym stop.1)
+    pub index_missing : (e : ShapeFault) → Err e ≡ passed required next index → fields_read (Of names of) given ≡ Err e
+    index_missing e refused =
+        let stop = stops next index e (required_in from (Left names of from)) (sym (refused ∙ passed_from required _ next index so_far.wanted)) in
+        missing names of given long named.0 from index indices vs named.2 (omega (arith, index_inside)) facts.before stop.0 so_far.before ∙ ap (λ (fault : ShapeFault). Err fault) (sym stop.1)
 
-    module _ (after : ℕ) (met : Ok after ≡ passed required next place) where
-      met_from : passed_to next place (first_of (required_in from (Left names of from))) ≡ Ok after
-      met_from = sym (met ∙ passed_from required _ next place so_far.wanted)
+    module _ (after : ℕ) (met : Ok after ≡ passed required next index) where
+      met_from : passed_to next index (first_of (required_in from (Left names of from))) ≡ Ok after
+      met_from = sym (met ∙ passed_from required _ next index so_far.wanted)
 
-      over : Fields_before names of given place places vs × (required_in from (Left names of from) ≡ required_in place (Left names of place))
-      over = gap names of given long index.0 from place places vs index.2 (omega (arith, place_inside)) facts.before (passes next place after (required_in from (Left names of from)) met_from) so_far.before
+      over : Fields_before names of given index indices vs × (required_in from (Left names of from) ≡ required_in index (Left names of index))
+      over = gap names of given long named.0 from index indices vs named.2 (omega (arith, index_inside)) facts.before (passes next index after (required_in from (Left names of from)) met_from) so_far.before
 
-      field_here : (n : List ℕ) (shape : ShapeCode) → n ≡ slice_index_or names place n → field_read (λ d. read (shape_view shape) d) (shape_view shape) (get_member n given) ≡ read (shape_view shape) (view value)
-      field_here n shape is_name = rw (facts.here n (is_name ∙ ap (λ at. slice_index_or names at n) index.2 ∙ sym (get_or-drop from names index.0 n))) refl
+      field_here : (n : List ℕ) (shape : ShapeCode) → n ≡ slice_index_or names index n → field_read (λ d. read (shape_view shape) d) (shape_view shape) (get_member n given) ≡ read (shape_view shape) (view value)
+      field_here n shape is_name = rw (facts.here n (is_name ∙ ap (λ at. slice_index_or names at n) named.2 ∙ sym (get_or-drop from names named.0 n))) refl
 
       -- the field is refused
-      pub place_fails : (e : ShapeFault) → ((shape : ShapeCode) → shape ≡ slice_index_or of place shape → Unless (is_reading_memory e) (read (shape_view shape) (view value) ≡ Err e))
+      pub index_fails : (e : ShapeFault) → ((shape : ShapeCode) → shape ≡ slice_index_or of index shape → Unless (is_reading_memory e) (read (shape_view shape) (view value) ≡ Err e))
           → Unless (is_reading_memory e) (fields_read (Of names of) given ≡ Err e)
-      place_fails e fails =
-          let n = there names place place_inside in
-          let shape = there of place (omega (arith, place_inside, long)) in
-          field_fails names of given place n.0 shape.0 place_inside (omega (arith, place_inside, long)) n.1 shape.1 places vs e over.0
+      index_fails e fails =
+          let n = there names index index_inside in
+          let shape = there of index (omega (arith, index_inside, long)) in
+          field_fails names of given index n.0 shape.0 index_inside (omega (arith, index_inside, long)) n.1 shape.1 indices vs e over.0
           (leads (is_reading_memory e) (λ (h : read (shape_view shape.0) (view value) ≡ Err e). field_here n.0 shape.0 n.1 ∙ h) (fails shape.0 shape.1))
 
-      wanted_next : (shape : ShapeCode) → shape ≡ slice_index_or of place shape → drop after required ≡ required_in (place + 1) (Left names of (place + 1))
+      wanted_next : (shape : ShapeCode) → shape ≡ slice_index_or of index shape → drop after required ≡ required_in (index + 1) (Left names of (index + 1))
       wanted_next shape is_shape = by (is_optional (shape_view shape)) refl
         where
-          by : (optional : Bool) → is_optional (shape_view shape) ≡ optional → drop after required ≡ required_in (place + 1) (Left names of (place + 1))
+          by : (optional : Bool) → is_optional (shape_view shape) ≡ optional → drop after required ≡ required_in (index + 1) (Left names of (index + 1))
           by true optional =
-              let e = over.1 ∙ required_here names of place shape place_inside (omega (arith, place_inside, long)) is_shape true optional in
-              let first : passed_to next place (first_of (required_in (place + 1) (Left names of (place + 1)))) ≡ Ok after = rw e at met_from in
-              rw (stays next place after (required_in (place + 1) (Left names of (place + 1))) first (subst (λ at. NoneBefore at (required_in (place + 1) (Left names of (place + 1)))) (add-one place) (not_before (place + 1) (Left names of (place + 1))))) (so_far.wanted ∙ e)
+              let e = over.1 ∙ required_here names of index shape index_inside (omega (arith, index_inside, long)) is_shape true optional in
+              let first : passed_to next index (first_of (required_in (index + 1) (Left names of (index + 1)))) ≡ Ok after = rw e at met_from in
+              rw (stays next index after (required_in (index + 1) (Left names of (index + 1))) first (subst (λ at. NoneBefore at (required_in (index + 1) (Left names of (index + 1)))) (add-one index) (not_before (index + 1) (Left names of (index + 1))))) (so_far.wanted ∙ e)
           by false optional =
-              let e = over.1 ∙ required_here names of place shape place_inside (omega (arith, place_inside, long)) is_shape false optional in
-              let first : passed_to next place (Some place) ≡ Ok after = rw e at met_from in
-              rw (goes_on next place after [] first) (drop_next required (required_in (place + 1) (Left names of (place + 1))) next place (so_far.wanted ∙ e))
+              let e = over.1 ∙ required_here names of index shape index_inside (omega (arith, index_inside, long)) is_shape false optional in
+              let first : passed_to next index (Some index) ≡ Ok after = rw e at met_from in
+              rw (continues next index after [] first) (drop_next required (required_in (index + 1) (Left names of (index + 1))) next index (so_far.wanted ∙ e))
 
       -- the field is read
-      pub place_read : (v : ValueCode) → ((shape : ShapeCode) → shape ≡ slice_index_or of place shape → read (shape_view shape) (view value) ≡ Ok (value_view v))
-          → Members_read names of given required later (place + 1) after (places ++ place ∷ []) (vs ++ v ∷ [])
-      place_read v reads =
-          let n = there names place place_inside in
-          let shape = there of place (omega (arith, place_inside, long)) in record {
-            before = field_present names of given place n.0 shape.0 place_inside (omega (arith, place_inside, long)) n.1 shape.1 places vs v over.0 (field_here n.0 shape.0 n.1 ∙ reads shape.0 shape.1);
-            inside = omega (arith, place_inside);
+      pub index_read : (v : ValueCode) → ((shape : ShapeCode) → shape ≡ slice_index_or of index shape → read (shape_view shape) (view value) ≡ Ok (value_view v))
+          → Members_read names of given required later (index + 1) after (indices ++ index ∷ []) (vs ++ v ∷ [])
+      index_read v reads =
+          let n = there names index index_inside in
+          let shape = there of index (omega (arith, index_inside, long)) in record {
+            before = field_present names of given index n.0 shape.0 index_inside (omega (arith, index_inside, long)) n.1 shape.1 indices vs v over.0 (field_here n.0 shape.0 n.1 ∙ reads shape.0 shape.1);
+            inside = omega (arith, index_inside);
             known = subst (AllByRecursion (Known given (members_view later)))
-                (drop-drop (suc index.0) from names ∙ ap (λ at. drop at names) (omega (arith, index.2))) facts.after;
+                (drop-drop (suc named.0) from names ∙ ap (λ at. drop at names) (omega (arith, named.2))) facts.after;
             rise = rise_later;
             wanted = wanted_next shape.0 shape.1;
           }
 
-module _ {names : List (List ℕ)} {of : List ShapeCode} {given : json.Members} (long : length names ≤ length of) {required : List ℕ} {now : List Entry} (none : now ≡ []) {from next : ℕ} {places : List ℕ} {vs : List ValueCode}
-    (so_far : Members_read names of given required now from next places vs) where
+module _ {names : List (List ℕ)} {of : List ShapeCode} {given : json.Members} (long : length names ≤ length of) {required : List ℕ} {now : List Entry} (none : now ≡ []) {from next : ℕ} {indices : List ℕ} {vs : List ValueCode}
+    (so_far : Members_read names of given required now from next indices vs) where
   known_end : AllByRecursion (Known given json.no_members) (drop from names)
   known_end = rw none at so_far.known
 
@@ -434,16 +434,16 @@ module _ {names : List (List ℕ)} {of : List ShapeCode} {given : json.Members} 
   absent_end = rw (take_all (length names - from) (drop from names) (omega (arith, length-drop from names))) known_end
 
   -- no field after the last member is required
-  pub ends : (after : ℕ) → Ok after ≡ passed required next (length names) → fields_read (Of names of) given ≡ Ok (fields_from 0 names places (map value_view vs))
+  pub ends : (after : ℕ) → Ok after ≡ passed required next (length names) → fields_read (Of names of) given ≡ Ok (fields_from 0 names indices (map value_view vs))
   ends after met =
       let met_from = sym (met ∙ passed_from required _ next (length names) so_far.wanted) in
-      let over = gap names of given long (length names - from) from (length names) places vs (omega (arith, so_far.inside)) (omega arith) absent_end
+      let over = gap names of given long (length names - from) from (length names) indices vs (omega (arith, so_far.inside)) (omega arith) absent_end
       (passes next (length names) after (required_in from (Left names of from)) met_from) so_far.before in
-      no_field_left names of given (length names) places vs long (omega arith) over.0
+      no_field_left names of given (length names) indices vs long (omega arith) over.0
 
   -- one has
   pub ends_missing : (e : ShapeFault) → Err e ≡ passed required next (length names) → fields_read (Of names of) given ≡ Err e
   ends_missing e refused =
       let stop = stops next (length names) e (required_in from (Left names of from)) (sym (refused ∙ passed_from required _ next (length names) so_far.wanted)) in
-      missing names of given long (length names - from) from (length names) places vs (omega (arith, so_far.inside)) (omega arith) absent_end stop.0 so_far.before
+      missing names of given long (length names - from) from (length names) indices vs (omega (arith, so_far.inside)) (omega arith) absent_end stop.0 so_far.before
       ∙ ap (λ (fault : ShapeFault). Err fault) (sym stop.1)

@@ -3,7 +3,7 @@
 ghost use Rattle.std.specs.Prelude.{◌≡◌, IfErr, IfOk, map, true};
 ghost use Rattle.ar_value.specs.Shape.{field_shapes_of};
 ghost use Rattle.ar_value.specs.View.{shape_view};
-ghost use Rattle.ar_json.specs.Private.Needs.{inner_needs, inner_of, item_needs, needs_inside, needs_of, needs_view, required_in, required_places};
+ghost use Rattle.ar_json.specs.Private.Needs.{inner_needs, inner_of, item_needs, needs_inside, needs_of, needs_view, required_in, required_indices};
 ghost use Rattle.ar_json.specs.Reading.{is_memory_under};
 ghost use Rattle.ar_json.specs.declared.value_reading.ShapeFault.TheVariants.{OutOfMemory};
 
@@ -28,7 +28,7 @@ pub(crate) enum Needs {
 #[cycle(needs)]
 #[derive(Drop)]
 pub(crate) struct FieldNeeds {
-    /// The places of the required fields, in their order.
+    /// The indices of the required fields, in their order.
     pub required: Vec<usize>,
     /// What the shape of each field needs.
     pub inner: Vec<Needs>,
@@ -55,9 +55,9 @@ impl Needs {
         }
     }
 
-    /// The places of the fields that a record is required to have.
+    /// The indices of the fields that a record is required to have.
     pub fn required(&self) -> &[usize]
-        ensures { result.now ≡ required_places (needs_view self.now) }
+        ensures { result.now ≡ required_indices (needs_view self.now) }
     {
         match self {
             Needs::Fields(fields) => &fields.required,
@@ -110,23 +110,23 @@ fn inner_of(alloc: Global, shapes: &[Shape], names: &[Text]) -> Result<Vec<Needs
 {
     let count = names.len().min(shapes.len());
     let mut inner = Vec::with_capacity(alloc, count)?;
-    for place in 0..count {
-        inner.push(needs_of(alloc, &shapes[place])?)?;
+    for index in 0..count {
+        inner.push(needs_of(alloc, &shapes[index])?)?;
     }
     Ok(inner)
 }
 
-/// The places of the required ones among the fields of these names and shapes.
+/// The indices of the required ones among the fields of these names and shapes.
 #[tactic(auto, using(crate::proofs::NeedsLemmas::none_required, crate::proofs::NeedsLemmas::next_required, crate::proofs::NeedsLemmas::next_optional, crate::proofs::NeedsLemmas::required_done))]
 fn required_of(alloc: Global, shapes: &[Shape], names: &[Text]) -> Result<Vec<usize>, AllocError>
-    ensures { IfOk result (λ places. places.items
+    ensures { IfOk result (λ indices. indices.items
         ≡ required_in 0 (field_shapes_of names.now (map shape_view shapes.now))) }
 {
-    let mut places = Vec::new(alloc);
-    for place in 0..names.len().min(shapes.len()) {
-        if !is_optional(&shapes[place]) {
-            places.push(place)?;
+    let mut indices = Vec::new(alloc);
+    for index in 0..names.len().min(shapes.len()) {
+        if !is_optional(&shapes[index]) {
+            indices.push(index)?;
         }
     }
-    Ok(places)
+    Ok(indices)
 }

@@ -18,8 +18,8 @@ ghost use Rattle.ar_json.specs.declared.value_reading.ShapeFault.TheVariants.{Ou
 
 use crate::needs::Needs;
 use ar_value::decimal::{Decimal, NumberFault};
+use ar_value::indices::Indices;
 use ar_value::names::Names;
-use ar_value::places::Places;
 use ar_value::shape::Shape;
 use ar_value::text::Text;
 use ar_value::value::{Fields, Value, Values};
@@ -126,7 +126,7 @@ pub(crate) fn value_under(
         (read (shape_view shape.now) (view json.now)) }
 {
     match (shape, json) {
-        (Shape::Bool, Json::Bool(truth)) => Ok(Value::Bool(*truth)),
+        (Shape::Bool, Json::Bool(boolean)) => Ok(Value::Bool(*boolean)),
         (Shape::Whole, Json::Number(number)) => whole(number),
         (Shape::Decimal, Json::Number(number)) => decimal_of_whole(number),
         (Shape::Decimal, Json::String(text)) => decimal_of_text(text.as_str()),
@@ -218,7 +218,7 @@ fn record_under(
     let present = fields_under(alloc, shapes, &names, needs, members)?;
     let fields = Fields {
         names,
-        places: present.places,
+        indices: present.indices,
         values: present.values,
     };
     Ok(Value::Object(Box::new(alloc, fields)?))
@@ -227,28 +227,28 @@ fn record_under(
 /// Fields that have a value.
 #[derive(Drop)]
 struct Present {
-    /// Their places among the names.
-    places: Places,
+    /// Their indices among the names.
+    indices: Indices,
     values: Vec<Value>,
 }
 
 impl Present {
     /// No fields, with memory for a number of them.
     fn with_capacity(alloc: Global, capacity: usize) -> Result<Present, AllocError>
-        ensures { IfOk result (λ present. (present.places ≡ []) × (present.values.items ≡ [])) }
+        ensures { IfOk result (λ present. (present.indices ≡ []) × (present.values.items ≡ [])) }
     {
         let values = Vec::with_capacity(alloc, capacity)?;
-        let places = Places::with_capacity(alloc, capacity)?;
-        Ok(Present { places, values })
+        let indices = Indices::with_capacity(alloc, capacity)?;
+        Ok(Present { indices, values })
     }
 
     /// Adds the value of a field after the others.
-    fn add(&mut self, place: usize, value: Value) -> Result<(), AllocError>
-        requires { All (λ earlier. earlier < place) self.old.places }
-        ensures places { OnOk result (self.new.places ≡ self.old.places ++ place ∷ []) }
+    fn add(&mut self, index: usize, value: Value) -> Result<(), AllocError>
+        requires { All (λ earlier. earlier < index) self.old.indices }
+        ensures indices { OnOk result (self.new.indices ≡ self.old.indices ++ index ∷ []) }
         ensures values { OnOk result (self.new.values.items ≡ self.old.values.items ++ value ∷ []) }
     {
-        self.places.push(place)?;
+        self.indices.push(index)?;
         self.values.push(value)?;
         Ok(())
     }
@@ -267,7 +267,7 @@ fn fields_under(
     requires long { length names.now ≤ length shapes.now }
     requires needs { needs_view needs.now ≡ needs_of (object (field_shapes_of names.now (map shape_view shapes.now))) }
     ensures { Gives is_reading_memory
-        (λ present. fields_from 0 names.now present.places (map value_view present.values.items)) result
+        (λ present. fields_from 0 names.now present.indices (map value_view present.values.items)) result
         (fields_read (field_shapes_of names.now (map shape_view shapes.now)) (members_view members.now.entries)) }
 {
     let count = names.as_slice().len();
@@ -277,45 +277,45 @@ fn fields_under(
     let mut from = 0;
     let mut next = 0;
     for (name, json) in members.iter() {
-        if let Some(place) = names.index_from(from, name.as_str()) {
-            next = passed(required, next, place)?;
-            let value = nth_under(alloc, shapes, inner, place, json)?;
-            present.add(place, value)?;
-            from = place + 1;
+        if let Some(index) = names.index_from(from, name.as_str()) {
+            next = passed(required, next, index)?;
+            let value = nth_under(alloc, shapes, inner, index, json)?;
+            present.add(index, value)?;
+            from = index + 1;
         }
     }
     passed(required, next, count)?;
     Ok(present)
 }
 
-/// The value under the shape at a place, whose needs are at the same place.
+/// The value under the shape at an index, whose needs are at the same index.
 #[cycle(value_under)]
 fn nth_under(
     alloc: Global,
     shapes: &[Shape],
     inner: &[Needs],
-    place: usize,
+    index: usize,
     json: &Json,
 ) -> Result<Value, ShapeFault>
-    requires { AreNeedsAt shapes.now inner.now place }
-    ensures { (shape : Shape) → shape ≡ slice_index_or shapes.now place shape
+    requires { AreNeedsAt shapes.now inner.now index }
+    ensures { (shape : Shape) → shape ≡ slice_index_or shapes.now index shape
         → Gives is_reading_memory value_view result (read (shape_view shape) (view json.now)) }
 {
-    value_under(alloc, &shapes[place], &inner[place], json)
+    value_under(alloc, &shapes[index], &inner[index], json)
 }
 
-/// Of a record's required fields, whose places these are, those before the index `next` were
-/// present. Then comes the field at a place: the index of the next required field that must be present.
+/// Of a record's required fields, whose indices these are, those before the index `next` were
+/// present. Then comes the field at an index: the index of the next required field that must be present.
 ///
 /// # Errors
 ///
 /// `MissingField` where a required field was skipped.
-fn passed(required: &[usize], next: usize, place: usize) -> Result<usize, ShapeFault>
-    ensures { result ≡ passed required.now next place }
+fn passed(required: &[usize], next: usize, index: usize) -> Result<usize, ShapeFault>
+    ensures { result ≡ passed required.now next index }
 {
     match required.get(next) {
-        Some(first) if *first < place => Err(ShapeFault::MissingField),
-        Some(first) if *first == place => Ok(next + 1),
+        Some(first) if *first < index => Err(ShapeFault::MissingField),
+        Some(first) if *first == index => Ok(next + 1),
         _ => Ok(next),
     }
 }

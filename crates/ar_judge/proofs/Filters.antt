@@ -37,53 +37,53 @@ none_of_both xs ys one other = list_any-append is_of_filter xs ys ∙ neither (l
 
 literal_none : (literal : Literal) (tables : Tables) → NoneOf (literal_op literal tables ∷ [])
 literal_none literals.Nil tables = refl
-literal_none (literals.Bool truth) tables = refl
+literal_none (literals.Bool boolean) tables = refl
 literal_none (literals.Whole value) tables = refl
 literal_none (literals.Decimal millionths) tables = refl
 literal_none (literals.Text letters) tables = refl
 
 counted_predicate : (predicate : Predicate) (list body : Typed) → has_filter (typed.predicate predicate list body) ≡ false
-    → (has_filter list ≡ false) × (has_filter body ≡ false) × ((place : ℕ) → is_of_filter (Enter predicate place) ≡ false) × ((place : ℕ) → is_of_filter (Step predicate place) ≡ false)
+    → (has_filter list ≡ false) × (has_filter body ≡ false) × ((index : ℕ) → is_of_filter (Enter predicate index) ≡ false) × ((index : ℕ) → is_of_filter (Step predicate index) ≡ false)
 counted_predicate predicate list body e =
     let first = none_first (keeps_items (gathers predicate)) (has_filter list || has_filter body) e in
     let both = none_first (has_filter list) (has_filter body) first.1 in
-    (both.0, both.1, λ place. first.0, λ place. first.0)
+    (both.0, both.1, λ index. first.0, λ index. first.0)
 
 mutual
-  none_in : (place : ℕ) (tables : Tables) (tree : Typed) → has_filter tree ≡ false → NoneOf (code_at place tables tree)
-  none_in place tables typed.result e = refl
-  none_in place tables typed.item e = refl
-  none_in place tables (typed.literal literal) e = literal_none literal tables
-  none_in place tables (typed.field whole name) e = none_of_both (code_at place tables whole) _ (none_in place tables whole e) refl
-  none_in place tables (typed.unary operator operand) e = none_of_both (code_at place tables operand) _ (none_in place tables operand e) refl
-  none_in place tables (typed.binary operator left right) e =
+  none_in : (index : ℕ) (tables : Tables) (tree : Typed) → has_filter tree ≡ false → NoneOf (code_at index tables tree)
+  none_in index tables typed.result e = refl
+  none_in index tables typed.item e = refl
+  none_in index tables (typed.literal literal) e = literal_none literal tables
+  none_in index tables (typed.field whole name) e = none_of_both (code_at index tables whole) _ (none_in index tables whole e) refl
+  none_in index tables (typed.unary operator operand) e = none_of_both (code_at index tables operand) _ (none_in index tables operand e) refl
+  none_in index tables (typed.binary operator left right) e =
       let both = none_first (has_filter left) (has_filter right) e in
-      none_of_both (code_at place tables left) _ (none_in place tables left both.0) (none_of_both (code_at (place + operations left) (tables_with left tables) right) _ (none_in (place + operations left) (tables_with left tables) right both.1) refl)
-  none_in place tables (typed.both left right) e =
+      none_of_both (code_at index tables left) _ (none_in index tables left both.0) (none_of_both (code_at (index + operations left) (tables_with left tables) right) _ (none_in (index + operations left) (tables_with left tables) right both.1) refl)
+  none_in index tables (typed.both left right) e =
       let both = none_first (has_filter left) (has_filter right) e in
-      none_of_both (code_at place tables left) _ (none_in place tables left both.0) (none_in (place + operations left + 1) (tables_with left tables) right both.1)
-  none_in place tables (typed.either left right) e =
+      none_of_both (code_at index tables left) _ (none_in index tables left both.0) (none_in (index + operations left + 1) (tables_with left tables) right both.1)
+  none_in index tables (typed.either left right) e =
       let both = none_first (has_filter left) (has_filter right) e in
-      none_of_both (code_at place tables left) _ (none_in place tables left both.0) (none_in (place + operations left + 1) (tables_with left tables) right both.1)
-  none_in place tables (typed.choice condition met unmet) e =
-      let first = none_first (has_filter condition) (has_filter met || has_filter unmet) e in
-      let both = none_first (has_filter met) (has_filter unmet) first.1 in
-      none_of_both (code_at place tables condition) _ (none_in place tables condition first.0)
-      (none_of_both (code_at (place + operations condition + 1) (tables_with condition tables) met) _ (none_in (place + operations condition + 1) (tables_with condition tables) met both.0)
-      (none_in (place + operations condition + 1 + operations met + 1) (tables_with met (tables_with condition tables)) unmet both.1))
-  none_in place tables (typed.listed scalar items) e = none_of_both (items_at place tables items) _ (none_in_items place tables items e) refl
-  none_in place tables (typed.predicate predicate list body) e =
+      none_of_both (code_at index tables left) _ (none_in index tables left both.0) (none_in (index + operations left + 1) (tables_with left tables) right both.1)
+  none_in index tables (typed.choice condition then_branch else_branch) e =
+      let first = none_first (has_filter condition) (has_filter then_branch || has_filter else_branch) e in
+      let both = none_first (has_filter then_branch) (has_filter else_branch) first.1 in
+      none_of_both (code_at index tables condition) _ (none_in index tables condition first.0)
+      (none_of_both (code_at (index + operations condition + 1) (tables_with condition tables) then_branch) _ (none_in (index + operations condition + 1) (tables_with condition tables) then_branch both.0)
+      (none_in (index + operations condition + 1 + operations then_branch + 1) (tables_with then_branch (tables_with condition tables)) else_branch both.1))
+  none_in index tables (typed.listed scalar items) e = none_of_both (items_at index tables items) _ (none_in_items index tables items e) refl
+  none_in index tables (typed.predicate predicate list body) e =
       let parts = counted_predicate predicate list body e in
-      let within = none_of_both (code_at (place + operations list + 1) (tables_with list tables) body) (Step predicate (place + operations list) ∷ []) (none_in (place + operations list + 1) (tables_with list tables) body parts.1)
-      (neither (is_of_filter (Step predicate (place + operations list))) false (parts.3 (place + operations list)) refl) in
-      none_of_both (code_at place tables list) _ (none_in place tables list parts.0)
-      (neither (is_of_filter (Enter predicate (place + operations list + 1 + operations body))) _ (parts.2 (place + operations list + 1 + operations body)) within)
+      let within = none_of_both (code_at (index + operations list + 1) (tables_with list tables) body) (Step predicate (index + operations list) ∷ []) (none_in (index + operations list + 1) (tables_with list tables) body parts.1)
+      (neither (is_of_filter (Step predicate (index + operations list))) false (parts.3 (index + operations list)) refl) in
+      none_of_both (code_at index tables list) _ (none_in index tables list parts.0)
+      (neither (is_of_filter (Enter predicate (index + operations list + 1 + operations body))) _ (parts.2 (index + operations list + 1 + operations body)) within)
 
-  none_in_items : (place : ℕ) (tables : Tables) (items : Typeds) → have_filter items ≡ false → NoneOf (items_at place tables items)
-  none_in_items place tables typed.none e = refl
-  none_in_items place tables (typed.more first others) e =
+  none_in_items : (index : ℕ) (tables : Tables) (items : Typeds) → have_filter items ≡ false → NoneOf (items_at index tables items)
+  none_in_items index tables typed.none e = refl
+  none_in_items index tables (typed.more first others) e =
       let both = none_first (has_filter first) (have_filter others) e in
-      none_of_both (code_at place tables first) _ (none_in place tables first both.0) (none_in_items (place + operations first) (tables_with first tables) others both.1)
+      none_of_both (code_at index tables first) _ (none_in index tables first both.0) (none_in_items (index + operations first) (tables_with first tables) others both.1)
 
 compiled_none : (tree : Typed) → has_filter tree ≡ false → HasNoFilter (compiled tree)
 unfolding compiled

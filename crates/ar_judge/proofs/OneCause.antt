@@ -30,15 +30,15 @@ built_alone shape text condition (Compiler error) own built refused =
     let long = subst (λ tree. most_code_entries < length_of tree) same refused.1.long in
     let short = built.short in
     omega arith
-built_alone shape text condition (Verifier place reason) own built refused =
+built_alone shape text condition (Verifier index reason) own built refused =
     let typed = tree_by_parser shape text built.tree built.has_tree in
     let also = refused.typed in
     let same : refused.tree ≡ built.tree = cc in
-    one_verdict (compiled built.tree) shape condition.verified.budget condition.verified.depth place reason built.accepted (subst (λ tree. IsFault (compiled tree) shape place reason) same refused.fault)
+    one_verdict (compiled built.tree) shape condition.verified.budget condition.verified.depth index reason built.accepted (subst (λ tree. IsFault (compiled tree) shape index reason) same refused.fault)
 built_alone shape text condition OutOfMemory own built refused = own refl
 
-long_alone : (shape : Shape) (text : List ℕ) (place : ℕ) (reason : Reason) → IsTooLong shape text → IsUnsafe shape text place reason → ⊥
-long_alone shape text place reason long unsafe =
+long_alone : (shape : Shape) (text : List ℕ) (index : ℕ) (reason : Reason) → IsTooLong shape text → IsUnsafe shape text index reason → ⊥
+long_alone shape text index reason long unsafe =
     let typed = long.typed in
     let also = unsafe.typed in
     let same : unsafe.tree ≡ long.tree = cc in
@@ -46,37 +46,37 @@ long_alone shape text place reason long unsafe =
     let too_long = long.long in
     omega arith
 
-one_unsafe : (shape : Shape) (text : List ℕ) (place other_place : ℕ) (reason other_reason : Reason) → IsUnsafe shape text place reason → IsUnsafe shape text other_place other_reason → (place ≡ other_place) × (reason ≡ other_reason)
-one_unsafe shape text place other_place reason other_reason one other =
+one_unsafe : (shape : Shape) (text : List ℕ) (index other_index : ℕ) (reason other_reason : Reason) → IsUnsafe shape text index reason → IsUnsafe shape text other_index other_reason → (index ≡ other_index) × (reason ≡ other_reason)
+one_unsafe shape text index other_index reason other_reason one other =
     let typed = one.typed in
     let also = other.typed in
     let same : other.tree ≡ one.tree = cc in
-    same_fault (compiled one.tree) shape place other_place reason other_reason one.fault (subst (λ tree. IsFault (compiled tree) shape other_place other_reason) same other.fault)
+    same_fault (compiled one.tree) shape index other_index reason other_reason one.fault (subst (λ tree. IsFault (compiled tree) shape other_index other_reason) same other.fault)
 
 one_cause : (shape : Shape) (text : List ℕ) (cause other : BuildCause) → cause ≢ OutOfMemory → other ≢ OutOfMemory → IsRefused shape text cause → IsRefused shape text other → cause ≡ other
 one_cause shape text (Grammar error) (Grammar other) own also_own one two = cc
 one_cause shape text (Grammar error) (Kinds other) own also_own one two = absurd cc
 one_cause shape text (Grammar error) (Compiler other) own also_own one two = let typed = two.1.typed in absurd cc
-one_cause shape text (Grammar error) (Verifier place reason) own also_own one two = let typed = two.typed in absurd cc
+one_cause shape text (Grammar error) (Verifier index reason) own also_own one two = let typed = two.typed in absurd cc
 one_cause shape text (Kinds error) (Grammar other) own also_own one two = absurd cc
 one_cause shape text (Kinds error) (Kinds other) own also_own one two = cc
 one_cause shape text (Kinds error) (Compiler other) own also_own one two = let typed = two.1.typed in absurd cc
-one_cause shape text (Kinds error) (Verifier place reason) own also_own one two = let typed = two.typed in absurd cc
+one_cause shape text (Kinds error) (Verifier index reason) own also_own one two = let typed = two.typed in absurd cc
 one_cause shape text (Compiler error) (Grammar other) own also_own one two = let typed = one.1.typed in absurd cc
 one_cause shape text (Compiler error) (Kinds other) own also_own one two = let typed = one.1.typed in absurd cc
 one_cause shape text (Compiler error) (Compiler other) own also_own one two = ap (λ e. Compiler e) (one.0 ∙ sym two.0)
-one_cause shape text (Compiler error) (Verifier place reason) own also_own one two = absurd (long_alone shape text place reason one.1 two)
-one_cause shape text (Verifier place reason) (Grammar other) own also_own one two = let typed = one.typed in absurd cc
-one_cause shape text (Verifier place reason) (Kinds other) own also_own one two = let typed = one.typed in absurd cc
-one_cause shape text (Verifier place reason) (Compiler other) own also_own one two = absurd (long_alone shape text place reason two.1 one)
-one_cause shape text (Verifier place reason) (Verifier other_place other_reason) own also_own one two =
-    let same = one_unsafe shape text place other_place reason other_reason one two in
-    ap (λ p. Verifier p reason) same.0 ∙ ap (λ r. Verifier other_place r) same.1
+one_cause shape text (Compiler error) (Verifier index reason) own also_own one two = absurd (long_alone shape text index reason one.1 two)
+one_cause shape text (Verifier index reason) (Grammar other) own also_own one two = let typed = one.typed in absurd cc
+one_cause shape text (Verifier index reason) (Kinds other) own also_own one two = let typed = one.typed in absurd cc
+one_cause shape text (Verifier index reason) (Compiler other) own also_own one two = absurd (long_alone shape text index reason two.1 one)
+one_cause shape text (Verifier index reason) (Verifier other_index other_reason) own also_own one two =
+    let same = one_unsafe shape text index other_index reason other_reason one two in
+    ap (λ p. Verifier p reason) same.0 ∙ ap (λ r. Verifier other_index r) same.1
 one_cause shape text OutOfMemory other own also_own one two = absurd (own refl)
 one_cause shape text (Grammar error) OutOfMemory own also_own one two = absurd (also_own refl)
 one_cause shape text (Kinds error) OutOfMemory own also_own one two = absurd (also_own refl)
 one_cause shape text (Compiler error) OutOfMemory own also_own one two = absurd (also_own refl)
-one_cause shape text (Verifier place reason) OutOfMemory own also_own one two = absurd (also_own refl)
+one_cause shape text (Verifier index reason) OutOfMemory own also_own one two = absurd (also_own refl)
 
 -- ---- a text that may be missing
 

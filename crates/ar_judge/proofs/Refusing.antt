@@ -8,17 +8,17 @@ use Rattle.ar_judge.specs.declared.error.BuildCause.{BuildCause}
 use Rattle.ar_judge.specs.declared.error.BuildCause.TheVariants.{Grammar, Kinds, Compiler, Verifier, OutOfMemory}
 
 -- a success condition that is refused
-pub success_told : (shape : Shape) (success failure : Option (List ℕ)) (cause : BuildCause) → BuildsEach shape success (Err cause) → RefusesTexts shape success failure (success_refused cause)
-success_told shape success failure OutOfMemory told = tt
-success_told shape success failure (Grammar error) told = record { refused_text = told.refused_text; is_there = told.is_there; own = λ same. absurd cc; is = told.is }
-success_told shape success failure (Kinds error) told = record { refused_text = told.refused_text; is_there = told.is_there; own = λ same. absurd cc; is = told.is }
-success_told shape success failure (Compiler error) told = record { refused_text = told.refused_text; is_there = told.is_there; own = λ same. absurd cc; is = told.is }
-success_told shape success failure (Verifier place reason) told = record { refused_text = told.refused_text; is_there = told.is_there; own = λ same. absurd cc; is = told.is }
+pub success_reported : (shape : Shape) (success failure : Option (List ℕ)) (cause : BuildCause) → BuildsEach shape success (Err cause) → RefusesTexts shape success failure (success_refused cause)
+success_reported shape success failure OutOfMemory reported = tt
+success_reported shape success failure (Grammar error) reported = record { refused_text = reported.refused_text; is_there = reported.is_there; own = λ same. absurd cc; is = reported.is }
+success_reported shape success failure (Kinds error) reported = record { refused_text = reported.refused_text; is_there = reported.is_there; own = λ same. absurd cc; is = reported.is }
+success_reported shape success failure (Compiler error) reported = record { refused_text = reported.refused_text; is_there = reported.is_there; own = λ same. absurd cc; is = reported.is }
+success_reported shape success failure (Verifier index reason) reported = record { refused_text = reported.refused_text; is_there = reported.is_there; own = λ same. absurd cc; is = reported.is }
 
 -- a failure condition that is refused, after a success condition that isn't
-pub failure_told : (shape : Shape) (success failure : Option (List ℕ)) (built : Option Condition) (cause : BuildCause) → BuildsEach shape success (Ok built) → BuildsEach shape failure (Err cause) → RefusesTexts shape success failure (failure_refused cause)
-failure_told shape success failure built OutOfMemory stands told = tt
-failure_told shape success failure built (Grammar error) stands told = ((built, stands), record { refused_text = told.refused_text; is_there = told.is_there; own = λ same. absurd cc; is = told.is })
-failure_told shape success failure built (Kinds error) stands told = ((built, stands), record { refused_text = told.refused_text; is_there = told.is_there; own = λ same. absurd cc; is = told.is })
-failure_told shape success failure built (Compiler error) stands told = ((built, stands), record { refused_text = told.refused_text; is_there = told.is_there; own = λ same. absurd cc; is = told.is })
-failure_told shape success failure built (Verifier place reason) stands told = ((built, stands), record { refused_text = told.refused_text; is_there = told.is_there; own = λ same. absurd cc; is = told.is })
+pub failure_reported : (shape : Shape) (success failure : Option (List ℕ)) (built : Option Condition) (cause : BuildCause) → BuildsEach shape success (Ok built) → BuildsEach shape failure (Err cause) → RefusesTexts shape success failure (failure_refused cause)
+failure_reported shape success failure built OutOfMemory there reported = tt
+failure_reported shape success failure built (Grammar error) there reported = ((built, there), record { refused_text = reported.refused_text; is_there = reported.is_there; own = λ same. absurd cc; is = reported.is })
+failure_reported shape success failure built (Kinds error) there reported = ((built, there), record { refused_text = reported.refused_text; is_there = reported.is_there; own = λ same. absurd cc; is = reported.is })
+failure_reported shape success failure built (Compiler error) there reported = ((built, there), record { refused_text = reported.refused_text; is_there = reported.is_there; own = λ same. absurd cc; is = reported.is })
+failure_reported shape success failure built (Verifier index reason) there reported = ((built, there), record { refused_text = reported.refused_text; is_there = reported.is_there; own = λ same. absurd cc; is = reported.is })

@@ -66,7 +66,7 @@ built shape text code verified is code_is shape_is accepted =
 
 -- code that the verifier refuses is a text's that can't be run
 pub is_unsafe : (shape : Shape) (text : List ℕ) (code : Code) (cause : Cause) → IsCodeOf shape text code → IsCause code shape cause → IsRefused shape text (of_verifier cause)
-is_unsafe shape text code (causes.Fault place reason) is fault = record { tree = is.tree; typed = is.typed; short = is.short; fault = subst (λ code. IsFault code shape place reason) is.code_is fault }
+is_unsafe shape text code (causes.Fault index reason) is fault = record { tree = is.tree; typed = is.typed; short = is.short; fault = subst (λ code. IsFault code shape index reason) is.code_is fault }
 is_unsafe shape text code causes.OutOfMemory is fault = tt
 
 -- a run of code has one answer

@@ -71,7 +71,7 @@ refused_whole shape text (Grammar error) refused = sym (same_typed shape text) �
 refused_whole shape text (Kinds error) refused = sym (same_typed shape text) ∙ refused
 refused_whole shape text (Compiler error) refused =
     (refused.0, record { tree = refused.1.tree; typed = sym (same_typed shape text) ∙ refused.1.typed; long = refused.1.long })
-refused_whole shape text (Verifier place reason) refused =
+refused_whole shape text (Verifier index reason) refused =
     record { tree = refused.tree; typed = sym (same_typed shape text) ∙ refused.typed; short = refused.short; fault = refused.fault }
 refused_whole shape text OutOfMemory refused = tt
 

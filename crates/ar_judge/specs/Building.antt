@@ -37,4 +37,4 @@ of_compiler error = Compiler error
 
 abbrev pub of_verifier : Cause → BuildCause
 of_verifier causes.OutOfMemory = OutOfMemory
-of_verifier (causes.Fault place reason) = Verifier place reason
+of_verifier (causes.Fault index reason) = Verifier index reason

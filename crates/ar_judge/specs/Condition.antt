@@ -46,17 +46,17 @@ pub record IsTooLong (shape : Shape) (text : Text) : Type 0 where
   pub typed : typed_text shape text ≡ Ok tree
   pub long : most_code_entries < length_of tree
 
--- the verifier refuses the code of a text's typed tree at `place`
-pub record IsUnsafe (shape : Shape) (text : Text) (place : Index) (reason : Reason) : Type 0 where
+-- the verifier refuses the code of a text's typed tree at `index`
+pub record IsUnsafe (shape : Shape) (text : Text) (index : Index) (reason : Reason) : Type 0 where
   pub tree : Typed
   pub typed : typed_text shape text ≡ Ok tree
   pub short : length_of tree ≤ most_code_entries
-  pub fault : IsFault (compiled tree) shape place reason
+  pub fault : IsFault (compiled tree) shape index reason
 
 -- why a text is no condition that can be run, if it isn't out of memory
 abbrev pub IsRefused : Shape → Text → BuildCause → Type 0
 IsRefused shape text (Grammar error) = typed_text shape text ≡ Err (Grammar error)
 IsRefused shape text (Kinds error) = typed_text shape text ≡ Err (Kinds error)
 IsRefused shape text (Compiler error) = (error ≡ TooManyOps) × IsTooLong shape text
-IsRefused shape text (Verifier place reason) = IsUnsafe shape text place reason
+IsRefused shape text (Verifier index reason) = IsUnsafe shape text index reason
 IsRefused shape text OutOfMemory = Unit {0}

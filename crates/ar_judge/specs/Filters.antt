@@ -21,7 +21,8 @@ abbrev mutual
   has_filter (typed.binary operator left right) = has_filter left || has_filter right
   has_filter (typed.both left right) = has_filter left || has_filter right
   has_filter (typed.either left right) = has_filter left || has_filter right
-  has_filter (typed.choice condition met unmet) = has_filter condition || (has_filter met || has_filter unmet)
+  has_filter (typed.choice condition then_branch else_branch) =
+      has_filter condition || (has_filter then_branch || has_filter else_branch)
   has_filter (typed.listed scalar items) = have_filter items
   has_filter (typed.predicate predicate list body) =
       keeps_items (gathers predicate) || (has_filter list || has_filter body)

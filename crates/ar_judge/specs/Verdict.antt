@@ -36,7 +36,8 @@ sample_view (samples.Measured value) = measured (value_view value)
 
 -- ---- verdicts
 
--- what a metric's condition says: there is none, it has an answer, or it has none, as no condition of a judge
+-- what a metric's condition says: there is no condition, it has an answer, or it has no answer, which no condition of
+-- a judge does
 pub data Said : Type 0 where
   absent : Said
   says : Result Bool Fault → Said

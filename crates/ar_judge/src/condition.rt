@@ -88,7 +88,7 @@ impl Condition {
         &self.verified
     }
 
-    /// What it says of a value of its shape.
+    /// The boolean or the named fault that its text means on a value of its shape, by the machine.
     ///
     /// # Errors
     ///

@@ -89,7 +89,7 @@ impl From<ar_safety::Cause> for BuildCause {
     fn from(cause: ar_safety::Cause) -> BuildCause {
         match cause {
             ar_safety::Cause::OutOfMemory => BuildCause::OutOfMemory,
-            ar_safety::Cause::Fault { place, reason } => BuildCause::Verifier(place, reason),
+            ar_safety::Cause::Fault { index, reason } => BuildCause::Verifier(index, reason),
         }
     }
 }

@@ -25,7 +25,8 @@ pub fn headline(condition: &Condition)
     let _verified = condition.verified();
 }
 
-/// The same of all that a text may be built to.
+/// The headline of each condition that a text is built to under a shape, as the definitions have it: what `headline`
+/// says of the values that the program makes.
 pub fn built_headline()
     ensures { (shape : Shape) (text : List ℕ) (condition : Condition)
         → IsBuilt shape text condition → HeadlineHolds shape text condition }

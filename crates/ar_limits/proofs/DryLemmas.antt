@@ -194,13 +194,13 @@ module _ (limits : List Limits) (events events' : List Event) (differ : DifferIn
   -- what each event does is the same
   complete_same : (k j : ℕ) → option_map_or is_complete (slice_get (phases_by_marks limits (take k events)) j) false ≡ option_map_or is_complete (slice_get (phases_by_marks limits (take k events')) j) false
   complete_same k j =
-      told (slice_get (phases_by_marks limits (take k events)) j)
+      reported (slice_get (phases_by_marks limits (take k events)) j)
       ∙ ap (λ known. unwrap_or known false) (sym (slice_get-map is_complete (phases_by_marks limits (take k events)) j) ∙ ap (λ all. slice_get all j) (differ.complete k) ∙ slice_get-map is_complete (phases_by_marks limits (take k events')) j)
-      ∙ sym (told (slice_get (phases_by_marks limits (take k events')) j))
+      ∙ sym (reported (slice_get (phases_by_marks limits (take k events')) j))
     where
-      told : (found : Option Phase) → option_map_or is_complete found false ≡ unwrap_or (option_map is_complete found) false
-      told None = refl
-      told (Some q) = refl
+      reported : (found : Option Phase) → option_map_or is_complete found false ≡ unwrap_or (option_map is_complete found) false
+      reported None = refl
+      reported (Some q) = refl
 
   was_complete_same : (k : ℕ) (e e' : Event) → AreOneButDry limits e e' → metric_was_complete limits (take k events) e ≡ metric_was_complete limits (take k events') e'
   was_complete_same k event.Stop event.Stop one = refl

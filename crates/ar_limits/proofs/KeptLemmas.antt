@@ -138,7 +138,7 @@ takes_nothing : (metrics : List Metric) (p : Phase) (incomplete : ℕ) (e : Even
     → Takes metrics p incomplete e effect.Late metrics p incomplete
 unfolding next answer
 takes_nothing metrics p incomplete e late consistent = record {
-  stands = λ handed. rw (late handed) refl;
+  is_there = λ handed. rw (late handed) refl;
   answers = λ handed. rw (late handed) refl;
   consistent = consistent;
   grown = λ bound within. AreWithin-more bound metrics within;
@@ -203,7 +203,7 @@ pub takes_stop : (metrics : List Metric) (p : Phase) (incomplete : ℕ) → is_c
     → Takes metrics p incomplete event.Stop (effect.Closed phase.Successful) (map after_closing metrics) phase.Successful 0
 unfolding next answer
 takes_stop metrics p incomplete running consistent = record {
-  stands = λ handed. rw running (closed-standing_of metrics p phase.Successful handed);
+  is_there = λ handed. rw running (closed-standing_of metrics p phase.Successful handed);
   answers = λ handed. rw running refl;
   consistent = consistent_closed metrics phase.Successful refl consistent.positive;
   grown = λ bound within. AreWithin-more bound (map after_closing metrics) (AreWithin-closed bound metrics within);
@@ -268,7 +268,7 @@ takes_mark_on metrics p incomplete i metric m left marked fine some_left =
     let comes = λ (handed : ℕ). comes_late-mark metrics p i metric m handed marked.at marked.running ∙ marked.open_metric in
     let closing_is = λ (handed : ℕ). ap (λ s. closed_by_metrics (phases_for_run s.limits s.phases)) (event_is handed) ∙ now in
     record {
-      stands = λ handed. rw (comes handed, closing_is handed) (ap (λ (s : Standing). record s { phase = phase.Running }) (sym (event_is handed)));
+      is_there = λ handed. rw (comes handed, closing_is handed) (ap (λ (s : Standing). record s { phase = phase.Running }) (sym (event_is handed)));
       answers = λ handed. rw (comes handed, closing_is handed) refl;
       consistent = record {
         incomplete_is = rw for_run_are left_is;
@@ -302,7 +302,7 @@ takes_mark_closed metrics p incomplete i metric m left marked why =
     let comes = λ (handed : ℕ). comes_late-mark metrics p i metric m handed marked.at marked.running ∙ marked.open_metric in
     let closing_is = λ (handed : ℕ). ap (λ s. closed_by_metrics (phases_for_run s.limits s.phases)) (event_is handed) ∙ now in
     record {
-      stands = λ handed. rw (comes handed, closing_is handed) (closed-standing_of (set metrics i more) p (for_run more) handed ∙ ap (λ (s : Standing). closed s (for_run more)) (sym (event_is handed)));
+      is_there = λ handed. rw (comes handed, closing_is handed) (closed-standing_of (set metrics i more) p (for_run more) handed ∙ ap (λ (s : Standing). closed s (for_run more)) (sym (event_is handed)));
       answers = λ handed. rw (comes handed, closing_is handed) refl;
       consistent = consistent_closed (set metrics i more) (for_run more) (closed_by_metrics-complete (set (map for_run metrics) i (for_run more)) (for_run more) at_phases) (rw (limits_of-set metrics i metric m marked.at) marked.consistent.positive);
       grown = λ bound within. AreWithin-closed (bound + 1) (set metrics i more) (AreWithin-set bound metrics i metric m marked.at within);

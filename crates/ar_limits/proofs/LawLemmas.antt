@@ -17,7 +17,7 @@ use Rattle.ar_limits.specs.Laws.{OneMetricPhase, MetricPhaseStays, SameOutcome, 
 use Rattle.ar_limits.proofs.PrefixLemmas.{push_induction, value_of_some, phase_by-decided}
 use Rattle.ar_limits.proofs.NumberedLemmas.{length-numbered}
 use Rattle.ar_limits.proofs.RunLemmas.{is_complete-run_phase, metric_phases-closed, timely-push_late, timely-push_applied}
-use Rattle.ar_limits.proofs.StepLemmas.{standing_after, phase_of_marks-push_complete, stands_closed, agrees}
+use Rattle.ar_limits.proofs.StepLemmas.{standing_after, phase_of_marks-push_complete, stays_closed, agrees}
 
 -- ---- At most one phase
 
@@ -66,17 +66,17 @@ same_outcome limits events events' same = record {
   counts = sym (ap (λ (s : Standing). s.counts) same);
 }
 
-stands_on : (limits : List Limits) (events more : List Event) → is_complete (run_phase limits events) ≡ true
+stays_complete : (limits : List Limits) (events more : List Event) → is_complete (run_phase limits events) ≡ true
     → standing_after limits events 0 ≡ standing_after limits (events ++ more) 0
-stands_on limits events [] complete = ap (λ es. standing_after limits es 0) (sym (append-nil events))
-stands_on limits events (e ∷ more) complete =
+stays_complete limits events [] complete = ap (λ es. standing_after limits es 0) (sym (append-nil events))
+stays_complete limits events (e ∷ more) complete =
     let found = value_of_some (closing_prefix limits events) (sym (is_complete-run_phase limits events) ∙ complete) in
-    let one = stands_closed limits events found.0 e 0 found.1 in
+    let one = stays_closed limits events found.0 e 0 found.1 in
     let still : is_complete (run_phase limits (events ++ e ∷ [])) ≡ true = ap (λ (s : Standing). is_complete s.phase) (sym one) ∙ complete in
-    one ∙ stands_on limits (events ++ e ∷ []) more still ∙ ap (λ es. standing_after limits es 0) (append_assoc events (e ∷ []) more)
+    one ∙ stays_complete limits (events ++ e ∷ []) more still ∙ ap (λ es. standing_after limits es 0) (append_assoc events (e ∷ []) more)
 
 pub run_phase_stays : RunPhaseStays
-run_phase_stays limits events more complete = same_outcome limits events (events ++ more) (stands_on limits events more complete)
+run_phase_stays limits events more complete = same_outcome limits events (events ++ more) (stays_complete limits events more complete)
 
 -- ---- Late events
 
@@ -96,15 +96,15 @@ effect_of-late : (limits : List Limits) (events : List Event) (e : Event) → is
 unfolding effect_of
 effect_of-late limits events e late = rw late refl
 
-late_stands : (limits : List Limits) (events : List Event) (e : Event) → HasPositiveCounts limits
+late_is_there : (limits : List Limits) (events : List Event) (e : Event) → HasPositiveCounts limits
     → IsOfMetricBelow (length limits) e → is_late limits events e ≡ true
     → standing_after limits events 0 ≡ standing_after limits (events ++ e ∷ []) 0
-late_stands limits events e positive there late =
+late_is_there limits events e positive there late =
     let step = agrees limits events e 0 positive there in
-    sym (late_step (standing_after limits events 0) e (step.answers ∙ effect_of-late limits events e late)) ∙ step.stands
+    sym (late_step (standing_after limits events 0) e (step.answers ∙ effect_of-late limits events e late)) ∙ step.is_there
 
 pub late_changes_nothing : LateChangesNothing
-late_changes_nothing limits events e positive there late = same_outcome limits events (events ++ e ∷ []) (late_stands limits events e positive there late)
+late_changes_nothing limits events e positive there late = same_outcome limits events (events ++ e ∷ []) (late_is_there limits events e positive there late)
 
 front_all : {A : Type 0} (P : A → Type 0) (xs : List A) (x : A) → All P (xs ++ x ∷ []) → All P xs
 front_all P xs x h k d below = rw get_or_append_left at (h k d (omega (arith, length-append xs (x ∷ []))))
@@ -116,10 +116,10 @@ timely-nil : (limits : List Limits) → timely limits [] ≡ []
 unfolding timely with_earlier
 timely-nil limits = refl
 
-timely_stands : (limits : List Limits) → HasPositiveCounts limits → (events : List Event)
+timely_is_there : (limits : List Limits) → HasPositiveCounts limits → (events : List Event)
     → All (IsOfMetricBelow (length limits)) events
     → standing_after limits (timely limits events) 0 ≡ standing_after limits events 0
-timely_stands limits positive = push_induction Claim empty more where
+timely_is_there limits positive = push_induction Claim empty more where
   Claim : List Event → Type 0
   Claim events = All (IsOfMetricBelow (length limits)) events → standing_after limits (timely limits events) 0 ≡ standing_after limits events 0
 
@@ -131,15 +131,15 @@ timely_stands limits positive = push_induction Claim empty more where
       let e_there = last_all (IsOfMetricBelow (length limits)) events e there in
       let before = ih (front_all (IsOfMetricBelow (length limits)) events e there) in
       elim (cases_Bool (is_late limits events e)) [
-        | inl late ↦ rw (timely-push_late limits events e late) (before ∙ late_stands limits events e positive e_there late)
+        | inl late ↦ rw (timely-push_late limits events e late) (before ∙ late_is_there limits events e positive e_there late)
         | inr applied ↦
             rw (timely-push_applied limits events e applied)
-            (sym (agrees limits (timely limits events) e 0 positive e_there).stands ∙ ap (λ s. next s e) before ∙ (agrees limits events e 0 positive e_there).stands)
+            (sym (agrees limits (timely limits events) e 0 positive e_there).is_there ∙ ap (λ s. next s e) before ∙ (agrees limits events e 0 positive e_there).is_there)
       ]
 
 pub only_timely_matters : OnlyTimelyMatters
 only_timely_matters limits events events' positive there there' same =
-    same_outcome limits events events' (sym (timely_stands limits positive events there) ∙ ap (λ es. standing_after limits es 0) same ∙ timely_stands limits positive events' there')
+    same_outcome limits events events' (sym (timely_is_there limits positive events there) ∙ ap (λ es. standing_after limits es 0) same ∙ timely_is_there limits positive events' there')
 
 -- ---- Closing
 

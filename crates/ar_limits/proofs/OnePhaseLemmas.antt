@@ -57,10 +57,10 @@ all_numbered test f n (x ∷ xs) h =
 
 -- a value in a list of numbered items comes from one of them
 pub record ComesFrom {A B : Type 0} (f : ℕ × A → B) (n : ℕ) (xs : List A) (y : B) : Type 0 where
-  pub place : ℕ
+  pub index : ℕ
   pub item : A
-  pub there : slice_get xs place ≡ Some item
-  pub value : f (n + place, item) ≡ y
+  pub there : slice_get xs index ≡ Some item
+  pub value : f (n + index, item) ≡ y
 
 find_numbered : {A B : Type 0} (test : B → Bool) (f : ℕ × A → B) (n : ℕ) (xs : List A) (y : B)
     → find test (map f (enumerate_from n xs)) ≡ Some y → ComesFrom f n xs y
@@ -72,11 +72,11 @@ find_numbered {A} {B} test f n (x ∷ xs) y h = at (test (f (n, x))) h (find_num
   at : (b : Bool) → cond b (Some (f (n, x))) (find test (map f (enumerate_from (n + 1) xs))) ≡ Some y
       → (find test (map f (enumerate_from (n + 1) xs)) ≡ Some y → ComesFrom f (n + 1) xs y)
       → ComesFrom f n (x ∷ xs) y
-  at true e rest = let same : f (n, x) ≡ y = cc in record { place = 0; item = x; there = refl; value = rw here same }
+  at true e rest = let same : f (n, x) ≡ y = cc in record { index = 0; item = x; there = refl; value = rw here same }
   at false e rest =
       let later = rest e in
-      let moved : n + suc later.place ≡ n + 1 + later.place = omega arith in
-      record { place = suc later.place; item = later.item; there = later.there; value = rw moved later.value }
+      let moved : n + suc later.index ≡ n + 1 + later.index = omega arith in
+      record { index = suc later.index; item = later.item; there = later.there; value = rw moved later.value }
 
 -- ---- Reasons and the definition
 
@@ -157,10 +157,10 @@ metric_found : (limits : List Limits) (prefix : List Event) (q : Phase)
     → find is_unsuccessful (phases_for_run limits (phases_by_marks limits prefix)) ≡ Some q → HasUnsuccessful limits prefix q
 metric_found limits prefix q found =
     let from = find_numbered is_unsuccessful (numbered_for_run prefix) 0 limits q (ap (find is_unsuccessful) (sym (for_run_is limits prefix)) ∙ found) in
-    let here : 0 + from.place ≡ from.place = omega arith in
+    let here : 0 + from.index ≡ from.index = omega arith in
     let unsuccessful = find-passes is_unsuccessful (phases_for_run limits (phases_by_marks limits prefix)) q found in
     let counts = unsuccessful_for_run from.item _ q (rw here at from.value) unsuccessful in
-    record { number = from.place; own = from.item; there = from.there; phase_is = counts.0; unsuccessful = unsuccessful; decides = counts.1 }
+    record { number = from.index; own = from.item; there = from.there; phase_is = counts.0; unsuccessful = unsuccessful; decides = counts.1 }
 
 all_found : (limits : List Limits) (prefix : List Event)
     → list_all succeeded (phases_for_run limits (phases_by_marks limits prefix)) ≡ true → AllLeaveToSucceed limits prefix

@@ -46,10 +46,10 @@ pub replays-push : (limits : List Limits) (events : List Event) (metrics : List 
     → IsOfMetricBelow (length (map (λ metric. metric.limits) metrics)) e
     → ((k : ℕ) → standing_of metrics' p' k ≡ next (standing_of metrics p k) e)
     → Replays limits (events ++ e ∷ []) (standing_of metrics' p' (handed + 1))
-replays-push limits events metrics p handed e metrics' p' r positive there stands =
+replays-push limits events metrics p handed e metrics' p' r positive there is_there =
     let at = replayed limits events metrics p handed r (handed + 1) in
     let step = agrees limits events e (handed + 1) (rw r.limits_are at positive) (rw r.limits_are at there) in
-    let after = stands (handed + 1) ∙ ap (λ s. next s e) at ∙ step.stands in
+    let after = is_there (handed + 1) ∙ ap (λ s. next s e) at ∙ step.is_there in
     record {
       limits_are = ap (λ s. s.limits) after;
       phases_are = ap (λ s. s.phases) after;

@@ -157,7 +157,7 @@ same_standing a b c = rw (a, b, c) refl
 
 -- the step agrees with the definition
 pub record Agrees (limits : List Limits) (events : List Event) (e : Event) (handed : ℕ) : Type 0 where
-  pub stands : next (standing_after limits events handed) e ≡ standing_after limits (events ++ e ∷ []) handed
+  pub is_there : next (standing_after limits events handed) e ≡ standing_after limits (events ++ e ∷ []) handed
   pub answers : answer (standing_after limits events handed) e ≡ effect_of limits events e
 
 -- a late event that changes nothing
@@ -166,13 +166,13 @@ agrees_late : (limits : List Limits) (events : List Event) (e : Event) (handed :
     → standing_after limits events handed ≡ standing_after limits (events ++ e ∷ []) handed
     → Agrees limits events e handed
 unfolding next answer effect_of
-agrees_late limits events e handed comes late same = record { stands = rw comes same; answers = rw (comes, late) refl }
+agrees_late limits events e handed comes late same = record { is_there = rw comes same; answers = rw (comes, late) refl }
 
 -- a closed run keeps its state
-pub stands_closed : (limits : List Limits) (events prefix : List Event) (e : Event) (handed : ℕ)
+pub stays_closed : (limits : List Limits) (events prefix : List Event) (e : Event) (handed : ℕ)
     → closing_prefix limits events ≡ Some prefix
     → standing_after limits events handed ≡ standing_after limits (events ++ e ∷ []) handed
-stands_closed limits events prefix e handed found =
+stays_closed limits events prefix e handed found =
     let complete : is_complete (run_phase limits events) ≡ true = is_complete-run_phase limits events ∙ ap is_some found in
     let kept : closing_prefix limits (events ++ e ∷ []) ≡ Some prefix = rw (closing_prefix-push limits events e, found) refl in
     same_standing (metric_phases-closed limits events prefix found ∙ sym (metric_phases-closed limits (events ++ e ∷ []) prefix kept))
@@ -188,7 +188,7 @@ agrees_closed : (limits : List Limits) (events prefix : List Event) (e : Event) 
     → closing_prefix limits events ≡ Some prefix → Agrees limits events e handed
 agrees_closed limits events prefix e handed found =
     agrees_late limits events e handed (comes_late-closed limits events e handed (is_complete-run_phase limits events ∙ ap is_some found)) (is_late-closed limits events prefix e found)
-    (stands_closed limits events prefix e handed found)
+    (stays_closed limits events prefix e handed found)
 
 -- the state of the run after an event that isn't late, before it is closed
 abbrev marked_after : List Limits → List Event → Event → ℕ → Standing
@@ -215,13 +215,13 @@ agrees_applied limits events e handed none comes late marked now =
       | inl undecided ↦
           let still : closing_prefix limits (events ++ e ∷ []) ≡ None = rw (prefix, none, undecided) refl in
           record {
-            stands = rw (comes, now, undecided, marked) (same_standing (sym (metric_phases-open limits (events ++ e ∷ []) still)) refl (sym (phase_now ∙ ap (λ o. unwrap_or o phase.Running) undecided)));
+            is_there = rw (comes, now, undecided, marked) (same_standing (sym (metric_phases-open limits (events ++ e ∷ []) still)) refl (sym (phase_now ∙ ap (λ o. unwrap_or o phase.Running) undecided)));
             answers = rw (comes, late, now) refl;
           }
       | inr decided ↦
           let whole : closing_prefix limits (events ++ e ∷ []) ≡ Some (events ++ e ∷ []) = rw (prefix, none, decided.1) refl in
           record {
-            stands = rw (comes, now, decided.1, marked) (same_standing (sym (metric_phases-closed limits (events ++ e ∷ []) (events ++ e ∷ []) whole)) refl (sym (phase_now ∙ ap (λ o. unwrap_or o phase.Running) decided.1)));
+            is_there = rw (comes, now, decided.1, marked) (same_standing (sym (metric_phases-closed limits (events ++ e ∷ []) (events ++ e ∷ []) whole)) refl (sym (phase_now ∙ ap (λ o. unwrap_or o phase.Running) decided.1)));
             answers = rw (comes, late, now) refl;
           }
     ]

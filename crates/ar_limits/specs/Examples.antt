@@ -86,7 +86,7 @@ unfolding outcome
 without_events_all_is_pending = refl
 
 -- one failure is allowed
-at_the_limit_the_run_goes_on : outcome (limits_of 1 0 4 (Some 5) ∷ []) (failure ∷ success ∷ [])
+at_the_limit_the_run_continues : outcome (limits_of 1 0 4 (Some 5) ∷ []) (failure ∷ success ∷ [])
     ≡ record {
       effects = effect.Applied ∷ effect.Applied ∷ [];
       phase = phase.Running;
@@ -94,7 +94,7 @@ at_the_limit_the_run_goes_on : outcome (limits_of 1 0 4 (Some 5) ∷ []) (failur
       counts = counted 1 1 0 0 0 ∷ [];
     }
 unfolding outcome
-at_the_limit_the_run_goes_on = refl
+at_the_limit_the_run_continues = refl
 
 -- a second failure is one too many, and what comes after it is late
 past_the_limit_the_run_fails : outcome (limits_of 1 0 4 (Some 5) ∷ []) (failure ∷ success ∷ failure ∷ failure ∷ [])
@@ -225,7 +225,7 @@ unfolding outcome
 a_dry_failure_completes_the_last = refl
 
 -- a failure next to a dry error closes, and the open dry metric becomes Successful
-another_failure_closes_beside_a_dry_error : outcome
+another_failure_closes_with_a_dry_error : outcome
     (dry (limits_of 0 0 0 None) ∷ limits_of 0 0 4 None ∷ dry (limits_of 0 0 4 None) ∷ [])
     (error ∷ event.Mark 1 mark.Failed ∷ [])
     ≡ record {
@@ -235,4 +235,4 @@ another_failure_closes_beside_a_dry_error : outcome
       counts = counted 0 0 0 1 1 ∷ counted 0 1 0 0 0 ∷ counted 0 0 0 0 0 ∷ [];
     }
 unfolding outcome
-another_failure_closes_beside_a_dry_error = refl
+another_failure_closes_with_a_dry_error = refl

@@ -42,11 +42,11 @@ IsOfMetricBelow metrics (event.Mark number mark) = number < metrics
 IsOfMetricBelow metrics event.Stop = Unit {0}
 
 -- a run took one event more and reported this effect
-pub record TakesEvent (event : Event) (told : Effect) (before after : Standing) : Type 0 where
+pub record TakesEvent (event : Event) (reported : Effect) (before after : Standing) : Type 0 where
   -- each list of events that led to its old state leads, with this event at its end, to its new one
   pub replays : ForEachReplay before (λ limits events. Replays limits (events ++ event ∷ []) after)
   -- the effect is that of this event after each such list
-  pub effect : ForEachReplay before (λ limits events. told ≡ effect_of limits events event)
+  pub effect : ForEachReplay before (λ limits events. reported ≡ effect_of limits events event)
   -- whichever events came before, the limits stay
   pub limits : after.limits ≡ before.limits
   -- and the number of events rises by one

@@ -12,7 +12,8 @@ pub fn at_most_one_run_phase()
     ensures { OneRunPhase }
 {}
 
-/// A run is closed only for one of these reasons.
+/// A run is closed only for one of three reasons, by the shortest prefix of its events that has one: a stop at its end,
+/// a metric that isn't dry and is complete without success, or that all metrics are complete.
 pub fn closed_for_a_reason()
     ensures { ClosedForAReason }
 {}

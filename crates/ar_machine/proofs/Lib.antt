@@ -7,7 +7,7 @@ pub mod Simulation
 pub mod Reached
 pub mod Ends
 pub mod Lists
-pub mod Beside
+pub mod NextTo
 pub mod Well
 pub mod Room
 pub mod NoFilter

@@ -1,5 +1,5 @@
 -- Definitions of private contracts and of proofs alone, which follow the code: a reader need not believe them.
-pub mod Beside
+pub mod NextTo
 pub mod Countable
 pub mod Room
 pub mod States

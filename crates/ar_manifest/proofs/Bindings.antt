@@ -50,12 +50,12 @@ unfolding bound_text filled
 bound_text-plain arguments own i text lacks = ap (filled arguments own i) (parts_of-whole text (cut_at-Lacks (codes "{{") opens text lacks))
 
 -- a text with one reference
-pub bound_text-reference : (arguments : TemplateArguments) (own : RunArguments) (i : ℕ) (text before behind between after value : List ℕ)
-    → CutsAtFirst (codes "{{") text before behind → CutsAtFirst (codes "}}") behind between after → Lacks (codes "{{") after
+pub bound_text-reference : (arguments : TemplateArguments) (own : RunArguments) (i : ℕ) (text before opened between after value : List ℕ)
+    → CutsAtFirst (codes "{{") text before opened → CutsAtFirst (codes "}}") opened between after → Lacks (codes "{{") after
     → referred_value arguments own i between ≡ Ok value → bound_text arguments own i text ≡ Ok (before ++ (value ++ after))
 unfolding bound_text filled
-bound_text-reference arguments own i text before behind between after value first next lacks given =
-    let parts : parts_of text ≡ reference before between (whole after) = parts_of-AreParts text (reference before between (whole after)) (behind, after, first, next, (refl, lacks)) in
+bound_text-reference arguments own i text before opened between after value first next lacks given =
+    let parts : parts_of text ≡ reference before between (whole after) = parts_of-AreParts text (reference before between (whole after)) (opened, after, first, next, (refl, lacks)) in
     ap (filled arguments own i) parts ∙ rw given refl
 
 own_first : (arguments : TemplateArguments) (own : RunArguments) (i : ℕ) (between name value : List ℕ) (found : Option (Option (List ℕ)))

@@ -5,7 +5,7 @@ use Rattle.std.specs.Option.{option_or}
 use Rattle.std.specs.Result.{result_ok}
 use Rattle.std.specs.Str.Parse.{digits_value}
 use Rattle.std.proofs.lemmas.List.{length-append}
-use Rattle.ar_value.specs.Answer.{◌>>=◌, each_behind, there_or}
+use Rattle.ar_value.specs.Answer.{◌>>=◌, each_after, there_or}
 use Rattle.ar_manifest.specs.Arguments.{value_of}
 use Rattle.ar_manifest.specs.Binding.{RunArguments, argument_name, bound_text, filled, referred_value, trimmed}
 use Rattle.ar_manifest.specs.Bound.{bound_condition, bound_limit, bound_metric, bound_of, effective_count, is_limit_text, limit_of_number, limit_of_text, most, next_bound}
@@ -170,15 +170,15 @@ module _ (arguments : TemplateArguments) (own : RunArguments) where
       (j : ℕ) × (i : ℕ) × (i ≡ n + j)
       × Explains (is_some (option_and_then (unbound_in_metric arguments own i) (slice_get metrics j))) (is_some (option_and_then (refused_in_metric arguments own i) (slice_get metrics j))) i refusal
 
-  each_explained : (earlier : List BoundMetric) (metrics : List Metric) (refusal : ManifestError) → each_behind (next_bound arguments own) earlier metrics ≡ Err refusal → IsOfOne (length earlier) metrics refusal
-  unfolding each_behind
+  each_explained : (earlier : List BoundMetric) (metrics : List Metric) (refusal : ManifestError) → each_after (next_bound arguments own) earlier metrics ≡ Err refusal → IsOfOne (length earlier) metrics refusal
+  unfolding each_after
   each_explained earlier [] refusal is = absurd (cc)
   each_explained earlier (metric ∷ metrics) refusal is =
       by (bound_metric arguments own (length earlier) metric) refl (λ made. each_explained (earlier ++ made ∷ []) metrics refusal) is
     where
       by : (answer : Result BoundMetric ManifestError) → bound_metric arguments own (length earlier) metric ≡ answer
-          → ((made : BoundMetric) → each_behind (next_bound arguments own) (earlier ++ made ∷ []) metrics ≡ Err refusal → IsOfOne (length (earlier ++ made ∷ [])) metrics refusal)
-          → (answer >>= λ made. each_behind (next_bound arguments own) (earlier ++ made ∷ []) metrics) ≡ Err refusal → IsOfOne (length earlier) (metric ∷ metrics) refusal
+          → ((made : BoundMetric) → each_after (next_bound arguments own) (earlier ++ made ∷ []) metrics ≡ Err refusal → IsOfOne (length (earlier ++ made ∷ [])) metrics refusal)
+          → (answer >>= λ made. each_after (next_bound arguments own) (earlier ++ made ∷ []) metrics) ≡ Err refusal → IsOfOne (length earlier) (metric ∷ metrics) refusal
       by (Ok made) given later is =
           let one = later made is in
           (suc one.0, one.1, omega (arith, one.2, length-append earlier (made ∷ [])), one.3)
@@ -196,15 +196,15 @@ module _ (template : Template) (own : RunArguments) where
 
   reference_at : (i j n : ℕ) → i ≡ n → n ≡ 0 + j → is_some (option_and_then (unbound_in_metric template.arguments own n) (slice_get template.metrics j)) ≡ true → is_some (unbound_reference template own i) ≡ true
   unfolding unbound_reference
-  reference_at i j n number place some =
-      let same : j ≡ n = omega (arith, place) in
+  reference_at i j n number index some =
+      let same : j ≡ n = omega (arith, index) in
       let there = rw same at some in
       rw number there
 
   limit_at_number : (i j n : ℕ) → i ≡ n → n ≡ 0 + j → is_some (option_and_then (refused_in_metric template.arguments own n) (slice_get template.metrics j)) ≡ true → is_some (refused_limit template own i) ≡ true
   unfolding refused_limit
-  limit_at_number i j n number place some =
-      let same : j ≡ n = omega (arith, place) in
+  limit_at_number i j n number index some =
+      let same : j ≡ n = omega (arith, index) in
       let there = rw same at some in
       rw number there
 

@@ -10,8 +10,8 @@ use Rattle.ar_manifest.specs.Binding.{argument_name}
 use Rattle.ar_manifest.specs.Cut.{CutsAtFirst, Lacks, cut_at}
 
 -- a sign is at the front of a text
-front_is : (sign text behind : List ℕ) → text ≡ sign ++ behind → starts_with nat_eq text sign ≡ true
-front_is sign text behind = (starts_is Decides-eqb text sign _ refl).1 behind
+front_is : (sign text after : List ℕ) → text ≡ sign ++ after → starts_with nat_eq text sign ≡ true
+front_is sign text after = (starts_is Decides-eqb text sign _ refl).1 after
 
 -- it doesn't
 front_lacks : (sign text : List ℕ) → LacksTextAt sign text 0 → starts_with nat_eq text sign ≡ false
@@ -23,20 +23,20 @@ front_lacks sign text lacks = by (starts_with nat_eq text sign) refl
 
 module _ (sign : List ℕ) (some : 0 < length sign) where
   -- no empty text begins with a sign
-  not_empty : (behind : List ℕ) → [] ≢ sign ++ behind
-  not_empty behind e = let longer = ap length e in absurd (omega (arith, longer, length-append sign behind))
+  not_empty : (after : List ℕ) → [] ≢ sign ++ after
+  not_empty after e = let longer = ap length e in absurd (omega (arith, longer, length-append sign after))
 
   -- the text is cut at the first occurrence of the sign
-  pub cut_at_first : (text : List ℕ) (i : ℕ) (behind : List ℕ) → ((k : ℕ) → k < i → LacksTextAt sign text k) → drop i text ≡ sign ++ behind → cut_at sign text ≡ Some (take i text, behind)
+  pub cut_at_first : (text : List ℕ) (i : ℕ) (after : List ℕ) → ((k : ℕ) → k < i → LacksTextAt sign text k) → drop i text ≡ sign ++ after → cut_at sign text ≡ Some (take i text, after)
   unfolding cut_at
-  cut_at_first [] zero behind lacks at = absurd (not_empty behind at)
-  cut_at_first [] (suc i) behind lacks at = absurd (not_empty behind at)
-  cut_at_first (byte ∷ text) zero behind lacks at =
-      let rest : drop (length sign) (byte ∷ text) ≡ behind = rw at (drop_at sign behind (length sign) refl) in
-      rw (front_is sign (byte ∷ text) behind at, rest) refl
-  cut_at_first (byte ∷ text) (suc i) behind lacks at =
+  cut_at_first [] zero after lacks at = absurd (not_empty after at)
+  cut_at_first [] (suc i) after lacks at = absurd (not_empty after at)
+  cut_at_first (byte ∷ text) zero after lacks at =
+      let rest : drop (length sign) (byte ∷ text) ≡ after = rw at (drop_at sign after (length sign) refl) in
+      rw (front_is sign (byte ∷ text) after at, rest) refl
+  cut_at_first (byte ∷ text) (suc i) after lacks at =
       let none = front_lacks sign (byte ∷ text) (lacks zero (omega arith)) in
-      let later = cut_at_first text i behind (λ k below. lacks (suc k) (omega arith)) at in
+      let later = cut_at_first text i after (λ k below. lacks (suc k) (omega arith)) at in
       rw (none, later) refl
 
   -- or it isn't cut
@@ -57,24 +57,24 @@ module _ (sign : List ℕ) where
       → CutsAtFirst sign (byte ∷ text) cut.0 cut.1
   cut_at_by_front byte text true rest cut is made later =
       let none : [] ≡ cut.0 = cc in
-      let behind : drop (length sign) (byte ∷ text) ≡ cut.1 = cc in
+      let after : drop (length sign) (byte ∷ text) ≡ cut.1 = cc in
       record {
-        parts = rw (← none, ← behind) ((starts_is Decides-eqb (byte ∷ text) sign _ refl).0 is);
-        first = λ earlier behind e. rw (← none) (omega arith);
+        parts = rw (← none, ← after) ((starts_is Decides-eqb (byte ∷ text) sign _ refl).0 is);
+        first = λ earlier after e. rw (← none) (omega arith);
       }
   cut_at_by_front byte text false None cut is made later = absurd (cc)
   cut_at_by_front byte text false (Some found) cut is made later =
       let first = later found refl in
       let before : byte ∷ found.0 ≡ cut.0 = cc in
-      let behind : found.1 ≡ cut.1 = cc in
+      let after : found.1 ≡ cut.1 = cc in
       record {
-        parts = rw (← before, ← behind) (ap (λ rest. byte ∷ rest) first.parts);
-        first = λ earlier behind e. rw (← before) (no_earlier found first earlier behind e);
+        parts = rw (← before, ← after) (ap (λ rest. byte ∷ rest) first.parts);
+        first = λ earlier after e. rw (← before) (no_earlier found first earlier after e);
       }
     where
-      no_earlier : (found : List ℕ × List ℕ) → CutsAtFirst sign text found.0 found.1 → (earlier behind : List ℕ) → byte ∷ text ≡ earlier ++ (sign ++ behind) → length (byte ∷ found.0) ≤ length earlier
-      no_earlier found first [] behind e = absurd (true≢false (sym (front_is sign (byte ∷ text) behind e) ∙ is))
-      no_earlier found first (_ ∷ earlier) behind e = let below = first.first earlier behind (ap (drop 1) e) in omega (arith, below)
+      no_earlier : (found : List ℕ × List ℕ) → CutsAtFirst sign text found.0 found.1 → (earlier after : List ℕ) → byte ∷ text ≡ earlier ++ (sign ++ after) → length (byte ∷ found.0) ≤ length earlier
+      no_earlier found first [] after e = absurd (true≢false (sym (front_is sign (byte ∷ text) after e) ∙ is))
+      no_earlier found first (_ ∷ earlier) after e = let below = first.first earlier after (ap (drop 1) e) in omega (arith, below)
 
   pub CutsAtFirst-cut_at : (text : List ℕ) (cut : List ℕ × List ℕ) → cut_at sign text ≡ Some cut → CutsAtFirst sign text cut.0 cut.1
   unfolding cut_at
@@ -92,15 +92,15 @@ module _ (sign : List ℕ) where
       → starts_with nat_eq (byte ∷ text) sign ≡ test
       → if◌then◌else◌ {A = Option (List ℕ × List ℕ)} test (Some ([], drop (length sign) (byte ∷ text))) (option_map (λ later. (byte ∷ later.0, later.1)) rest) ≡ None
       → (rest ≡ None → Lacks sign text) → Lacks sign (byte ∷ text)
-  lacks_by_front byte text true rest is none later before behind e = cc
-  lacks_by_front byte text false (Some found) is none later before behind e = cc
-  lacks_by_front byte text false None is none later [] behind e = true≢false (sym (front_is sign (byte ∷ text) behind e) ∙ is)
-  lacks_by_front byte text false None is none later (_ ∷ before) behind e = later refl before behind (ap (drop 1) e)
+  lacks_by_front byte text true rest is none later before after e = cc
+  lacks_by_front byte text false (Some found) is none later before after e = cc
+  lacks_by_front byte text false None is none later [] after e = true≢false (sym (front_is sign (byte ∷ text) after e) ∙ is)
+  lacks_by_front byte text false None is none later (_ ∷ before) after e = later refl before after (ap (drop 1) e)
 
 module _ (sign : List ℕ) (some : 0 < length sign) where
   empty_lacks : Lacks sign []
-  empty_lacks [] behind e = not_empty sign some behind e
-  empty_lacks (_ ∷ before) behind e = cc
+  empty_lacks [] after e = not_empty sign some after e
+  empty_lacks (_ ∷ before) after e = cc
 
   pub Lacks-cut_at : (text : List ℕ) → cut_at sign text ≡ None → Lacks sign text
   unfolding cut_at
@@ -108,19 +108,19 @@ module _ (sign : List ℕ) (some : 0 < length sign) where
   Lacks-cut_at (byte ∷ text) none = lacks_by_front sign byte text (starts_with nat_eq (byte ∷ text) sign) (cut_at sign text) refl none (Lacks-cut_at text)
 
   -- a text that has the sign at an offset is its parts round it
-  split_at : (text : List ℕ) (k : ℕ) (behind : List ℕ) → drop k text ≡ sign ++ behind → text ≡ take k text ++ (sign ++ behind)
-  split_at text k behind at = sym (take-append-drop k text) ∙ ap (λ rest. take k text ++ rest) at
+  split_at : (text : List ℕ) (k : ℕ) (after : List ℕ) → drop k text ≡ sign ++ after → text ≡ take k text ++ (sign ++ after)
+  split_at text k after at = sym (take-append-drop k text) ∙ ap (λ rest. take k text ++ rest) at
 
   pub cut_at-Lacks : (text : List ℕ) → Lacks sign text → cut_at sign text ≡ None
-  cut_at-Lacks text lacks = cut_at_none sign some text (λ k below behind at. lacks (take k text) behind (split_at text k behind at))
+  cut_at-Lacks text lacks = cut_at_none sign some text (λ k below after at. lacks (take k text) after (split_at text k after at))
 
-  pub cut_at-CutsAtFirst : (text before behind : List ℕ) → CutsAtFirst sign text before behind → cut_at sign text ≡ Some (before, behind)
-  cut_at-CutsAtFirst text before behind cuts =
-      let at : drop (length before) text ≡ sign ++ behind = rw cuts.parts (drop_at before (sign ++ behind) (length before) refl) in
-      let front : take (length before) text ≡ before = rw cuts.parts (take_at before (sign ++ behind) (length before) refl) in
-      cut_at_first sign some text (length before) behind
+  pub cut_at-CutsAtFirst : (text before after : List ℕ) → CutsAtFirst sign text before after → cut_at sign text ≡ Some (before, after)
+  cut_at-CutsAtFirst text before after cuts =
+      let at : drop (length before) text ≡ sign ++ after = rw cuts.parts (drop_at before (sign ++ after) (length before) refl) in
+      let front : take (length before) text ≡ before = rw cuts.parts (take_at before (sign ++ after) (length before) refl) in
+      cut_at_first sign some text (length before) after
       (λ k below later at. let earlier = cuts.first (take k text) later (split_at text k later at) in omega (arith, earlier, length-take k text)) at
-      ∙ ap (λ (found : List ℕ). Some (found, behind)) front
+      ∙ ap (λ (found : List ℕ). Some (found, after)) front
 
 -- what `split_once` returns
 pub split_once_cuts : (sign text : List ℕ) (result : Option (Bor (List ℕ) × Bor (List ℕ))) → 0 < length sign

@@ -71,8 +71,8 @@ module _ {V : Type 0} where
   with_new_value (first ∷ rest) name value none = by_first (bytes_eq name first.0) refl (with_new_value rest name value)
     where
       by_first : (test : Bool) → bytes_eq name first.0 ≡ test → (value_of name rest ≡ Option.None → with_value rest name value ≡ rest ++ (name, value) ∷ []) → with_value (first ∷ rest) name value ≡ first ∷ (rest ++ (name, value) ∷ [])
-      by_first true e behind = absurd (let some : Option.Some first.1 ≡ Option.None = rw e at none in cc)
-      by_first false e behind = rw e (ap (λ more. first ∷ more) (behind (rw e at none)))
+      by_first true e others = absurd (let some : Option.Some first.1 ≡ Option.None = rw e at none in cc)
+      by_first false e others = rw e (ap (λ more. first ∷ more) (others (rw e at none)))
 
   -- where a name is after a new one is added
   after_next : (entries : List (List ℕ × V)) (name : List ℕ) (value : V) → value_of name entries ≡ Option.None → (q : List ℕ)
@@ -90,9 +90,9 @@ module _ {V : Type 0} where
       by_first : (test : Bool) → bytes_eq name first.0 ≡ test
           → (value_of name rest ≡ Option.None → (q : List ℕ) → index_of q (rest ++ (name, value) ∷ []) ≡ cond (bytes_eq name q) (Some (length rest)) (index_of q rest))
           → index_of q (first ∷ rest ++ (name, value) ∷ []) ≡ cond (bytes_eq name q) (Some (length (first ∷ rest))) (index_of q (first ∷ rest))
-      by_first true e behind = absurd (let some : Option.Some first.1 ≡ Option.None = rw e at none in cc)
-      by_first false e behind =
-          ap (λ later. if bytes_eq q first.0 then Some 0 else option_map suc later) (behind (rw e at none) q) ∙ by_tests (bytes_eq q first.0) (bytes_eq name q) refl refl e (index_of q rest)
+      by_first true e others = absurd (let some : Option.Some first.1 ≡ Option.None = rw e at none in cc)
+      by_first false e others =
+          ap (λ later. if bytes_eq q first.0 then Some 0 else option_map suc later) (others (rw e at none) q) ∙ by_tests (bytes_eq q first.0) (bytes_eq name q) refl refl e (index_of q rest)
 
   -- the indices after a new name is added
   pub next_indices : (indices after : BTreeMap (String Global) ℕ) (entries : List (List ℕ × V)) (key : String Global) (name : List ℕ) (value : V) → AreIndices indices entries → value_of name entries ≡ Option.None

@@ -3,7 +3,7 @@ use Rattle.std.proofs.Common.{◌≡◌, [], ◌∷◌, refl, Some, None, Ok, Er
 use Rattle.std.specs.Prelude.{codes, option_map}
 use Rattle.serde_json.specs.Read.{read}
 use Rattle.serde_json.proofs.OnLiterals.{serde_json_on_literals}
-use Rattle.ar_value.specs.Answer.{each_behind}
+use Rattle.ar_value.specs.Answer.{each_after}
 use Rattle.ar_manifest.specs.Binding.{bound_text, filled, referred_value}
 use Rattle.ar_manifest.specs.Bound.{bound_limit, effective_count, limit_of_text}
 use Rattle.ar_manifest.specs.Cut.{cut_at, parts_of, parts_within, whole, reference}
@@ -110,10 +110,10 @@ other_kind = refl
 
 unsupported : option_map template_of (read (codes "{\"apiVersion\":\"argoproj.io/v1alpha1\",\"kind\":\"AnalysisTemplate\",\"metadata\":{\"name\":\"t\"},\"spec\":{\"metrics\":[{\"name\":\"m\",\"consecutiveSuccessLimit\":1}]}}"))
     ≡ Some (Err (Unsupported 0))
-unfolding template_of each_behind metric_of named_metric metric_limits serde_json_on_literals
+unfolding template_of each_after metric_of named_metric metric_limits serde_json_on_literals
 unsupported = refl
 
 no_value_is_a_number : option_map template_of (read (codes "{\"apiVersion\":\"argoproj.io/v1alpha1\",\"kind\":\"AnalysisTemplate\",\"metadata\":{\"name\":\"t\"},\"spec\":{\"args\":[{\"name\":\"a\"},{\"name\":\"b\",\"value\":1}]}}"))
     ≡ Some (Err (BadArgs 1))
-unfolding template_of each_behind argument_of serde_json_on_literals
+unfolding template_of each_after argument_of serde_json_on_literals
 no_value_is_a_number = refl

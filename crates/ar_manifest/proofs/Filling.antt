@@ -50,13 +50,13 @@ joined-empty most text = refl
 
 -- what is kept of what is bound already, with an answer at its end
 abbrev pub with_kept : Option ℕ → Option (List ℕ) → Result (List ℕ) ManifestError → Result (Option (List ℕ)) ManifestError
-with_kept most kept answer = answer >>= λ behind. Ok (joined most kept behind)
+with_kept most kept answer = answer >>= λ opened. Ok (joined most kept opened)
 
 -- two pieces at once
 with_kept-twice : (most : Option ℕ) (kept : Option (List ℕ)) (before value : List ℕ) (answer : Result (List ℕ) ManifestError)
-    → with_kept most kept (answer >>= λ behind. Ok (before ++ (value ++ behind))) ≡ with_kept most (joined most (joined most kept before) value) answer
-with_kept-twice most kept before value (Ok behind) =
-    ap (λ (text : Option (List ℕ)). Ok text) (sym (joined-twice most (joined most kept before) value behind ∙ joined-twice most kept before (value ++ behind)))
+    → with_kept most kept (answer >>= λ opened. Ok (before ++ (value ++ opened))) ≡ with_kept most (joined most (joined most kept before) value) answer
+with_kept-twice most kept before value (Ok opened) =
+    ap (λ (text : Option (List ℕ)). Ok text) (sym (joined-twice most (joined most kept before) value opened ∙ joined-twice most kept before (value ++ opened)))
 with_kept-twice most kept before value (Err refusal) = refl
 
 -- nothing is bound
@@ -66,7 +66,7 @@ unfolding bound_text text_within
 bind_begin arguments own i most front text is = ap (λ empty. with_kept most (Some empty) (filled arguments own i (parts_of text))) is ∙ no_front (filled arguments own i (parts_of text))
   where
     no_front : (answer : Result (List ℕ) ManifestError) → with_kept most (Some []) answer ≡ (answer >>= λ bound. Ok (within most bound))
-    no_front (Ok behind) = ap (λ (text : Option (List ℕ)). Ok text) (joined-empty most behind)
+    no_front (Ok opened) = ap (λ (text : Option (List ℕ)). Ok text) (joined-empty most opened)
     no_front (Err refusal) = refl
 
 module _ (arguments : TemplateArguments) (own : RunArguments) (i : ℕ) (most : Option ℕ) (kept : Option (List ℕ)) (text : List ℕ) (all : Result (Option (List ℕ)) ManifestError)
@@ -76,15 +76,15 @@ module _ (arguments : TemplateArguments) (own : RunArguments) (i : ℕ) (most : 
   unfolding filled
   bind_end bound none is = sym so_far ∙ ap (λ parts. with_kept most kept (filled arguments own i parts)) (parts_of-whole text none) ∙ ap (λ (done : Option (List ℕ)). Ok done) (sym is)
 
-  module _ (before behind : List ℕ) (opens : cut_at (codes "{{") text ≡ Some (before, behind)) where
+  module _ (before opened : List ℕ) (opens : cut_at (codes "{{") text ≡ Some (before, opened)) where
     -- a reference without end
-    pub bind_open : cut_at (codes "}}") behind ≡ None → all ≡ Err (OpenBraces i)
+    pub bind_open : cut_at (codes "}}") opened ≡ None → all ≡ Err (OpenBraces i)
     unfolding filled
-    bind_open none = sym so_far ∙ ap (λ parts. with_kept most kept (filled arguments own i parts)) (parts_of-unclosed text (before, behind) opens none)
+    bind_open none = sym so_far ∙ ap (λ parts. with_kept most kept (filled arguments own i parts)) (parts_of-unclosed text (before, opened) opens none)
 
-    module _ (between after : List ℕ) (closes : cut_at (codes "}}") behind ≡ Some (between, after)) where
+    module _ (between after : List ℕ) (closes : cut_at (codes "}}") opened ≡ Some (between, after)) where
       cut_reference : all ≡ with_kept most kept (filled arguments own i (reference before between (parts_of after)))
-      cut_reference = sym so_far ∙ ap (λ parts. with_kept most kept (filled arguments own i parts)) (parts_of-reference text (before, behind) opens (between, after) closes)
+      cut_reference = sym so_far ∙ ap (λ parts. with_kept most kept (filled arguments own i parts)) (parts_of-reference text (before, opened) opens (between, after) closes)
 
       -- a reference without a value
       pub bind_fault : (refusal : ManifestError) → referred_value arguments own i between ≡ Err refusal → all ≡ Err refusal

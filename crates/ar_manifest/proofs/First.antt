@@ -18,10 +18,10 @@ module _ (arguments : TemplateArguments) (own : RunArguments) (list : List Metri
     module _ (item : Metric) (number : ℕ) (is_number : number ≡ i) (is_item : item ≡ get_or list i item) (first : Metric) (rest : List Metric) (is_list : list ≡ first ∷ rest)
         (refusal : ManifestError) (refused : bound_metric arguments own 0 first ≡ Err refusal) where
       pub at_first : item ≡ first
-      at_first = is_item ∙ ap (λ place. get_or list place item) (stays first rest is_list refusal refused) ∙ ap (λ metrics. get_or metrics 0 item) is_list
+      at_first = is_item ∙ ap (λ index. get_or list index item) (stays first rest is_list refusal refused) ∙ ap (λ metrics. get_or metrics 0 item) is_list
 
       pub refused_item : bound_metric arguments own number item ≡ Err refusal
-      refused_item = ap (λ place. bound_metric arguments own place item) (is_number ∙ stays first rest is_list refusal refused) ∙ ap (bound_metric arguments own 0) at_first ∙ refused
+      refused_item = ap (λ index. bound_metric arguments own index item) (is_number ∙ stays first rest is_list refusal refused) ∙ ap (bound_metric arguments own 0) at_first ∙ refused
 
     -- a metric that is bound was no refused first one
     pub bound_first : (shortens : Bool) (item : Metric) (number : ℕ) (made : BoundMetric) → number ≡ i → item ≡ get_or list i item → kept_bound arguments own number shortens item ≡ Ok made

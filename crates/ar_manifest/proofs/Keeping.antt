@@ -4,7 +4,7 @@ use Rattle.std.specs.Prelude.{nat_le, ◌&&◌, if◌then◌else◌}
 use Rattle.std.specs.Char.{is_ascii_digit}
 use Rattle.std.specs.List.{list_all}
 use Rattle.std.proofs.lemmas.List.{length-map, map-append}
-use Rattle.ar_value.specs.Answer.{◌>>=◌, Gives, Unless, each_behind}
+use Rattle.ar_value.specs.Answer.{◌>>=◌, Gives, Unless, each_after}
 use Rattle.ar_value.proofs.Steps.{refuses_first, refuses_same}
 use Rattle.ar_value.specs.Limits.{most_text_bytes}
 use Rattle.ar_json.specs.Members.{unless_empty}
@@ -104,23 +104,23 @@ module _ (arguments : TemplateArguments) (own : RunArguments) (i : ℕ) (shorten
 module _ (arguments : TemplateArguments) (own : RunArguments) (shortens : Bool) where
   -- metrics that are bound one after another, their conditions shortened or whole
   each_kept : (earlier : List BoundMetric) (items : List Metric)
-      → each_behind (next_kept arguments own shortens) (map (kept_metric shortens) earlier) items
-      ≡ (each_behind (next_bound arguments own) earlier items >>= λ metrics. Ok (map (kept_metric shortens) metrics))
-  unfolding each_behind
+      → each_after (next_kept arguments own shortens) (map (kept_metric shortens) earlier) items
+      ≡ (each_after (next_bound arguments own) earlier items >>= λ metrics. Ok (map (kept_metric shortens) metrics))
+  unfolding each_after
   each_kept earlier [] = refl
   each_kept earlier (item ∷ items) =
-      ap (λ n. (bound_metric arguments own n item >>= λ bound. Ok (kept_metric shortens bound)) >>= behind) (length-map earlier (kept_metric shortens))
+      ap (λ n. (bound_metric arguments own n item >>= λ bound. Ok (kept_metric shortens bound)) >>= later) (length-map earlier (kept_metric shortens))
       ∙ by_answer (bound_metric arguments own (length earlier) item) (λ made. each_kept (earlier ++ made ∷ []) items)
     where
-      behind : BoundMetric → Result (List BoundMetric) ManifestError
-      behind made = each_behind (next_kept arguments own shortens) (map (kept_metric shortens) earlier ++ made ∷ []) items
+      later : BoundMetric → Result (List BoundMetric) ManifestError
+      later made = each_after (next_kept arguments own shortens) (map (kept_metric shortens) earlier ++ made ∷ []) items
 
       by_answer : (answer : Result BoundMetric ManifestError)
-          → ((made : BoundMetric) → each_behind (next_kept arguments own shortens) (map (kept_metric shortens) (earlier ++ made ∷ [])) items
-          ≡ (each_behind (next_bound arguments own) (earlier ++ made ∷ []) items >>= λ metrics. Ok (map (kept_metric shortens) metrics)))
-          → ((answer >>= λ bound. Ok (kept_metric shortens bound)) >>= behind)
-          ≡ ((answer >>= λ made. each_behind (next_bound arguments own) (earlier ++ made ∷ []) items) >>= λ metrics. Ok (map (kept_metric shortens) metrics))
-      by_answer (Ok made) same = ap (λ before. each_behind (next_kept arguments own shortens) before items) (sym (map-append (kept_metric shortens) earlier (made ∷ []))) ∙ same made
+          → ((made : BoundMetric) → each_after (next_kept arguments own shortens) (map (kept_metric shortens) (earlier ++ made ∷ [])) items
+          ≡ (each_after (next_bound arguments own) (earlier ++ made ∷ []) items >>= λ metrics. Ok (map (kept_metric shortens) metrics)))
+          → ((answer >>= λ bound. Ok (kept_metric shortens bound)) >>= later)
+          ≡ ((answer >>= λ made. each_after (next_bound arguments own) (earlier ++ made ∷ []) items) >>= λ metrics. Ok (map (kept_metric shortens) metrics))
+      by_answer (Ok made) same = ap (λ before. each_after (next_kept arguments own shortens) before items) (sym (map-append (kept_metric shortens) earlier (made ∷ []))) ∙ same made
       by_answer (Err refusal) same = refl
 
 -- metrics that are whole are as they are
@@ -129,14 +129,14 @@ all_whole [] = refl
 all_whole (metric ∷ metrics) = ap (λ (rest : List BoundMetric). metric ∷ rest) (all_whole metrics)
 
 module _ (template : Template) (own : RunArguments) where
-  pub bound_whole : each_behind (next_kept template.arguments own false) [] template.metrics ≡ bound_of template own
+  pub bound_whole : each_after (next_kept template.arguments own false) [] template.metrics ≡ bound_of template own
   unfolding bound_of
-  bound_whole = each_kept template.arguments own false [] template.metrics ∙ by_answer (each_behind (next_bound template.arguments own) [] template.metrics)
+  bound_whole = each_kept template.arguments own false [] template.metrics ∙ by_answer (each_after (next_bound template.arguments own) [] template.metrics)
     where
       by_answer : (answer : Result (List BoundMetric) ManifestError) → (answer >>= λ metrics. Ok (map (kept_metric false) metrics)) ≡ answer
       by_answer (Ok metrics) = ap (λ (all : List BoundMetric). Ok all) (all_whole metrics)
       by_answer (Err refusal) = refl
 
-  pub bound_shortened : each_behind (next_kept template.arguments own true) [] template.metrics ≡ shortened_of template own
+  pub bound_shortened : each_after (next_kept template.arguments own true) [] template.metrics ≡ shortened_of template own
   unfolding bound_of shortened_of
   bound_shortened = each_kept template.arguments own true [] template.metrics

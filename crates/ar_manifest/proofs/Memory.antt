@@ -4,7 +4,7 @@ use Rattle.std.specs.Prelude.{◌↔◌, ◌&&◌, codes, option_and_then, is_no
 use Rattle.std.specs.List.{list_any}
 use Rattle.std.specs.Option.{option_or}
 use Rattle.serde_json.specs.Data.{Data, null, boolean, number, string, array, object}
-use Rattle.ar_value.specs.Answer.{◌>>=◌, Gives, Unless, each_behind, holds_or, there_or}
+use Rattle.ar_value.specs.Answer.{◌>>=◌, Gives, Unless, each_after, holds_or, there_or}
 use Rattle.ar_value.specs.Limits.{most_metrics}
 use Rattle.ar_manifest.specs.Refusals.{is_memory}
 use Rattle.ar_manifest.specs.Arguments.{value_of}
@@ -49,8 +49,8 @@ judges_holds : (refusal : ManifestError) (fact : Bool) → IsOfPart refusal → 
 judges_holds refusal false is = is
 judges_holds refusal true is = tt
 
-judges_each : {A B : Type 0} (step : List B → A → Result B ManifestError) → ((earlier : List B) (item : A) → Judges (step earlier item)) → (earlier : List B) (items : List A) → Judges (each_behind step earlier items)
-unfolding each_behind
+judges_each : {A B : Type 0} (step : List B → A → Result B ManifestError) → ((earlier : List B) (item : A) → Judges (step earlier item)) → (earlier : List B) (items : List A) → Judges (each_after step earlier items)
+unfolding each_after
 judges_each step step-is earlier [] = tt
 judges_each step step-is earlier (item ∷ items) = judges_then (step earlier item) _ (step-is earlier item) (λ made. judges_each step step-is (earlier ++ made ∷ []) items)
 
@@ -144,9 +144,9 @@ abbrev spec_metrics : Data → Option Data
 spec_metrics d = member_of_member (codes "spec") (codes "metrics") d
 
 -- a template, once its metrics are counted
-abbrev behind_items : Data → List ℕ → TemplateArguments → List Data → Result Template ManifestError
-behind_items d name arguments items = do
-  metrics ← each_behind metric_of [] items
+abbrev after_items : Data → List ℕ → TemplateArguments → List Data → Result Template ManifestError
+after_items d name arguments items = do
+  metrics ← each_after metric_of [] items
   marked ← with_dry_run (member_of_member (codes "spec") (codes "dryRun") d) metrics
   Ok (record { name = name; arguments = arguments; metrics = marked })
 
@@ -156,19 +156,19 @@ module _ (refusal : ManifestError) (other : IsOfPart refusal → ⊥) where
 
   module _ (d : Data) where
     -- after the number of metrics only parts are refused
-    behind_judges : (name : List ℕ) (arguments : TemplateArguments) (items : List Data) → Judges (behind_items d name arguments items)
-    behind_judges name arguments items =
-        judges_then (each_behind metric_of [] items) _ (judges_each metric_of metric_judges [] items) (λ metrics.
+    after_judges : (name : List ℕ) (arguments : TemplateArguments) (items : List Data) → Judges (after_items d name arguments items)
+    after_judges name arguments items =
+        judges_then (each_after metric_of [] items) _ (judges_each metric_of metric_judges [] items) (λ metrics.
         judges_then (with_dry_run (member_of_member (codes "spec") (codes "dryRun") d) metrics) _ (dry_run_judges (member_of_member (codes "spec") (codes "dryRun") d) metrics) (λ marked. tt))
 
     by_arguments : (name : List ℕ) (found : Result TemplateArguments ManifestError) → Judges found
-        → (found >>= λ arguments. counted_metrics (spec_metrics d) >>= behind_items d name arguments) ≡ Err refusal
+        → (found >>= λ arguments. counted_metrics (spec_metrics d) >>= after_items d name arguments) ≡ Err refusal
         → counted_metrics (spec_metrics d) ≡ Err refusal
-    by_arguments name (Ok arguments) judges e = of_first refusal (counted_metrics (spec_metrics d)) (behind_items d name arguments) (λ items. never (behind_items d name arguments items) (behind_judges name arguments items)) e
+    by_arguments name (Ok arguments) judges e = of_first refusal (counted_metrics (spec_metrics d)) (after_items d name arguments) (λ items. never (after_items d name arguments items) (after_judges name arguments items)) e
     by_arguments name (Err fault) judges e = let same : fault ≡ refusal = cc in absurd (other (rw same at judges))
 
     by_head : (head : Result (List ℕ) ManifestError)
-        → (head >>= λ name. arguments_of (spec_arguments d) >>= λ arguments. counted_metrics (spec_metrics d) >>= behind_items d name arguments) ≡ Err refusal
+        → (head >>= λ name. arguments_of (spec_arguments d) >>= λ arguments. counted_metrics (spec_metrics d) >>= after_items d name arguments) ≡ Err refusal
         → (head >>= λ name. counted_metrics (spec_metrics d)) ≡ Err refusal
     by_head (Ok name) e = by_arguments name (arguments_of (spec_arguments d)) (arguments_judge (spec_arguments d)) e
     by_head (Err fault) e = let same : fault ≡ refusal = cc in ap (λ refused. Err refused) same
@@ -252,7 +252,7 @@ module _ (arguments : TemplateArguments) (own : RunArguments) (i : ℕ) where
   filled_judges (unclosed before) = tt
   filled_judges (reference before between parts) =
       judges_then (referred_value arguments own i between) _ (value_judges between) (λ value.
-      judges_then (filled arguments own i parts) _ (filled_judges parts) (λ behind. tt))
+      judges_then (filled arguments own i parts) _ (filled_judges parts) (λ later. tt))
 
   text_judges : (text : List ℕ) → Judges (bound_text arguments own i text)
   unfolding bound_text

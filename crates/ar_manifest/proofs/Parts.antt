@@ -2,7 +2,7 @@
 use Rattle.std.proofs.Common.{◌≡◌, ℕ, Bool, true, false, List, [], Option, Result, Ok, Err, refl, sym, ◌∙◌, ap}
 use Rattle.std.specs.Prelude.{codes, unwrap_or}
 use Rattle.serde_json.specs.Data.{Data}
-use Rattle.ar_value.specs.Answer.{◌>>=◌, Unless, each_behind}
+use Rattle.ar_value.specs.Answer.{◌>>=◌, Unless, each_after}
 use Rattle.ar_value.proofs.Steps.{refuses_first}
 use Rattle.ar_json.specs.Members.{member, member_of_member}
 use Rattle.ar_manifest.specs.Binding.{RunArguments}
@@ -56,14 +56,14 @@ module _ (d : Data) where
   with_arguments name = arguments_of (member_of_member (codes "spec") (codes "args") d) >>= with_metrics name
 
   by_arguments : (name : List ℕ) (arguments : Result TemplateArguments ManifestError)
-      → (arguments >>= λ made. counted_of d >>= λ items. each_behind metric_of [] items >>= λ metrics. with_dry_run (member_of_member (codes "spec") (codes "dryRun") d) metrics >>= λ marked. Ok (template_with name made marked))
+      → (arguments >>= λ made. counted_of d >>= λ items. each_after metric_of [] items >>= λ metrics. with_dry_run (member_of_member (codes "spec") (codes "dryRun") d) metrics >>= λ marked. Ok (template_with name made marked))
       ≡ (arguments >>= with_metrics name)
   by_arguments name (Err e) = refl
   by_arguments name (Ok made) =
-      by_items (each_behind metric_of []) (with_dry_run (member_of_member (codes "spec") (codes "dryRun") d)) (λ marked. Ok (template_with name made marked)) (counted_of d)
+      by_items (each_after metric_of []) (with_dry_run (member_of_member (codes "spec") (codes "dryRun") d)) (λ marked. Ok (template_with name made marked)) (counted_of d)
 
   by_head : (head : Result (List ℕ) ManifestError)
-      → (head >>= λ name. arguments_of (member_of_member (codes "spec") (codes "args") d) >>= λ made. counted_of d >>= λ items. each_behind metric_of [] items
+      → (head >>= λ name. arguments_of (member_of_member (codes "spec") (codes "args") d) >>= λ made. counted_of d >>= λ items. each_after metric_of [] items
       >>= λ metrics. with_dry_run (member_of_member (codes "spec") (codes "dryRun") d) metrics >>= λ marked. Ok (template_with name made marked))
       ≡ (head >>= with_arguments)
   by_head (Err e) = refl
@@ -76,25 +76,25 @@ module _ (d : Data) where
   pub head_refused : (refusal : ManifestError) → head_of d ≡ Err refusal → template_of d ≡ Err refusal
   head_refused refusal refused = template_of-parts ∙ ap (λ head. head >>= with_arguments) refused
 
-  behind_head : (name : List ℕ) → head_of d ≡ Ok name → with_arguments name ≡ template_of d
-  behind_head name named = sym (template_of-parts ∙ ap (λ head. head >>= with_arguments) named)
+  after_head : (name : List ℕ) → head_of d ≡ Ok name → with_arguments name ≡ template_of d
+  after_head name named = sym (template_of-parts ∙ ap (λ head. head >>= with_arguments) named)
 
   pub arguments_refused : (name : List ℕ) → head_of d ≡ Ok name → (refusal : ManifestError)
       → Unless (is_memory refusal) (arguments_of (member_of_member (codes "spec") (codes "args") d) ≡ Err refusal) → Unless (is_memory refusal) (template_of d ≡ Err refusal)
-  arguments_refused name named refusal refused = refuses_first (is_memory refusal) refusal (arguments_of (member_of_member (codes "spec") (codes "args") d)) (with_metrics name) (template_of d) refused (behind_head name named)
+  arguments_refused name named refusal refused = refuses_first (is_memory refusal) refusal (arguments_of (member_of_member (codes "spec") (codes "args") d)) (with_metrics name) (template_of d) refused (after_head name named)
 
-  behind_arguments : (name : List ℕ) → head_of d ≡ Ok name → (arguments : TemplateArguments) → arguments_of (member_of_member (codes "spec") (codes "args") d) ≡ Ok arguments
+  after_arguments : (name : List ℕ) → head_of d ≡ Ok name → (arguments : TemplateArguments) → arguments_of (member_of_member (codes "spec") (codes "args") d) ≡ Ok arguments
       → with_metrics name arguments ≡ template_of d
-  behind_arguments name named arguments made = sym (ap (λ answer. answer >>= with_metrics name) made) ∙ behind_head name named
+  after_arguments name named arguments made = sym (ap (λ answer. answer >>= with_metrics name) made) ∙ after_head name named
 
   pub metrics_refused : (name : List ℕ) → head_of d ≡ Ok name → (arguments : TemplateArguments) → arguments_of (member_of_member (codes "spec") (codes "args") d) ≡ Ok arguments
       → (refusal : ManifestError) → Unless (is_memory refusal) (marked_metrics d ≡ Err refusal) → Unless (is_memory refusal) (template_of d ≡ Err refusal)
-  metrics_refused name named arguments made refusal refused = refuses_first (is_memory refusal) refusal (marked_metrics d) (λ metrics. Ok (template_with name arguments metrics)) (template_of d) refused (behind_arguments name named arguments made)
+  metrics_refused name named arguments made refusal refused = refuses_first (is_memory refusal) refusal (marked_metrics d) (λ metrics. Ok (template_with name arguments metrics)) (template_of d) refused (after_arguments name named arguments made)
 
   pub template_made : (name : List ℕ) → head_of d ≡ Ok name → (arguments : TemplateArguments) → arguments_of (member_of_member (codes "spec") (codes "args") d) ≡ Ok arguments
       → (metrics : List Metric) → marked_metrics d ≡ Ok metrics → template_of d ≡ Ok (template_with name arguments metrics)
   template_made name named arguments made metrics marked =
-      sym (behind_arguments name named arguments made) ∙ ap (λ (answer : Result (List Metric) ManifestError). answer >>= λ found. Ok (template_with name arguments found)) marked
+      sym (after_arguments name named arguments made) ∙ ap (λ (answer : Result (List Metric) ManifestError). answer >>= λ found. Ok (template_with name arguments found)) marked
 
   pub counted_refused : (name : List ℕ) → head_of d ≡ Ok name → (refusal : ManifestError) → first_counted d ≡ Err refusal → counted_of d ≡ Err refusal
   counted_refused name named refusal refused = sym (ap (λ head. head >>= λ found. counted_of d) named) ∙ refused
@@ -129,17 +129,17 @@ module _ (i : ℕ) (d : Data) where
   pub first_limits_refused : (refusal : ManifestError) → Unless (is_memory refusal) (first_limits ≡ Err refusal) → Unless (is_memory refusal) (metric_limits i d ≡ Err refusal)
   first_limits_refused refusal refused = refuses_first (is_memory refusal) refusal first_limits with_others (metric_limits i d) refused (sym metric_limits-parts)
 
-  behind_first : (both : Option Limit × Option Limit) → first_limits ≡ Ok both → with_others both ≡ metric_limits i d
-  behind_first both made = sym (metric_limits-parts ∙ ap (λ answer. answer >>= with_others) made)
+  after_first : (both : Option Limit × Option Limit) → first_limits ≡ Ok both → with_others both ≡ metric_limits i d
+  after_first both made = sym (metric_limits-parts ∙ ap (λ answer. answer >>= with_others) made)
 
   pub other_limits_refused : (both : Option Limit × Option Limit) → first_limits ≡ Ok both → (refusal : ManifestError)
       → Unless (is_memory refusal) (other_limits ≡ Err refusal) → Unless (is_memory refusal) (metric_limits i d ≡ Err refusal)
-  other_limits_refused both made refusal refused = refuses_first (is_memory refusal) refusal other_limits (λ others. Ok (limits_with both others)) (metric_limits i d) refused (behind_first both made)
+  other_limits_refused both made refusal refused = refuses_first (is_memory refusal) refusal other_limits (λ others. Ok (limits_with both others)) (metric_limits i d) refused (after_first both made)
 
   pub limits_made : (both : Option Limit × Option Limit) → first_limits ≡ Ok both → (others : Option Limit × Option Limit) → other_limits ≡ Ok others
       → metric_limits i d ≡ Ok (limits_with both others)
   limits_made both made others found =
-      sym (behind_first both made) ∙ ap (λ (answer : Result (Option Limit × Option Limit) ManifestError). answer >>= λ (others : Option Limit × Option Limit). Ok (limits_with both others)) found
+      sym (after_first both made) ∙ ap (λ (answer : Result (Option Limit × Option Limit) ManifestError). answer >>= λ (others : Option Limit × Option Limit). Ok (limits_with both others)) found
 
 -- ---- a bound metric
 
@@ -178,12 +178,12 @@ module _ (arguments : TemplateArguments) (own : RunArguments) (i : ℕ) (metric 
   limits_of failure inconclusive error effective =
       record { failure = unwrap_or failure 0; inconclusive = unwrap_or inconclusive 0; consecutive_error = unwrap_or error 4; count = effective }
 
-  behind_conditions : (conditions : Option (List ℕ) × Option (List ℕ))
+  after_conditions : (conditions : Option (List ℕ) × Option (List ℕ))
       → (bound_limit arguments own i metric.limits.count >>= λ count. bound_limit arguments own i metric.limits.failure >>= λ failure. bound_limit arguments own i metric.limits.inconclusive
       >>= λ inconclusive. bound_limit arguments own i metric.limits.consecutive_error >>= λ error. effective_count i metric.has_interval count
       >>= λ effective. Ok (bound_with conditions (limits_of failure inconclusive error effective)))
       ≡ with_limits conditions
-  behind_conditions conditions =
+  after_conditions conditions =
       by_limits_bound limits_of (effective_count i metric.has_interval) (λ limits. Ok (bound_with conditions limits)) (bound_limit arguments own i metric.limits.count) (bound_limit arguments own i metric.limits.failure)
       (bound_limit arguments own i metric.limits.inconclusive) (bound_limit arguments own i metric.limits.consecutive_error)
 
@@ -192,7 +192,7 @@ module _ (arguments : TemplateArguments) (own : RunArguments) (i : ℕ) (metric 
       bound_limit arguments own i metric.limits.inconclusive >>= λ inconclusive. bound_limit arguments own i metric.limits.consecutive_error >>= λ error. effective_count i metric.has_interval count
       >>= λ effective. Ok (bound_with (pair_of x y) (limits_of failures inconclusive error effective)))
       ≡ ((success >>= λ x. failure >>= λ y. Ok (pair_of x y)) >>= with_limits)
-  by_conditions (Ok x) (Ok y) = behind_conditions (pair_of x y)
+  by_conditions (Ok x) (Ok y) = after_conditions (pair_of x y)
   by_conditions (Ok x) (Err e) = refl
   by_conditions (Err e) failure = refl
 
@@ -230,20 +230,20 @@ module _ (arguments : TemplateArguments) (own : RunArguments) (i : ℕ) (metric 
     kept_refused refusal refused = ap (λ answer. answer >>= λ bound. Ok (kept_metric shortens bound)) refused
 
     module _ (conditions : Option (List ℕ) × Option (List ℕ)) (are_bound : kept_conditions arguments own i shortens metric ≡ Ok conditions) where
-      behind_bound : with_limits conditions ≡ kept_bound arguments own i shortens metric
-      behind_bound = sym (kept_bound-parts ∙ ap (λ answer. answer >>= with_limits) are_bound)
+      after_bound : with_limits conditions ≡ kept_bound arguments own i shortens metric
+      after_bound = sym (kept_bound-parts ∙ ap (λ answer. answer >>= with_limits) are_bound)
 
       pub limits_refused : (refusal : ManifestError) → Unless (is_memory refusal) (bound_limits arguments own i metric ≡ Err refusal)
           → Unless (is_memory refusal) (kept_bound arguments own i shortens metric ≡ Err refusal)
       limits_refused refusal refused =
-          refuses_first (is_memory refusal) refusal (bound_limits arguments own i metric) (λ limits. Ok (bound_with conditions limits)) (kept_bound arguments own i shortens metric) refused behind_bound
+          refuses_first (is_memory refusal) refusal (bound_limits arguments own i metric) (λ limits. Ok (bound_with conditions limits)) (kept_bound arguments own i shortens metric) refused after_bound
 
       pub metric_made : (limits : BoundLimits) → bound_limits arguments own i metric ≡ Ok limits → kept_bound arguments own i shortens metric ≡ Ok (bound_with conditions limits)
-      metric_made limits made = sym behind_bound ∙ ap (λ (answer : Result BoundLimits ManifestError). answer >>= λ (found : BoundLimits). Ok (bound_with conditions found)) made
+      metric_made limits made = sym after_bound ∙ ap (λ (answer : Result BoundLimits ManifestError). answer >>= λ (found : BoundLimits). Ok (bound_with conditions found)) made
 
       -- a refusal after the conditions is one of the limits
       pub refused_by_limits : (refusal : ManifestError) → bound_metric arguments own i metric ≡ Err refusal → bound_limits arguments own i metric ≡ Err refusal
-      refused_by_limits refusal refused = by_answer (bound_limits arguments own i metric) (behind_bound ∙ kept_refused refusal refused)
+      refused_by_limits refusal refused = by_answer (bound_limits arguments own i metric) (after_bound ∙ kept_refused refusal refused)
         where
           by_answer : (answer : Result BoundLimits ManifestError) → (answer >>= λ limits. Ok (bound_with conditions limits)) ≡ Err refusal → answer ≡ Err refusal
           by_answer (Ok limits) e = cc

@@ -57,10 +57,10 @@ cut_trailing text (n ∷ lengths) left cuts =
     ∙ ap without_leading_spaces (trailing_space cuts.0 n cuts.2)
     ∙ ap (λ rest. without_leading_spaces (reverse rest)) (sym cuts.3)
 
-no_space_behind : (text : List ℕ) (length : Option ℕ) → FindsCharSuffix 32 text length → IfSome length (λ n. n ≡ 0) → (rest : List ℕ) → reverse text ≢ 32 ∷ rest
-no_space_behind text None lacks none rest e = lacks (reverse rest) (sym (reverse-reverse text) ∙ ap reverse e ∙ reverse-append (32 ∷ []) rest ∙ ap (λ space. reverse rest ++ space) (sym space_byte))
-no_space_behind text (Some n) at none rest e = absurd (omega (arith, at.0, none))
+no_space_after : (text : List ℕ) (length : Option ℕ) → FindsCharSuffix 32 text length → IfSome length (λ n. n ≡ 0) → (rest : List ℕ) → reverse text ≢ 32 ∷ rest
+no_space_after text None lacks none rest e = lacks (reverse rest) (sym (reverse-reverse text) ∙ ap reverse e ∙ reverse-append (32 ∷ []) rest ∙ ap (λ space. reverse rest ++ space) (sym space_byte))
+no_space_after text (Some n) at none rest e = absurd (omega (arith, at.0, none))
 
 pub trim_end_cuts : (text left : List ℕ) → IsTrimEndMatches (FindsCharSuffix 32) text left → left ≡ without_trailing_spaces text
 trim_end_cuts text left trims =
-    sym (ap reverse (cut_trailing text trims.0.0 left trims.0.1 ∙ no_leading (reverse left) (no_space_behind left trims.1.0 trims.1.1 trims.1.2)) ∙ reverse-reverse left)
+    sym (ap reverse (cut_trailing text trims.0.0 left trims.0.1 ∙ no_leading (reverse left) (no_space_after left trims.1.0 trims.1.1 trims.1.2)) ∙ reverse-reverse left)

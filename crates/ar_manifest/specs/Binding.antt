@@ -45,8 +45,8 @@ filled arguments own i (whole text) = Ok text
 filled arguments own i (unclosed before) = Err (OpenBraces i)
 filled arguments own i (reference before between parts) = do
   value ← referred_value arguments own i between
-  behind ← filled arguments own i parts
-  Ok (before ++ (value ++ behind))
+  later ← filled arguments own i parts
+  Ok (before ++ (value ++ later))
 
 -- a text of metric i, bound
 unfoldable pub bound_text : TemplateArguments → RunArguments → ℕ → Text → Result Text ManifestError

@@ -4,7 +4,7 @@ use Rattle.std.specs.Char.{is_ascii_digit}
 use Rattle.std.specs.List.{list_all}
 use Rattle.std.specs.Str.Parse.{digits_value}
 use Rattle.ar_value.specs.Terms.{Text}
-use Rattle.ar_value.specs.Answer.{◌>>=◌, Refuses, each_behind}
+use Rattle.ar_value.specs.Answer.{◌>>=◌, Refuses, each_after}
 use Rattle.ar_manifest.specs.Binding.{RunArguments, bound_text}
 use Rattle.ar_json.specs.Members.{unless_empty}
 use Rattle.ar_manifest.specs.Template.{TemplateArguments}
@@ -83,7 +83,7 @@ next_bound arguments own earlier metric = bound_metric arguments own (length ear
 
 -- the metrics of a template, bound one after another
 unfoldable pub bound_of : Template → RunArguments → Result (List BoundMetric) ManifestError
-bound_of template own = each_behind (next_bound template.arguments own) [] template.metrics
+bound_of template own = each_after (next_bound template.arguments own) [] template.metrics
 
 -- a limit that is missing or a number, which takes no memory to bind
 abbrev pub IsNumber : Option Limit → Type 0

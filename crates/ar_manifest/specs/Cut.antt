@@ -16,21 +16,21 @@ pub data Parts : Type 0 where
 
 -- a sign is nowhere in a text
 abbrev pub Lacks : Text → Text → Type 0
-Lacks sign text = (before behind : Text) → text ≢ before ++ (sign ++ behind)
+Lacks sign text = (before after : Text) → text ≢ before ++ (sign ++ after)
 
 -- what comes before the first occurrence of a sign in a text, and what after it
-pub record CutsAtFirst (sign text before behind : Text) : Type 0 where
-  pub parts : text ≡ before ++ (sign ++ behind)
+pub record CutsAtFirst (sign text before after : Text) : Type 0 where
+  pub parts : text ≡ before ++ (sign ++ after)
   pub first : (earlier later : Text) → text ≡ earlier ++ (sign ++ later) → length before ≤ length earlier
 
 -- the parts are those of the text
 abbrev pub AreParts : Text → Parts → Type 0
 AreParts text (whole all) = (all ≡ text) × Lacks (codes "{{") text
 AreParts text (unclosed before) =
-    (behind : Text) × CutsAtFirst (codes "{{") text before behind × Lacks (codes "}}") behind
+    (opened : Text) × CutsAtFirst (codes "{{") text before opened × Lacks (codes "}}") opened
 AreParts text (reference before between parts) =
-    (behind : Text) × (after : Text) × CutsAtFirst (codes "{{") text before behind
-    × CutsAtFirst (codes "}}") behind between after × AreParts after parts
+    (opened : Text) × (after : Text) × CutsAtFirst (codes "{{") text before opened
+    × CutsAtFirst (codes "}}") opened between after × AreParts after parts
 
 -- ---- computed
 

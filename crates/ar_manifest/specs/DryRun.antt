@@ -7,7 +7,7 @@ use Rattle.std.specs.List.{list_any}
 use Rattle.std.specs.Str.{bytes_eq}
 use Rattle.ar_value.specs.Terms.{Text}
 use Rattle.serde_json.specs.Data.{Data}
-use Rattle.ar_value.specs.Answer.{◌>>=◌, there_or, holds_or, each_behind}
+use Rattle.ar_value.specs.Answer.{◌>>=◌, there_or, holds_or, each_after}
 use Rattle.ar_json.specs.Members.{list_of, text_member, unless_empty}
 use Rattle.ar_manifest.specs.declared.error.ManifestError.{ManifestError}
 use Rattle.ar_manifest.specs.declared.error.ManifestError.TheVariants.{BadDryRun, UnknownDryRun}
@@ -27,7 +27,7 @@ dry_name metrics earlier d = do
 -- the names are a list, if they are there
 abbrev pub dry_names : List Metric → Option Data → Result (List Text) ManifestError
 dry_names metrics None = Ok []
-dry_names metrics (Some d) = there_or (BadDryRun 0) (list_of d) >>= each_behind (dry_name metrics) []
+dry_names metrics (Some d) = there_or (BadDryRun 0) (list_of d) >>= each_after (dry_name metrics) []
 
 -- the metric, dry where one of the names is its own or means all
 abbrev pub with_dry : List Text → Metric → Metric

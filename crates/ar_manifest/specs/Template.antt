@@ -5,7 +5,7 @@ use Rattle.std.specs.Str.{bytes_eq}
 use Rattle.ar_value.specs.Terms.{Text}
 use Rattle.serde_json.specs.Data.{Data, number, string}
 use Rattle.serde_json.specs.Find.{as_str, as_u64}
-use Rattle.ar_value.specs.Answer.{◌>>=◌, there_or, holds_or, each_behind}
+use Rattle.ar_value.specs.Answer.{◌>>=◌, there_or, holds_or, each_after}
 use Rattle.ar_value.specs.Limits.{most_metrics}
 use Rattle.ar_manifest.specs.Arguments.{value_of}
 use Rattle.ar_manifest.specs.DryRun.{with_dry_run}
@@ -33,7 +33,7 @@ argument_of earlier d = do
 -- the arguments are a list, if they are there
 abbrev pub arguments_of : Option Data → Result TemplateArguments ManifestError
 arguments_of None = Ok []
-arguments_of (Some d) = there_or (BadArgs 0) (list_of d) >>= each_behind argument_of []
+arguments_of (Some d) = there_or (BadArgs 0) (list_of d) >>= each_after argument_of []
 
 -- a number as a limit: whether it is in range is checked when the template is bound
 abbrev pub number_limit : Option ℕ → Limit
@@ -140,7 +140,7 @@ template_of d = do
   name ← head_of d
   arguments ← arguments_of (member_of_member (codes "spec") (codes "args") d)
   items ← counted_metrics (member_of_member (codes "spec") (codes "metrics") d)
-  metrics ← each_behind metric_of [] items
+  metrics ← each_after metric_of [] items
   marked ← with_dry_run (member_of_member (codes "spec") (codes "dryRun") d) metrics
   Ok (record { name = name; arguments = arguments; metrics = marked })
 

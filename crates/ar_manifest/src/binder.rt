@@ -1,7 +1,7 @@
 //! Binding the metrics of a template.
 
 ghost use Rattle.std.specs.Prelude.{◌≡◌, [], IfOk, None, Ok};
-ghost use Rattle.ar_value.specs.Answer.{Gives, Refuses, each_behind};
+ghost use Rattle.ar_value.specs.Answer.{Gives, Refuses, each_after};
 ghost use Rattle.ar_manifest.specs.Refusals.{is_memory};
 ghost use Rattle.ar_manifest.specs.Private.BoundParts.{bound_limits, limit_in};
 ghost use Rattle.ar_manifest.specs.Private.Within.{condition_within, kept_bound, kept_condition, kept_conditions, most_kept, next_kept};
@@ -180,7 +180,7 @@ fn metrics(
     shortens: bool,
 ) -> Result<Bound, ManifestError>
     ensures exact { Gives is_memory (λ bound. bound) result
-        (each_behind (next_kept arguments.now own.now shortens) [] list.now) }
+        (each_after (next_kept arguments.now own.now shortens) [] list.now) }
     ensures first { RefusesFirst arguments.now own.now list.now result }
 {
     let mut metrics: Vec<BoundMetric> = Vec::new(alloc);

@@ -125,8 +125,8 @@ impl Scope<'_> {
     {
         let mut bound = Some(Text::from(String::new(alloc)));
         let mut rest = text;
-        while let Some((before, behind)) = cut_at(rest, "{{") {
-            let Some((between, after)) = cut_at(behind, "}}") else {
+        while let Some((before, opened)) = cut_at(rest, "{{") {
+            let Some((between, after)) = cut_at(opened, "}}") else {
                 return Err(ManifestError::OpenBraces(self.metric));
             };
             let value = self.value(between)?;

@@ -3,7 +3,7 @@
 ghost use Rattle.std.specs.Prelude.{◌≡◌, [], false, map, option_map};
 ghost use Rattle.std.specs.List.{list_any};
 ghost use Rattle.serde_json.specs.View.{view};
-ghost use Rattle.ar_value.specs.Answer.{Gives, each_behind, there_or};
+ghost use Rattle.ar_value.specs.Answer.{Gives, each_after, there_or};
 ghost use Rattle.ar_manifest.specs.DryRun.{dry_name, dry_names, names_metric, with_dry, with_dry_run};
 ghost use Rattle.ar_json.specs.Members.{list_of};
 ghost use Rattle.ar_manifest.specs.Refusals.{is_memory};
@@ -59,7 +59,7 @@ fn listed_names<'a>(
     metrics: &[Metric],
 ) -> Result<Vec<&'a str>, ManifestError>
     ensures { Gives is_memory (λ names. map (λ name. name.now) names.items) result
-        (each_behind (dry_name metrics.now) [] (map (λ json. view json) list.now)) }
+        (each_after (dry_name metrics.now) [] (map (λ json. view json) list.now)) }
 {
     let mut names = Vec::new(alloc);
     for json in list {

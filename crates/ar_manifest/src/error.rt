@@ -117,7 +117,7 @@ impl ManifestError {
             ManifestError::BadLimit(_) =>
                 ": BadLimit: expected a limit of 0 to 1000000000 in one to ten digits",
             ManifestError::IntervalMissing(_) =>
-                ": IntervalMissing: expected an `interval` beside a `count` above 1",
+                ": IntervalMissing: expected an `interval` with a `count` above 1",
             ManifestError::OutOfMemory => "out of memory",
         }
     }

@@ -26,15 +26,15 @@ pub fn plain_text_stays()
 /// A text with one reference is bound to what comes before it, its value, and what comes after.
 pub fn one_reference_gives_way()
     ensures { (arguments : TemplateArguments) (own : RunArguments) (i : ℕ)
-        (text before behind between after value : List ℕ)
-        → CutsAtFirst (codes "{{") text before behind → CutsAtFirst (codes "}}") behind between after
+        (text before opened between after value : List ℕ)
+        → CutsAtFirst (codes "{{") text before opened → CutsAtFirst (codes "}}") opened between after
         → Lacks (codes "{{") after
         → referred_value arguments own i between ≡ Ok value
         → bound_text arguments own i text ≡ Ok (before ++ (value ++ after)) }
 {}
 
 /// A run's own value of an argument takes precedence over the template's.
-pub fn own_value_goes_first()
+pub fn own_value_is_first()
     ensures { (arguments : TemplateArguments) (own : RunArguments) (i : ℕ) (between name value : List ℕ)
         → argument_name (trimmed between) ≡ Some name → value_of name arguments ≢ None → value_of name own ≡ Some value
         → referred_value arguments own i between ≡ Ok value }

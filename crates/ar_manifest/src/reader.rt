@@ -4,7 +4,7 @@ ghost use Rattle.std.specs.Prelude.{◌≡◌, [], if◌then◌else◌, Err, IfO
 ghost use Rattle.std.specs.List.{list_any};
 ghost use Rattle.serde_json.specs.Find.{as_u64};
 ghost use Rattle.serde_json.specs.View.{number_view, view};
-ghost use Rattle.ar_value.specs.Answer.{Gives, Refuses, each_behind};
+ghost use Rattle.ar_value.specs.Answer.{Gives, Refuses, each_after};
 ghost use Rattle.ar_manifest.specs.Refusals.{is_memory};
 ghost use Rattle.ar_manifest.specs.Arguments.{value_of};
 ghost use Rattle.ar_manifest.specs.Private.Early.{counted_of, first_counted};
@@ -190,7 +190,7 @@ fn refuse_if<A: Drop, E: Drop>(is_refused: bool, held: A, refusal: E) -> Result<
 /// The metrics of a JSON list.
 fn metrics(alloc: Global, list: &[Json]) -> Result<Vec<Metric>, ManifestError>
     ensures { Gives is_memory (λ made. made.items) result
-        (each_behind metric_of [] (map (λ json. view json) list.now)) }
+        (each_after metric_of [] (map (λ json. view json) list.now)) }
 {
     let mut metrics = Vec::new(alloc);
     for json in list {
@@ -261,7 +261,7 @@ fn argument(
 /// The arguments of a JSON list.
 fn listed_arguments(alloc: Global, list: &[Json]) -> Result<Arguments<Option<Text>>, ManifestError>
     ensures exact { Gives is_memory (λ arguments. arguments) result
-        (each_behind argument_of [] (map (λ json. view json) list.now)) }
+        (each_after argument_of [] (map (λ json. view json) list.now)) }
     ensures none { length list.now ≡ 0 → IsOk result }
 {
     let mut arguments = Arguments::new(alloc);

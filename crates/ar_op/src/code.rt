@@ -39,6 +39,7 @@ impl Code {
         Code { ops, texts, names }
     }
 
+    /// Its operations, each at its index.
     pub fn ops(&self) -> &[Op]
         ensures ops { result.now ≡ self.now.ops }
         // Code keeps its limits, and each number is inside its table.

@@ -115,8 +115,8 @@ last_mark (Number own ∷ items) last = last_mark items last
 last_mark (End ∷ items) last = numbers_mark items ∙ last
 
 -- after an end mark that is taken
-pub behind_mark : (items : List Item) → MarksLast (End ∷ items) → MarksLast items
-behind_mark items none = all_marks items none where
+pub after_mark : (items : List Item) → MarksLast (End ∷ items) → MarksLast items
+after_mark items none = all_marks items none where
   all_marks : (items : List Item) → numbers_of_items items ≡ [] → MarksLast items
   all_marks [] none = tt
   all_marks (Number own ∷ items) none = absurd cc

@@ -11,7 +11,7 @@ use Rattle.ar_queue.specs.declared.queue.Item.{Item}
 use Rattle.ar_queue.specs.declared.queue.Item.TheVariants.{Number, End}
 use Rattle.ar_queue.specs.declared.queue.View.{View}
 use Rattle.ar_bundle.proofs.HistoryLemmas.{times_by}
-use Rattle.ar_queue.proofs.Items.{all_below, behind_mark, below_next, below_of, first_mark, first_number, first_there, last_mark, last_number, marks_first, marks_push, none_queued, not_below, numbers_mark, numbers_push, rise_push, times_by_test}
+use Rattle.ar_queue.proofs.Items.{all_below, after_mark, below_next, below_of, first_mark, first_number, first_there, last_mark, last_number, marks_first, marks_push, none_queued, not_below, numbers_mark, numbers_push, rise_push, times_by_test}
 use Rattle.ar_queue.proofs.Sums.{all_marked_by, all_out_by, all_put_by, all_taken_by, feeds_none, feeds_one, is_live, is_spent, swap, within}
 
 -- ---- how often a number is among those taken
@@ -83,7 +83,7 @@ put_number events n at number v feeds no_marks next less items views room is the
             let sum : total (λ view. times_in other view.taken) (set views at w) + times_queued other (items ++ Number number ∷ []) ≡ once_below other (suc number) = omega arith in
             sum ∙ ap (once_below other) (sym put_next);
         put = omega arith;
-        rising = subst Rise (sym (numbers_push items number)) (rise_push (numbers_of_items items) number is.rising (all_below number items (λ other stands.
+        rising = subst Rise (sym (numbers_push items number)) (rise_push (numbers_of_items items) number is.rising (all_below number items (λ other is_there.
             below_of other number (let once : total (λ view. times_in other view.taken) views + times_queued other items ≡ once_below other number = is.once other ∙ ap (once_below other) (put ∙ sym next) in omega arith))));
         marks_last = last_number items number (omega arith);
         marks = omega arith;
@@ -163,7 +163,7 @@ take_number events at number v can items views is there =
     let few = is.put in
     let first = marks_first (Number number) items in
     let same_put : total (λ view. view.put) (set views at w) ≡ total (λ view. view.put) views = omega arith in
-    let below : number < total (λ view. view.put) views = below_of number (total (λ view. view.put) views) (let once = is.once number in let stands = first_there number items in omega arith) in (
+    let below : number < total (λ view. view.put) views = below_of number (total (λ view. view.put) views) (let once = is.once number in let is_there = first_there number items in omega arith) in (
       w,
       record {
         feeder = omega arith;
@@ -224,7 +224,7 @@ take_mark events at v can items views is there =
             sum ∙ ap (once_below other) (sym same_put);
         put = omega arith;
         rising = is.rising;
-        marks_last = behind_mark items is.marks_last;
+        marks_last = after_mark items is.marks_last;
         marks = omega arith;
         all_put = λ some. same_put ∙ all;
         ended = λ some. (same_put ∙ all, is.marks_last);

@@ -54,12 +54,12 @@ token_length (first ∷ rest) = suc (others first rest)
 
 -- ---- offsets
 
--- no character is on both sides of `place`
-abbrev pub is_place : (place : ℕ) → (text : List ℕ) → Bool
-is_place place text = place == length text || nat_lt place (length text) && not (is_inner (slice_index text place))
+-- no character is on both sides of `offset`
+abbrev pub is_offset : (offset : ℕ) → (text : List ℕ) → Bool
+is_offset offset text = offset == length text || nat_lt offset (length text) && not (is_inner (slice_index text offset))
 
-abbrev pub halves_at : (place : ℕ) → (text : List ℕ) → Option (List ℕ × List ℕ)
-halves_at place text = if is_place place text then Some (take place text, drop place text) else None
+abbrev pub halves_at : (offset : ℕ) → (text : List ℕ) → Option (List ℕ × List ℕ)
+halves_at offset text = if is_offset offset text then Some (take offset text, drop offset text) else None
 
 -- the token at a byte of a text, with what comes before it and what after it
 pub record TokenAt : Type 0 where
@@ -70,7 +70,7 @@ pub record TokenAt : Type 0 where
 abbrev pub found : (before token after : List ℕ) → TokenAt
 found before token after = record { before = before; token = token; after = after }
 
-unfoldable pub token_at : (place : ℕ) → (text : List ℕ) → Option TokenAt
-token_at place text =
+unfoldable pub token_at : (offset : ℕ) → (text : List ℕ) → Option TokenAt
+token_at offset text =
     option_and_then (λ parts. option_map (λ rest. found parts.0 rest.0 rest.1) (halves_at (token_length parts.1)
-    parts.1)) (halves_at place text)
+    parts.1)) (halves_at offset text)

@@ -10,8 +10,8 @@ pub fn names_stay_in_their_line()
     ensures { (name : List ℕ) → IsUtf8 name → All (λ character. moves character ≡ false) (chars (quoted name)) }
 {}
 
-/// A name that is shown whole ends where it seems to end: whatever comes after it, no other name and
-/// nothing else is shown so.
+/// A name that is shown whole ends where it seems to end: texts that begin with two such names are equal only where
+/// the names are, and what comes after them.
 #[tactic(auto, using(crate::proofs::Ended::names_end))]
 pub fn names_end_where_they_seem_to()
     ensures { (name other after more : List ℕ) → IsUtf8 name → IsUtf8 other

@@ -2,7 +2,7 @@
 
 ghost use Rattle.std.specs.Prelude.{◌≡◌, ◌≤◌, false, length, option_map};
 ghost use Rattle.std.specs.List.{prefix_len};
-ghost use Rattle.ar_quote.specs.Private.Runs.{goes_on};
+ghost use Rattle.ar_quote.specs.Private.Runs.{continues};
 ghost use Rattle.ar_quote.specs.Tokens.{halves_at, found, is_inner, is_of_number, is_of_word, is_pair, is_plain, is_quotation_mark, literal_length, others, token_at, token_length};
 
 // ---- tokens
@@ -41,8 +41,8 @@ enum Run {
     Character,
 }
 
-fn goes_on(run: Run, byte: u8) -> bool
-    ensures { result ≡ goes_on run byte }
+fn continues(run: Run, byte: u8) -> bool
+    ensures { result ≡ continues run byte }
 {
     match run {
         Run::Word => is_of_word(byte),
@@ -54,12 +54,12 @@ fn goes_on(run: Run, byte: u8) -> bool
 /// How many of the first bytes a token may continue with.
 #[tactic(auto, using(crate::proofs::TokenBytes::next_byte, crate::proofs::TokenBytes::other_byte, crate::proofs::TokenBytes::no_byte))]
 fn run_length(run: Run, bytes: &[u8]) -> usize
-    ensures exact { result ≡ prefix_len (goes_on run) bytes.now }
+    ensures exact { result ≡ prefix_len (continues run) bytes.now }
     ensures bound { result ≤ length bytes.now }
 {
-    for (place, byte) in bytes.iter().enumerate() {
-        if !goes_on(run, *byte) {
-            return place;
+    for (offset, byte) in bytes.iter().enumerate() {
+        if !continues(run, *byte) {
+            return offset;
         }
     }
     bytes.len()
@@ -79,9 +79,9 @@ fn literal_length(quote: u8, bytes: &[u8]) -> usize
     ensures bound { result ≤ length bytes.now }
 {
     let mut escaped = false;
-    for (place, byte) in bytes.iter().enumerate() {
+    for (offset, byte) in bytes.iter().enumerate() {
         if is_plain(escaped, *byte, quote) {
-            return place + 1;
+            return offset + 1;
         }
         escaped = is_plain(escaped, *byte, b'\\');
     }
@@ -143,19 +143,19 @@ pub struct TokenAt<'t> {
 
 /// The text on both sides of an offset.
 #[tactic(auto, using(crate::proofs::TokenBytes::cuts, crate::proofs::TokenBytes::cuts_not))]
-fn cut(text: &str, place: usize) -> Option<(&str, &str)>
-    ensures { option_map (λ parts. (parts.0.now, parts.1.now)) result ≡ halves_at place text.now }
+fn cut(text: &str, offset: usize) -> Option<(&str, &str)>
+    ensures { option_map (λ parts. (parts.0.now, parts.1.now)) result ≡ halves_at offset text.now }
 {
-    text.split_at_checked(place)
+    text.split_at_checked(offset)
 }
 
 /// The token at a byte of a text.
 #[tactic(auto, unfolding(crate::specs::Tokens::token_at))]
-pub fn token_at(text: &str, place: usize) -> Option<TokenAt<'_>>
+pub fn token_at(text: &str, offset: usize) -> Option<TokenAt<'_>>
     ensures { option_map (λ found_here. found found_here.before.now found_here.token.now found_here.after.now) result
-        ≡ token_at place text.now }
+        ≡ token_at offset text.now }
 {
-    let (before, rest) = cut(text, place)?;
+    let (before, rest) = cut(text, offset)?;
     let (token, after) = cut(rest, token_length(rest))?;
     Some(TokenAt {
         before,

@@ -21,15 +21,15 @@ use Rattle.ar_report.specs.Private.Entries.{AreFound, entry_lines}
 use Rattle.ar_report.specs.Report.{event_line, event_lines, finding_text, found_text, metric_line, metric_lines, run_line, run_text}
 
 -- what is left of a list that has an element at an index
-pub rest_at : {A : Type 0} (xs : List A) (place : ℕ) (x : A) → slice_get xs place ≡ Some x → drop place xs ≡ x ∷ drop (suc place) xs
-rest_at [] place x there = absurd cc
+pub rest_at : {A : Type 0} (xs : List A) (index : ℕ) (x : A) → slice_get xs index ≡ Some x → drop index xs ≡ x ∷ drop (suc index) xs
+rest_at [] index x there = absurd cc
 rest_at (first ∷ rest) zero x there = let same : first ≡ x = cc in ap (λ x. x ∷ rest) same
-rest_at (first ∷ rest) (suc place) x there = rest_at rest place x there
+rest_at (first ∷ rest) (suc index) x there = rest_at rest index x there
 
-pub none_left : {A : Type 0} (xs : List A) (place : ℕ) → length xs ≤ place → drop place xs ≡ []
-none_left [] place past = drop-nil place
+pub none_left : {A : Type 0} (xs : List A) (index : ℕ) → length xs ≤ index → drop index xs ≡ []
+none_left [] index past = drop-nil index
 none_left (first ∷ rest) zero past = absurd (omega arith)
-none_left (first ∷ rest) (suc place) past = none_left rest place (omega arith)
+none_left (first ∷ rest) (suc index) past = none_left rest index (omega arith)
 
 -- ---- findings
 
@@ -48,39 +48,39 @@ found_text_is bundle number entry said is read =
 
 -- ---- metrics
 
-pub next_metric : (metrics : List MetricPart) (limits : List Limits) (phases : List Phase) (others : List Counts) (place : ℕ) (metric : MetricPart) (phase : Phase) (counts : Counts) (written : List ℕ) (own : Limits) (total : List ℕ) → place < length metrics → metric ≡ slice_index_or metrics place metric → place < length limits → own ≡ slice_index_or limits place own → slice_get phases place ≡ Some phase → slice_get others place ≡ Some counts
-    → written ++ metric_lines (drop place metrics) (drop place limits) (drop place phases) (drop place others) ≡ total → (written ++ metric_line metric own phase counts) ++ metric_lines (drop (place + 1) metrics) (drop (place + 1) limits) (drop (place + 1) phases) (drop (place + 1) others) ≡ total
-next_metric metrics limits phases others place metric phase counts written own total inside read own_inside own_read phase_there counts_there so_far =
-    let there = slice_get_read metrics (length metrics) place metric refl inside read in
-    let own_there = slice_get_read limits (length limits) place own refl own_inside own_read in
-    let rest : metric_lines (drop place metrics) (drop place limits) (drop place phases) (drop place others) ≡ metric_line metric own phase counts ++ metric_lines (drop (suc place) metrics) (drop (suc place) limits) (drop (suc place) phases) (drop (suc place) others) =
-    rw (rest_at metrics place metric there, rest_at limits place own own_there, rest_at phases place phase phase_there, rest_at others place counts counts_there) refl in
-    let next : place + 1 ≡ suc place = omega arith in
+pub next_metric : (metrics : List MetricPart) (limits : List Limits) (phases : List Phase) (others : List Counts) (index : ℕ) (metric : MetricPart) (phase : Phase) (counts : Counts) (written : List ℕ) (own : Limits) (total : List ℕ) → index < length metrics → metric ≡ slice_index_or metrics index metric → index < length limits → own ≡ slice_index_or limits index own → slice_get phases index ≡ Some phase → slice_get others index ≡ Some counts
+    → written ++ metric_lines (drop index metrics) (drop index limits) (drop index phases) (drop index others) ≡ total → (written ++ metric_line metric own phase counts) ++ metric_lines (drop (index + 1) metrics) (drop (index + 1) limits) (drop (index + 1) phases) (drop (index + 1) others) ≡ total
+next_metric metrics limits phases others index metric phase counts written own total inside read own_inside own_read phase_there counts_there so_far =
+    let there = slice_get_read metrics (length metrics) index metric refl inside read in
+    let own_there = slice_get_read limits (length limits) index own refl own_inside own_read in
+    let rest : metric_lines (drop index metrics) (drop index limits) (drop index phases) (drop index others) ≡ metric_line metric own phase counts ++ metric_lines (drop (suc index) metrics) (drop (suc index) limits) (drop (suc index) phases) (drop (suc index) others) =
+    rw (rest_at metrics index metric there, rest_at limits index own own_there, rest_at phases index phase phase_there, rest_at others index counts counts_there) refl in
+    let next : index + 1 ≡ suc index = omega arith in
     subst (λ after. (written ++ metric_line metric own phase counts) ++ metric_lines (drop after metrics) (drop after limits) (drop after phases) (drop after others) ≡ total) (sym next)
-    (append_assoc written (metric_line metric own phase counts) (metric_lines (drop (suc place) metrics) (drop (suc place) limits) (drop (suc place) phases) (drop (suc place) others)) ∙ (ap (λ lines. written ++ lines) (sym rest) ∙ so_far))
+    (append_assoc written (metric_line metric own phase counts) (metric_lines (drop (suc index) metrics) (drop (suc index) limits) (drop (suc index) phases) (drop (suc index) others)) ∙ (ap (λ lines. written ++ lines) (sym rest) ∙ so_far))
 
-pub no_metric : (metrics : List MetricPart) (limits : List Limits) (phases : List Phase) (others : List Counts) (place : ℕ) (written total : List ℕ) → length metrics ≤ place → written ++ metric_lines (drop place metrics) (drop place limits) (drop place phases) (drop place others) ≡ total → written ≡ total
-no_metric metrics limits phases others place written total past so_far =
-    let none : metric_lines (drop place metrics) (drop place limits) (drop place phases) (drop place others) ≡ [] = rw (none_left metrics place past) refl in
+pub no_metric : (metrics : List MetricPart) (limits : List Limits) (phases : List Phase) (others : List Counts) (index : ℕ) (written total : List ℕ) → length metrics ≤ index → written ++ metric_lines (drop index metrics) (drop index limits) (drop index phases) (drop index others) ≡ total → written ≡ total
+no_metric metrics limits phases others index written total past so_far =
+    let none : metric_lines (drop index metrics) (drop index limits) (drop index phases) (drop index others) ≡ [] = rw (none_left metrics index past) refl in
     sym (append-nil written) ∙ (ap (λ lines. written ++ lines) (sym none) ∙ so_far)
 
 -- ---- events
 
-pub next_event : (bundle : Bundle) (entries : List Entry) (place : ℕ) (entry : Entry) (written total : List ℕ) → place < length entries → entry ≡ slice_index_or entries place entry → written ++ entry_lines bundle (drop place entries) ≡ total
-    → (written ++ event_line bundle entry.number entry.effect) ++ entry_lines bundle (drop (place + 1) entries) ≡ total
-next_event bundle entries place entry written total inside read so_far =
-    let there = slice_get_read entries (length entries) place entry refl inside read in
-    let rest : entry_lines bundle (drop place entries) ≡ event_line bundle entry.number entry.effect ++ entry_lines bundle (drop (suc place) entries) = ap (entry_lines bundle) (rest_at entries place entry there) in
-    let next : place + 1 ≡ suc place = omega arith in
+pub next_event : (bundle : Bundle) (entries : List Entry) (index : ℕ) (entry : Entry) (written total : List ℕ) → index < length entries → entry ≡ slice_index_or entries index entry → written ++ entry_lines bundle (drop index entries) ≡ total
+    → (written ++ event_line bundle entry.number entry.effect) ++ entry_lines bundle (drop (index + 1) entries) ≡ total
+next_event bundle entries index entry written total inside read so_far =
+    let there = slice_get_read entries (length entries) index entry refl inside read in
+    let rest : entry_lines bundle (drop index entries) ≡ event_line bundle entry.number entry.effect ++ entry_lines bundle (drop (suc index) entries) = ap (entry_lines bundle) (rest_at entries index entry there) in
+    let next : index + 1 ≡ suc index = omega arith in
     subst (λ after. (written ++ event_line bundle entry.number entry.effect) ++ entry_lines bundle (drop after entries) ≡ total) (sym next)
-    (append_assoc written (event_line bundle entry.number entry.effect) (entry_lines bundle (drop (suc place) entries)) ∙ (ap (λ lines. written ++ lines) (sym rest) ∙ so_far))
+    (append_assoc written (event_line bundle entry.number entry.effect) (entry_lines bundle (drop (suc index) entries)) ∙ (ap (λ lines. written ++ lines) (sym rest) ∙ so_far))
 
-pub no_event : (bundle : Bundle) (entries : List Entry) (place : ℕ) (written total : List ℕ) → length entries ≤ place → written ++ entry_lines bundle (drop place entries) ≡ total → written ≡ total
-no_event bundle entries place written total past so_far =
-    sym (append-nil written) ∙ (ap (λ entries. written ++ entry_lines bundle entries) (sym (none_left entries place past)) ∙ so_far)
+pub no_event : (bundle : Bundle) (entries : List Entry) (index : ℕ) (written total : List ℕ) → length entries ≤ index → written ++ entry_lines bundle (drop index entries) ≡ total → written ≡ total
+no_event bundle entries index written total past so_far =
+    sym (append-nil written) ∙ (ap (λ entries. written ++ entry_lines bundle entries) (sym (none_left entries index past)) ∙ so_far)
 
-pub is_found : (bundle : Bundle) (entries : List Entry) (place : ℕ) (entry : Entry) → AreFound bundle entries → place < length entries → entry ≡ slice_index_or entries place entry → finding_at bundle entry.number ≡ Some entry.finding
-is_found bundle entries place entry all inside read = of_each (λ (entry : Entry). finding_at bundle entry.number ≡ Some entry.finding) entries place entry all (slice_get_read entries (length entries) place entry refl inside read)
+pub is_found : (bundle : Bundle) (entries : List Entry) (index : ℕ) (entry : Entry) → AreFound bundle entries → index < length entries → entry ≡ slice_index_or entries index entry → finding_at bundle entry.number ≡ Some entry.finding
+is_found bundle entries index entry all inside read = of_each (λ (entry : Entry). finding_at bundle entry.number ≡ Some entry.finding) entries index entry all (slice_get_read entries (length entries) index entry refl inside read)
 
 lines_of : (bundle : Bundle) (entries : List Entry) → entry_lines bundle entries ≡ event_lines bundle (numbers_of entries) (map (λ (entry : Entry). entry.effect) entries)
 lines_of bundle [] = refl

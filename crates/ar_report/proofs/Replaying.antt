@@ -19,29 +19,29 @@ events_push bundle entries entry event is =
     ap (events_of bundle) (map_push (λ (entry : Entry). entry.number) entries entry) ∙ (filter_map-append (happened bundle) (numbers_of entries) (entry.number ∷ []) ∙ rw is refl)
 
 -- one entry more was handed
-pub next_entry : (bundle : Bundle) (limits : List Limits) (entries : List Entry) (place : ℕ) (entry : Entry) (event : Event) (state after : Standing) → place < length entries → entry ≡ slice_index_or entries place entry → happened bundle entry.number ≡ Some event
-    → Replays limits (events_of bundle (numbers_of (take place entries))) state → ForEachReplay state (λ limits events. Replays limits (events ++ event ∷ []) after) → Replays limits (events_of bundle (numbers_of (take (place + 1) entries))) after
-next_entry bundle limits entries place entry event state after inside read is replays goes_on =
-    let longer : take (suc place) entries ≡ take place entries ++ entry ∷ [] = take-suc entries place entry inside ∙ ap (λ entry. take place entries ++ entry ∷ []) (sym read) in
-    let next : place + 1 ≡ suc place = omega arith in
-    let events : events_of bundle (numbers_of (take (place + 1) entries)) ≡ events_of bundle (numbers_of (take place entries)) ++ event ∷ [] =
-    ap (λ after. events_of bundle (numbers_of (take after entries))) next ∙ (ap (λ entries. events_of bundle (numbers_of entries)) longer ∙ events_push bundle (take place entries) entry event is) in
-    subst (λ events. Replays limits events after) (sym events) (goes_on limits (events_of bundle (numbers_of (take place entries))) replays)
+pub next_entry : (bundle : Bundle) (limits : List Limits) (entries : List Entry) (index : ℕ) (entry : Entry) (event : Event) (state after : Standing) → index < length entries → entry ≡ slice_index_or entries index entry → happened bundle entry.number ≡ Some event
+    → Replays limits (events_of bundle (numbers_of (take index entries))) state → ForEachReplay state (λ limits events. Replays limits (events ++ event ∷ []) after) → Replays limits (events_of bundle (numbers_of (take (index + 1) entries))) after
+next_entry bundle limits entries index entry event state after inside read is replays continues =
+    let longer : take (suc index) entries ≡ take index entries ++ entry ∷ [] = take-suc entries index entry inside ∙ ap (λ entry. take index entries ++ entry ∷ []) (sym read) in
+    let next : index + 1 ≡ suc index = omega arith in
+    let events : events_of bundle (numbers_of (take (index + 1) entries)) ≡ events_of bundle (numbers_of (take index entries)) ++ event ∷ [] =
+    ap (λ after. events_of bundle (numbers_of (take after entries))) next ∙ (ap (λ entries. events_of bundle (numbers_of entries)) longer ∙ events_push bundle (take index entries) entry event is) in
+    subst (λ events. Replays limits events after) (sym events) (continues limits (events_of bundle (numbers_of (take index entries))) replays)
 
-pub no_entry_left : (bundle : Bundle) (limits : List Limits) (entries : List Entry) (place : ℕ) (state : Standing) → length entries ≤ place → Replays limits (events_of bundle (numbers_of (take place entries))) state → Replays limits (events_of bundle (numbers_of entries)) state
-no_entry_left bundle limits entries place state past replays = subst (λ entries. Replays limits (events_of bundle (numbers_of entries)) state) (take_all place entries past) replays
+pub no_entry_left : (bundle : Bundle) (limits : List Limits) (entries : List Entry) (index : ℕ) (state : Standing) → length entries ≤ index → Replays limits (events_of bundle (numbers_of (take index entries))) state → Replays limits (events_of bundle (numbers_of entries)) state
+no_entry_left bundle limits entries index state past replays = subst (λ entries. Replays limits (events_of bundle (numbers_of entries)) state) (take_all index entries past) replays
 
-pub room_left : (entries : List Entry) (place handed : ℕ) → handed ≤ place → place < length entries → length entries ≤ most_events → handed < 100000
-room_left entries place handed few inside most = omega arith
+pub room_left : (entries : List Entry) (index handed : ℕ) → handed ≤ index → index < length entries → length entries ≤ most_events → handed < 100000
+room_left entries index handed few inside most = omega arith
 
 -- an event of a bundle is of a metric that the run has
 pub of_metric : (bundle : Bundle) (run : RunPart) (events : List Event) (event : Event) (state : Standing) → IsRun bundle.metrics run → Replays run.limits events state → IsOfMetricBelow (length bundle.metrics) event → IsOfMetricBelow (length state.limits) event
 of_metric bundle run events event state is replays below = subst (λ metrics. IsOfMetricBelow metrics event) (sym (ap length replays.limits_are ∙ is.limits)) below
 
 -- the same of an entry that was read
-pub next_read : (bundle : Bundle) (limits : List Limits) (entries : List Entry) (place : ℕ) (default : Entry) (event : Event) (state after : Standing) → place < length entries → happened bundle (slice_index_or entries place default).number ≡ Some event
-    → Replays limits (events_of bundle (numbers_of (take place entries))) state → ForEachReplay state (λ limits events. Replays limits (events ++ event ∷ []) after) → Replays limits (events_of bundle (numbers_of (take (place + 1) entries))) after
-next_read bundle limits entries place default event state after inside is replays goes_on =
-    let entry = slice_index_or entries place default in
-    let read : entry ≡ slice_index_or entries place entry = sym (get_or_from_slice_get entries place entry entry (slice_get-get_or entries place default inside)) in
-    next_entry bundle limits entries place entry event state after inside read is replays goes_on
+pub next_read : (bundle : Bundle) (limits : List Limits) (entries : List Entry) (index : ℕ) (default : Entry) (event : Event) (state after : Standing) → index < length entries → happened bundle (slice_index_or entries index default).number ≡ Some event
+    → Replays limits (events_of bundle (numbers_of (take index entries))) state → ForEachReplay state (λ limits events. Replays limits (events ++ event ∷ []) after) → Replays limits (events_of bundle (numbers_of (take (index + 1) entries))) after
+next_read bundle limits entries index default event state after inside is replays continues =
+    let entry = slice_index_or entries index default in
+    let read : entry ≡ slice_index_or entries index entry = sym (get_or_from_slice_get entries index entry entry (slice_get-get_or entries index default inside)) in
+    next_entry bundle limits entries index entry event state after inside read is replays continues

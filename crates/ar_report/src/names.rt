@@ -9,6 +9,7 @@ use ar_limits::{Effect, Phase};
 use std::alloc::AllocError;
 use std::fmt::Write;
 
+/// The name of a phase, as reports print it.
 pub fn phase_name(phase: Phase) -> &'static str
     ensures { result.now ≡ phase_name phase }
 {

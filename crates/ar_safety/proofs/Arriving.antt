@@ -112,40 +112,40 @@ arrives (first ∷ others) had is =
 
 -- ---- what is sent to an index
 
--- of all that is sent, what is sent to `place`
-one_to : (P : Operands → Type 0) (place : ℕ) (one : Sent) (others : List Sent) (is_there : Bool) → (one.target == place) ≡ is_there
-    → AllByRecursion P (if is_there then one.operands ∷ sent_to place others else sent_to place others)
-    → (AllByRecursion P (sent_to place others) → AllByRecursion (λ one. one.target ≡ place → P one.operands) others)
-    → AllByRecursion (λ one. one.target ≡ place → P one.operands) (one ∷ others)
-one_to P place one others true is all rest = (λ there. all.0, rest all.1)
-one_to P place one others false is all rest = (λ there. absurd (grind (arith, nat_tests)), rest all)
+-- of all that is sent, what is sent to `index`
+one_to : (P : Operands → Type 0) (index : ℕ) (one : Sent) (others : List Sent) (is_there : Bool) → (one.target == index) ≡ is_there
+    → AllByRecursion P (if is_there then one.operands ∷ sent_to index others else sent_to index others)
+    → (AllByRecursion P (sent_to index others) → AllByRecursion (λ one. one.target ≡ index → P one.operands) others)
+    → AllByRecursion (λ one. one.target ≡ index → P one.operands) (one ∷ others)
+one_to P index one others true is all rest = (λ there. all.0, rest all.1)
+one_to P index one others false is all rest = (λ there. absurd (grind (arith, nat_tests)), rest all)
 
-place_of : (P : Operands → Type 0) (place : ℕ) (one : Sent) (others : List Sent) (is_there : Bool) → (one.target == place) ≡ is_there
-    → (one.target ≡ place → P one.operands) → AllByRecursion P (sent_to place others) → AllByRecursion P (if is_there then one.operands ∷ sent_to place others else sent_to place others)
-place_of P place one others true is each rest = (each (grind (arith, nat_tests)), rest)
-place_of P place one others false is each rest = rest
+of_one_sent : (P : Operands → Type 0) (index : ℕ) (one : Sent) (others : List Sent) (is_there : Bool) → (one.target == index) ≡ is_there
+    → (one.target ≡ index → P one.operands) → AllByRecursion P (sent_to index others) → AllByRecursion P (if is_there then one.operands ∷ sent_to index others else sent_to index others)
+of_one_sent P index one others true is each rest = (each (grind (arith, nat_tests)), rest)
+of_one_sent P index one others false is each rest = rest
 
-pub to_place : (P : Operands → Type 0) (place : ℕ) (sents : List Sent) → AllByRecursion P (sent_to place sents) → AllByRecursion (λ one. one.target ≡ place → P one.operands) sents
-to_place P place [] all = tt
-to_place P place (one ∷ others) all = one_to P place one others (one.target == place) refl all (λ rest. to_place P place others rest)
+pub to_index : (P : Operands → Type 0) (index : ℕ) (sents : List Sent) → AllByRecursion P (sent_to index sents) → AllByRecursion (λ one. one.target ≡ index → P one.operands) sents
+to_index P index [] all = tt
+to_index P index (one ∷ others) all = one_to P index one others (one.target == index) refl all (λ rest. to_index P index others rest)
 
-pub of_place : (P : Operands → Type 0) (place : ℕ) (sents : List Sent) → AllByRecursion (λ one. one.target ≡ place → P one.operands) sents → AllByRecursion P (sent_to place sents)
-of_place P place [] all = tt
-of_place P place (one ∷ others) all = place_of P place one others (one.target == place) refl all.0 (of_place P place others all.1)
+pub of_index : (P : Operands → Type 0) (index : ℕ) (sents : List Sent) → AllByRecursion (λ one. one.target ≡ index → P one.operands) sents → AllByRecursion P (sent_to index sents)
+of_index P index [] all = tt
+of_index P index (one ∷ others) all = of_one_sent P index one others (one.target == index) refl all.0 (of_index P index others all.1)
 
-none_to : (place : ℕ) (one : Sent) (others : List Sent) (is_there : Bool) → (one.target == place) ≡ is_there → (one.target ≡ place → ⊥) → sent_to place others ≡ [] → (if is_there then one.operands ∷ sent_to place others else sent_to place others) ≡ []
-none_to place one others true is away rest = absurd (away (grind (arith, nat_tests)))
-none_to place one others false is away rest = rest
+none_to : (index : ℕ) (one : Sent) (others : List Sent) (is_there : Bool) → (one.target == index) ≡ is_there → (one.target ≡ index → ⊥) → sent_to index others ≡ [] → (if is_there then one.operands ∷ sent_to index others else sent_to index others) ≡ []
+none_to index one others true is away rest = absurd (away (grind (arith, nat_tests)))
+none_to index one others false is away rest = rest
 
--- nothing is sent to `place`, where all is sent elsewhere
-pub elsewhere : (place : ℕ) (sents : List Sent) → AllByRecursion (λ one. one.target ≡ place → ⊥) sents → sent_to place sents ≡ []
-elsewhere place [] all = refl
-elsewhere place (one ∷ others) all = none_to place one others (one.target == place) refl all.0 (elsewhere place others all.1)
+-- nothing is sent to `index`, where all is sent elsewhere
+pub elsewhere : (index : ℕ) (sents : List Sent) → AllByRecursion (λ one. one.target ≡ index → ⊥) sents → sent_to index sents ≡ []
+elsewhere index [] all = refl
+elsewhere index (one ∷ others) all = none_to index one others (one.target == index) refl all.0 (elsewhere index others all.1)
 
 both_sent : (is_there : Bool) (one : Operands) (before later all : List Operands) → all ≡ before ++ later → (if is_there then one ∷ all else all) ≡ (if is_there then one ∷ before else before) ++ later
 both_sent true one before later all h = ap (λ all. one ∷ all) h
 both_sent false one before later all h = h
 
-pub sent_to_both : (place : ℕ) (before later : List Sent) → sent_to place (before ++ later) ≡ sent_to place before ++ sent_to place later
-sent_to_both place [] later = refl
-sent_to_both place (one ∷ before) later = both_sent (one.target == place) one.operands (sent_to place before) (sent_to place later) (sent_to place (before ++ later)) (sent_to_both place before later)
+pub sent_to_both : (index : ℕ) (before later : List Sent) → sent_to index (before ++ later) ≡ sent_to index before ++ sent_to index later
+sent_to_both index [] later = refl
+sent_to_both index (one ∷ before) later = both_sent (one.target == index) one.operands (sent_to index before) (sent_to index later) (sent_to index (before ++ later)) (sent_to_both index before later)

@@ -6,7 +6,7 @@ use Rattle.std.proofs.lemmas.Bool.Decides.{nat_tests}
 use Rattle.ar_value.specs.Answer.{◌>>=◌}
 use Rattle.ar_value.specs.Arithmetic.{decimal_of_whole, decimal_product, difference, negation, product, quotient, remainder, sum}
 use Rattle.ar_value.specs.Fits.{all_items, fits}
-use Rattle.ar_value.specs.Kind.{Kind, nil, shaped, fits_kind, merge, plain, scalar_shape, truth_kind}
+use Rattle.ar_value.specs.Kind.{Kind, nil, shaped, fits_kind, merge, plain, scalar_shape, boolean_kind}
 use Rattle.ar_value.specs.Operators.{Failure, Meaning, faulted, ill_kinded}
 use Rattle.ar_value.specs.Operators as operators
 use Rattle.ar_value.specs.Shape.{Shape, shape_named}
@@ -66,8 +66,8 @@ scalar_fits scalar kind v is fit = absurd cc
 
 opposite_sound : OneSound opposite_kind operators.opposite
 opposite_sound kind v fit =
-    taken (is_scalar_kind scalars.Bool kind) truth_kind (operators.opposite v)
-    (λ is. on_bool (λ v. MeansKind truth_kind (operators.opposite v)) (λ b. refl) v (scalar_fits scalars.Bool kind v is fit))
+    taken (is_scalar_kind scalars.Bool kind) boolean_kind (operators.opposite v)
+    (λ is. on_bool (λ v. MeansKind boolean_kind (operators.opposite v)) (λ b. refl) v (scalar_fits scalars.Bool kind v is fit))
 
 two_wholes : (P : Value → Value → Type 0) → ((x y : ℤ) → P (values.whole x) (values.whole y)) → (v w : Value) → fits v shapes.whole ≡ true → fits w shapes.whole ≡ true → P v w
 two_wholes P each v w fit also = on_whole (λ v. P v w) (λ x. on_whole (λ w. P (values.whole x) w) (λ y. each x y) w also) v fit
@@ -107,9 +107,9 @@ two_texts P each v w fit also = on_text (λ v. P v w) (λ x. on_text (λ w. P (v
 
 text_test_sound : (test : TextTest) → TwoSound text_test_kind (operators.text_test test)
 text_test_sound test left right v w fit also =
-    taken (is_scalar_kind scalars.Text left && is_scalar_kind scalars.Text right) truth_kind (operators.text_test test v w)
+    taken (is_scalar_kind scalars.Text left && is_scalar_kind scalars.Text right) boolean_kind (operators.text_test test v w)
     (λ is. let each = both_hold (is_scalar_kind scalars.Text left) (is_scalar_kind scalars.Text right) is in
-    two_texts (λ v w. MeansKind truth_kind (operators.text_test test v w)) (λ x y. refl) v w
+    two_texts (λ v w. MeansKind boolean_kind (operators.text_test test v w)) (λ x y. refl) v w
     (scalar_fits scalars.Text left v each.0 fit) (scalar_fits scalars.Text right w each.1 also))
 
 negative_sound : (of : Numbers) → OneSound (negative_kind of) (operators.negative of)
@@ -126,25 +126,25 @@ on_number P of_whole of_decimal (shaped shapes.decimal) v is fit = on_decimal P 
 on_number P of_whole of_decimal kind v is fit = absurd cc
 
 compares : (numbers : Compared) (way : Order) (left right : Kind) (v w : Value) → is_compared numbers left ≡ true → is_compared numbers right ≡ true → fits_kind v left ≡ true → fits_kind w right ≡ true
-    → MeansKind truth_kind (operators.compare numbers way v w)
-compares compared.Wholes way left right v w is beside fit also =
-    two_wholes (λ v w. MeansKind truth_kind (operators.compare compared.Wholes way v w)) (λ x y. refl) v w (scalar_fits scalars.Whole left v is fit) (scalar_fits scalars.Whole right w beside also)
-compares compared.Decimals way left right v w is beside fit also =
-    two_decimals (λ v w. MeansKind truth_kind (operators.compare compared.Decimals way v w)) (λ x y. refl) v w (scalar_fits scalars.Decimal left v is fit) (scalar_fits scalars.Decimal right w beside also)
-compares compared.Mixed way left right v w is beside fit also =
-    on_number (λ v. MeansKind truth_kind (operators.compare compared.Mixed way v w))
-    (λ x. on_number (λ w. MeansKind truth_kind (operators.compare compared.Mixed way (values.whole x) w)) (λ y. refl) (λ y. refl) right w beside also)
-    (λ x. on_number (λ w. MeansKind truth_kind (operators.compare compared.Mixed way (values.decimal x) w)) (λ y. refl) (λ y. refl) right w beside also) left v is fit
+    → MeansKind boolean_kind (operators.compare numbers way v w)
+compares compared.Wholes way left right v w is next_to fit also =
+    two_wholes (λ v w. MeansKind boolean_kind (operators.compare compared.Wholes way v w)) (λ x y. refl) v w (scalar_fits scalars.Whole left v is fit) (scalar_fits scalars.Whole right w next_to also)
+compares compared.Decimals way left right v w is next_to fit also =
+    two_decimals (λ v w. MeansKind boolean_kind (operators.compare compared.Decimals way v w)) (λ x y. refl) v w (scalar_fits scalars.Decimal left v is fit) (scalar_fits scalars.Decimal right w next_to also)
+compares compared.Mixed way left right v w is next_to fit also =
+    on_number (λ v. MeansKind boolean_kind (operators.compare compared.Mixed way v w))
+    (λ x. on_number (λ w. MeansKind boolean_kind (operators.compare compared.Mixed way (values.whole x) w)) (λ y. refl) (λ y. refl) right w next_to also)
+    (λ x. on_number (λ w. MeansKind boolean_kind (operators.compare compared.Mixed way (values.decimal x) w)) (λ y. refl) (λ y. refl) right w next_to also) left v is fit
 
 compare_sound : (numbers : Compared) (way : Order) → TwoSound (order_kind numbers) (operators.compare numbers way)
 compare_sound numbers way left right v w fit also =
-    taken (is_compared numbers left && is_compared numbers right) truth_kind (operators.compare numbers way v w)
+    taken (is_compared numbers left && is_compared numbers right) boolean_kind (operators.compare numbers way v w)
     (λ is. let each = both_hold (is_compared numbers left) (is_compared numbers right) is in compares numbers way left right v w each.0 each.1 fit also)
 
 -- ---- families
 
 in_family_by : (family : Family) (shape : Shape) (v : Value) → is_family family (family_of shape) ≡ true → fits v shape ≡ true → operators.is_in_family family v ≡ true
-in_family_by families.Truth shapes.bool (values.bool b) is fit = refl
+in_family_by families.Boolean shapes.bool (values.bool b) is fit = refl
 in_family_by families.Number shapes.whole (values.whole w) is fit = refl
 in_family_by families.Number shapes.decimal (values.decimal d) is fit = refl
 in_family_by families.Text shapes.text (values.text t) is fit = refl
@@ -159,7 +159,7 @@ in_family family shape v is fit = in_family_by family shape v is fit
 
 kind_in_family : (family : Family) (kind : Kind) (v : Value) → is_family family (family_in kind) ≡ true → fits_kind v kind ≡ true → operators.is_in_family family v ≡ true
 kind_in_family family (shaped shape) v is fit = in_family family shape v is fit
-kind_in_family families.Truth nil v is fit = absurd cc
+kind_in_family families.Boolean nil v is fit = absurd cc
 kind_in_family families.Number nil v is fit = absurd cc
 kind_in_family families.Text nil v is fit = absurd cc
 
@@ -169,13 +169,13 @@ all_in_family family shape (values.item v items) is fit =
     let parts = both_hold (fits v shape) (all_items (λ v. fits v shape) items) fit in
     both (operators.is_in_family family v) (operators.are_in_family family items) (in_family family shape v is parts.0) (all_in_family family shape items is parts.1)
 
-kinded_means : (is_kinded : Bool) (b : Bool) → is_kinded ≡ true → MeansKind truth_kind (operators.where_kinded is_kinded (values.bool b))
+kinded_means : (is_kinded : Bool) (b : Bool) → is_kinded ≡ true → MeansKind boolean_kind (operators.where_kinded is_kinded (values.bool b))
 kinded_means true b h = refl
 kinded_means false b h = absurd cc
 
 equal_sound : (family : Family) → TwoSound (equal_kind family) (operators.equal family)
 equal_sound family left right v w fit also =
-    taken (is_family family (family_in left) && is_family family (family_in right)) truth_kind (operators.equal family v w)
+    taken (is_family family (family_in left) && is_family family (family_in right)) boolean_kind (operators.equal family v w)
     (λ is. let each = both_hold (is_family family (family_in left)) (is_family family (family_in right)) is in
     kinded_means (operators.is_in_family family v && operators.is_in_family family w) (operators.same v w)
     (both (operators.is_in_family family v) (operators.is_in_family family w) (kind_in_family family left v each.0 fit) (kind_in_family family right w each.1 also)))
@@ -190,27 +190,27 @@ last false true c h = refl
 last false false c h = h
 
 family_is_one : (family : Family) (value : Value) (items : Items) → operators.are_in_family family (values.item value items) ≡ true → operators.of_one_family value items ≡ true
-family_is_one families.Truth value items h = rw h refl
-family_is_one families.Number value items h = middle (operators.are_in_family families.Truth (values.item value items)) (operators.are_in_family families.Number (values.item value items)) (operators.are_in_family families.Text (values.item value items)) h
-family_is_one families.Text value items h = last (operators.are_in_family families.Truth (values.item value items)) (operators.are_in_family families.Number (values.item value items)) (operators.are_in_family families.Text (values.item value items)) h
+family_is_one families.Boolean value items h = rw h refl
+family_is_one families.Number value items h = middle (operators.are_in_family families.Boolean (values.item value items)) (operators.are_in_family families.Number (values.item value items)) (operators.are_in_family families.Text (values.item value items)) h
+family_is_one families.Text value items h = last (operators.are_in_family families.Boolean (values.item value items)) (operators.are_in_family families.Number (values.item value items)) (operators.are_in_family families.Text (values.item value items)) h
 
 is_itself : (family : Family) → is_family family (Some family) ≡ true
-is_itself families.Truth = refl
+is_itself families.Boolean = refl
 is_itself families.Number = refl
 is_itself families.Text = refl
 
 -- a value and items, where their families are one
-one_family : (of beside : Option Family) (kind : Kind) (shape : Shape) (v : Value) (items : Items) → family_in kind ≡ of → family_of (plain shape) ≡ beside → are_one_family of beside ≡ true → fits_kind v kind ≡ true
+one_family : (of next_to : Option Family) (kind : Kind) (shape : Shape) (v : Value) (items : Items) → family_in kind ≡ of → family_of (plain shape) ≡ next_to → are_one_family of next_to ≡ true → fits_kind v kind ≡ true
     → all_items (λ v. fits v shape) items ≡ true → operators.of_one_family v items ≡ true
-one_family (Some family) beside kind shape v items is also one fit all =
+one_family (Some family) next_to kind shape v items is also one fit all =
     family_is_one family v items
     (both (operators.is_in_family family v) (operators.are_in_family family items) (kind_in_family family kind v (rw is (is_itself family)) fit) (all_in_family family shape items (rw also one) all))
-one_family None beside kind shape v items is also one fit all = absurd cc
+one_family None next_to kind shape v items is also one fit all = absurd cc
 
 member_sound : TwoSound member_kind operators.is_among
 member_sound kind (shaped (shapes.list shape max)) v w fit also =
-    taken (are_one_family (family_in kind) (family_of (plain shape))) truth_kind (operators.is_among v w)
-    (λ one. on_list (λ w. MeansKind truth_kind (operators.is_among v w)) shape max
+    taken (are_one_family (family_in kind) (family_of (plain shape))) boolean_kind (operators.is_among v w)
+    (λ one. on_list (λ w. MeansKind boolean_kind (operators.is_among v w)) shape max
     (λ items short all. kinded_means (operators.of_one_family v items) (operators.has_item v items) (one_family (family_in kind) (family_of (plain shape)) kind shape v items refl refl one fit all)) w also)
 member_sound kind other v w fit also = tt
 
@@ -231,11 +231,11 @@ needed_sound : OneSound needed_kind operators.not_nil
 needed_sound (shaped shape) v fit = needed shape v fit
 needed_sound nil v fit = tt
 
-some_truth : OneSound (λ kind. Some truth_kind) (λ v. Ok (values.bool (operators.is_nil v)))
-some_truth kind v fit = refl
+some_boolean : OneSound (λ kind. Some boolean_kind) (λ v. Ok (values.bool (operators.is_nil v)))
+some_boolean kind v fit = refl
 
-turned : (v : Value) → fits v shapes.whole ≡ true → MeansKind (shaped shapes.decimal) (operators.to_decimal v)
-turned v fit = on_whole (λ v. MeansKind (shaped shapes.decimal) (operators.to_decimal v)) (λ w. decimal_or_fault (decimal_of_whole w)) v fit
+converted : (v : Value) → fits v shapes.whole ≡ true → MeansKind (shaped shapes.decimal) (operators.to_decimal v)
+converted v fit = on_whole (λ v. MeansKind (shaped shapes.decimal) (operators.to_decimal v)) (λ w. decimal_or_fault (decimal_of_whole w)) v fit
 
 fits_optional : (v : Value) (shape : Shape) → fits v shape ≡ true → fits v (shapes.optional shape) ≡ true
 fits_optional values.nil shape fit = refl
@@ -246,26 +246,26 @@ or_nil_means shape (Ok v) h = fits_optional v shape h
 or_nil_means shape (Err (faulted fault)) h = tt
 or_nil_means shape (Err ill_kinded) h = h
 
-nil_turned : (shape : Option Shape) → IfSome (option_map shapes.optional shape) (λ shape. MeansKind (shaped shape) (operators.to_decimal values.nil))
-nil_turned (Some shape) = refl
-nil_turned None = tt
+nil_converted : (shape : Option Shape) → IfSome (option_map shapes.optional shape) (λ shape. MeansKind (shaped shape) (operators.to_decimal values.nil))
+nil_converted (Some shape) = refl
+nil_converted None = tt
 
-inside_turned : (shape : Option Shape) (m : Meaning) → IfSome shape (λ shape. MeansKind (shaped shape) m) → IfSome (option_map shapes.optional shape) (λ shape. MeansKind (shaped shape) m)
-inside_turned (Some shape) m h = or_nil_means shape m h
-inside_turned None m h = tt
+inside_converted : (shape : Option Shape) (m : Meaning) → IfSome shape (λ shape. MeansKind (shaped shape) m) → IfSome (option_map shapes.optional shape) (λ shape. MeansKind (shaped shape) m)
+inside_converted (Some shape) m h = or_nil_means shape m h
+inside_converted None m h = tt
 
-shape_turned : (shape : Shape) (v : Value) → fits v shape ≡ true → IfSome (decimal_shape shape) (λ shape. MeansKind (shaped shape) (operators.to_decimal v))
-shape_turned shapes.whole v fit = turned v fit
-shape_turned (shapes.optional shape) values.nil fit = nil_turned (decimal_shape shape)
-shape_turned (shapes.optional shape) v fit = inside_turned (decimal_shape shape) (operators.to_decimal v) (shape_turned shape v fit)
-shape_turned shape v fit = tt
+shape_converted : (shape : Shape) (v : Value) → fits v shape ≡ true → IfSome (decimal_shape shape) (λ shape. MeansKind (shaped shape) (operators.to_decimal v))
+shape_converted shapes.whole v fit = converted v fit
+shape_converted (shapes.optional shape) values.nil fit = nil_converted (decimal_shape shape)
+shape_converted (shapes.optional shape) v fit = inside_converted (decimal_shape shape) (operators.to_decimal v) (shape_converted shape v fit)
+shape_converted shape v fit = tt
 
 kind_of_shape : (shape : Option Shape) (m : Meaning) → IfSome shape (λ shape. MeansKind (shaped shape) m) → IfSome (option_map shaped shape) (λ kind. MeansKind kind m)
 kind_of_shape (Some shape) m h = h
 kind_of_shape None m h = tt
 
 decimal_sound : OneSound decimal_kind operators.to_decimal
-decimal_sound (shaped shape) v fit = kind_of_shape (decimal_shape shape) (operators.to_decimal v) (shape_turned shape v fit)
+decimal_sound (shaped shape) v fit = kind_of_shape (decimal_shape shape) (operators.to_decimal v) (shape_converted shape v fit)
 decimal_sound nil v fit = tt
 
 -- what isn't nil fits the plain shape
@@ -328,7 +328,7 @@ length_sound kind v fit = tt
 pub unary_sound : (operator : UnaryOperator) → OneSound (unary_kind operator) (operators.unary_meaning operator)
 unary_sound unary.Len = length_sound
 unary_sound unary.Need = needed_sound
-unary_sound unary.IsNil = some_truth
+unary_sound unary.IsNil = some_boolean
 unary_sound unary.ToDecimal = decimal_sound
 unary_sound unary.Not = opposite_sound
 unary_sound (unary.Negate of) = negative_sound of

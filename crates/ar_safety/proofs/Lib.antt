@@ -8,6 +8,6 @@ pub mod Passing
 pub mod Reached
 pub mod Sound
 pub mod Runs
-pub mod Dearest
+pub mod Costliest
 pub mod OneVerdict
 pub mod Safe

@@ -12,7 +12,7 @@ use Rattle.ar_op.specs.Machine.{begins_loop, nth}
 use Rattle.ar_op.specs.declared.op.Op.{Op}
 use Rattle.ar_op.specs.declared.op.Op.TheVariants.{Jump, Enter, Step}
 use Rattle.ar_safety.specs.Budget.{JumpsTo}
-use Rattle.ar_safety.specs.Places.{Pass, all_pass, ends_loop, forward, fault_or, loops_around, loops_among, in_innermost, inside_code, names_well, nests_well, or_else, loop_reaches, same_loops, stays, unless}
+use Rattle.ar_safety.specs.Indices.{Pass, all_pass, ends_loop, forward, fault_or, loops_around, loops_among, in_innermost, inside_code, names_well, nests_well, or_else, loop_reaches, same_loops, stays, unless}
 use Rattle.ar_safety.specs.declared.error.Cause.{Cause}
 use Rattle.ar_safety.specs.declared.error.Reason.{Reason}
 
@@ -51,9 +51,9 @@ no_reason false reason h = absurd cc
 
 -- ---- a pass that found nothing found nothing at each operation, and back
 
-pub found_nothing : (place : ℕ) (fault : Option Reason) (later : Result (Unit {0}) Cause) → fault_or place fault later ≡ Ok tt → (fault ≡ None) × (later ≡ Ok tt)
-found_nothing place None later h = (refl, h)
-found_nothing place (Some reason) later h = absurd cc
+pub found_nothing : (index : ℕ) (fault : Option Reason) (later : Result (Unit {0}) Cause) → fault_or index fault later ≡ Ok tt → (fault ≡ None) × (later ≡ Ok tt)
+found_nothing index None later h = (refl, h)
+found_nothing index (Some reason) later h = absurd cc
 
 passes_from : (pass : Pass) (from : ℕ) (ops : List Op) → all_pass pass from ops ≡ Ok tt → (n : ℕ) (op : Op) → nth ops n ≡ Some op → pass (from + n) op ≡ None
 passes_from pass from [] h n op there = absurd cc
@@ -67,10 +67,10 @@ passes_from pass from (first ∷ ops) h (suc n) op there =
     let further : from + suc n ≡ suc from + n = omega arith in
     rw further (passes_from pass (suc from) ops here.1 n op there)
 
-pub passes_each : (pass : Pass) (ops : List Op) → all_pass pass 0 ops ≡ Ok tt → (place : ℕ) (op : Op) → nth ops place ≡ Some op → pass place op ≡ None
-passes_each pass ops h place op there =
-    let start : 0 + place ≡ place = omega arith in
-    rw start at (passes_from pass 0 ops h place op there)
+pub passes_each : (pass : Pass) (ops : List Op) → all_pass pass 0 ops ≡ Ok tt → (index : ℕ) (op : Op) → nth ops index ≡ Some op → pass index op ≡ None
+passes_each pass ops h index op there =
+    let start : 0 + index ≡ index = omega arith in
+    rw start at (passes_from pass 0 ops h index op there)
 
 all_pass_from : (pass : Pass) (from : ℕ) (ops : List Op) → ((n : ℕ) (op : Op) → nth ops n ≡ Some op → pass (from + n) op ≡ None) → all_pass pass from ops ≡ Ok tt
 all_pass_from pass from [] each = refl
@@ -80,45 +80,45 @@ all_pass_from pass from (first ∷ ops) each =
     let others : all_pass pass (suc from) ops ≡ Ok tt = all_pass_from pass (suc from) ops (λ n op there. let further : suc from + n ≡ from + suc n = omega arith in rw further (each (suc n) op there)) in
     rw (here, others) refl
 
-pub all_pass_each : (pass : Pass) (ops : List Op) → ((place : ℕ) (op : Op) → nth ops place ≡ Some op → pass place op ≡ None) → all_pass pass 0 ops ≡ Ok tt
+pub all_pass_each : (pass : Pass) (ops : List Op) → ((index : ℕ) (op : Op) → nth ops index ≡ Some op → pass index op ≡ None) → all_pass pass 0 ops ≡ Ok tt
 all_pass_each pass ops each = all_pass_from pass 0 ops (λ n op there. let start : 0 + n ≡ n = omega arith in rw start (each n op there))
 
 -- ---- Enters and Steps, where pass 2 found nothing
 
-pub stands_below : (ops : List Op) (place : ℕ) (op : Op) → nth ops place ≡ Some op → place < length ops
-stands_below [] place op there = absurd cc
-stands_below (first ∷ ops) zero op there = omega arith
-stands_below (first ∷ ops) (suc n) op there = let others = stands_below ops n op there in omega (arith, others)
+pub is_below : (ops : List Op) (index : ℕ) (op : Op) → nth ops index ≡ Some op → index < length ops
+is_below [] index op there = absurd cc
+is_below (first ∷ ops) zero op there = omega arith
+is_below (first ∷ ops) (suc n) op there = let others = is_below ops n op there in omega (arith, others)
 
-pub is_ahead : (ops : List Op) (place named : ℕ) → forward ops place named ≡ None → (place < named) × (named < length ops)
-is_ahead ops place named h =
-    let parts = none_of_both (inside_code ops named) (unless (nat_lt place named) _) h in
-    (ltb-true place named (no_reason (nat_lt place named) _ parts.1), ltb-true named (length ops) (no_reason (nat_lt named (length ops)) _ parts.0))
+pub is_ahead : (ops : List Op) (index named : ℕ) → forward ops index named ≡ None → (index < named) × (named < length ops)
+is_ahead ops index named h =
+    let parts = none_of_both (inside_code ops named) (unless (nat_lt index named) _) h in
+    (ltb-true index named (no_reason (nat_lt index named) _ parts.1), ltb-true named (length ops) (no_reason (nat_lt named (length ops)) _ parts.0))
 
 the_step : (predicate : Predicate) (enter : ℕ) (op : Option Op) → ends_loop predicate enter op ≡ true → op ≡ Some (Step predicate enter)
-the_step predicate enter (Some (Step of place)) h =
-    let parts = both (is_same predicate of) (place == enter) h in
+the_step predicate enter (Some (Step of index)) h =
+    let parts = both (is_same predicate of) (index == enter) h in
     let families : predicate ≡ of = same_predicate predicate of parts.0 in
-    let places : place ≡ enter = eqb-true place enter parts.1 in
+    let indices : index ≡ enter = eqb-true index enter parts.1 in
     cc
 the_step predicate enter op h = absurd cc
 
 the_enter : (predicate : Predicate) (step : ℕ) (op : Option Op) → begins_loop predicate step op ≡ true → op ≡ Some (Enter predicate step)
-the_enter predicate step (Some (Enter of place)) h =
-    let parts = both (is_same predicate of) (place == step) h in
+the_enter predicate step (Some (Enter of index)) h =
+    let parts = both (is_same predicate of) (index == step) h in
     let families : predicate ≡ of = same_predicate predicate of parts.0 in
-    let places : place ≡ step = eqb-true place step parts.1 in
+    let indices : index ≡ step = eqb-true index step parts.1 in
     cc
 the_enter predicate step op h = absurd cc
 
--- the Enter of a loop that reaches `place`
-pub reaching : (op : Option Op) (place : ℕ) → loop_reaches op place ≡ true → (predicate : Predicate) × (step : ℕ) × (op ≡ Some (Enter predicate step)) × (place ≤ step)
-reaching (Some (Enter predicate step)) place h = (predicate, step, refl, leb-true place step h)
-reaching op place h = absurd cc
+-- the Enter of a loop that reaches `index`
+pub reaching : (op : Option Op) (index : ℕ) → loop_reaches op index ≡ true → (predicate : Predicate) × (step : ℕ) × (op ≡ Some (Enter predicate step)) × (index ≤ step)
+reaching (Some (Enter predicate step)) index h = (predicate, step, refl, leb-true index step h)
+reaching op index h = absurd cc
 
-pub reaches_less : (op : Option Op) (place before : ℕ) → before ≤ place → loop_reaches op place ≡ true → loop_reaches op before ≡ true
-reaches_less op place before less h =
-    let r = reaching op place h in
+pub reaches_less : (op : Option Op) (index before : ℕ) → before ≤ index → loop_reaches op index ≡ true → loop_reaches op before ≡ true
+reaches_less op index before less h =
+    let r = reaching op index h in
     let is = r.2 in
     let far = r.3 in
     rw is (le-leb before r.1 (omega arith))
@@ -132,25 +132,25 @@ IsNoLoop op = Unit {0}
 -- ---- which loops hold an index
 
 module _ (ops : List Op) where
-  pub holding_alike : (place other : ℕ) (k : ℕ) → ((enter : ℕ) → enter < k → loop_reaches (nth ops enter) place ≡ loop_reaches (nth ops enter) other) → loops_among ops place k ≡ loops_among ops other k
-  holding_alike place other zero same = refl
-  holding_alike place other (suc k) same =
-      let here : loop_reaches (nth ops k) place ≡ loop_reaches (nth ops k) other = same k (omega arith) in
-      let others : loops_among ops place k ≡ loops_among ops other k = holding_alike place other k (λ enter below. same enter (omega arith)) in
+  pub holding_alike : (index other : ℕ) (k : ℕ) → ((enter : ℕ) → enter < k → loop_reaches (nth ops enter) index ≡ loop_reaches (nth ops enter) other) → loops_among ops index k ≡ loops_among ops other k
+  holding_alike index other zero same = refl
+  holding_alike index other (suc k) same =
+      let here : loop_reaches (nth ops k) index ≡ loop_reaches (nth ops k) other = same k (omega arith) in
+      let others : loops_among ops index k ≡ loops_among ops other k = holding_alike index other k (λ enter below. same enter (omega arith)) in
       rw (here, others) refl
 
-  none_behind : (place from k : ℕ) → from ≤ k → ((enter : ℕ) → from ≤ enter → enter < k → loop_reaches (nth ops enter) place ≡ false) → loops_among ops place k ≡ loops_among ops place from
-  none_behind place from zero le none = let same : from ≡ 0 = omega arith in rw same refl
-  none_behind place from (suc k) le none =
+  none_after : (index from k : ℕ) → from ≤ k → ((enter : ℕ) → from ≤ enter → enter < k → loop_reaches (nth ops enter) index ≡ false) → loops_among ops index k ≡ loops_among ops index from
+  none_after index from zero le none = let same : from ≡ 0 = omega arith in rw same refl
+  none_after index from (suc k) le none =
       elim (leb_tells from k) [
-        | inl w ↦ let here : loop_reaches (nth ops k) place ≡ false = none k w.1 (omega arith) in
-            rw here (none_behind place from k w.1 (λ enter behind below. none enter behind (omega arith)))
+        | inl w ↦ let here : loop_reaches (nth ops k) index ≡ false = none k w.1 (omega arith) in
+            rw here (none_after index from k w.1 (λ enter later below. none enter later (omega arith)))
         | inr w ↦ let same : from ≡ suc k = omega (arith, w.1) in rw same refl
       ]
 
 -- ---- where pass 2 found nothing
 
-module _ (ops : List Op) (paired : (place : ℕ) (op : Op) → nth ops place ≡ Some op → names_well ops place op ≡ None) where
+module _ (ops : List Op) (paired : (index : ℕ) (op : Op) → nth ops index ≡ Some op → names_well ops index op ≡ None) where
   -- an Enter names its Step, and a Step its Enter
   pub enter_pairs : (predicate : Predicate) (enter step : ℕ) → nth ops enter ≡ Some (Enter predicate step) → (enter < step) × (nth ops step ≡ Some (Step predicate enter))
   enter_pairs predicate enter step there =
@@ -164,28 +164,28 @@ module _ (ops : List Op) (paired : (place : ℕ) (op : Op) → nth ops place ≡
       let tests = both (nat_lt enter step) (begins_loop predicate step (nth ops enter)) (no_reason (nat_lt enter step && begins_loop predicate step (nth ops enter)) _ parts.1) in
       (ltb-true enter step tests.0, the_enter predicate step (nth ops enter) tests.1)
 
-  -- after `place` are the loops that held it, except the one that ends there
-  pub held_further : (place enter : ℕ) → ((predicate : Predicate) → nth ops place ≡ Some (Step predicate enter) → ⊥) → loop_reaches (nth ops enter) (suc place) ≡ loop_reaches (nth ops enter) place
-  held_further place enter no_end =
-      alike (loop_reaches (nth ops enter) (suc place)) (loop_reaches (nth ops enter) place)
-      (λ h. reaches_less (nth ops enter) (suc place) place (omega arith) h)
+  -- after `index` are the loops that held it, except the one that ends there
+  pub held_further : (index enter : ℕ) → ((predicate : Predicate) → nth ops index ≡ Some (Step predicate enter) → ⊥) → loop_reaches (nth ops enter) (suc index) ≡ loop_reaches (nth ops enter) index
+  held_further index enter no_end =
+      alike (loop_reaches (nth ops enter) (suc index)) (loop_reaches (nth ops enter) index)
+      (λ h. reaches_less (nth ops enter) (suc index) index (omega arith) h)
       (λ h.
-      let r = reaching (nth ops enter) place h in
+      let r = reaching (nth ops enter) index h in
       let is = r.2 in
       let far = r.3 in
-      let not_there : place ≡ r.1 → ⊥ = λ same. no_end r.0 (ap (nth ops) same ∙ (enter_pairs r.0 enter r.1 r.2).1) in
-      rw is (le-leb (suc place) r.1 (omega arith)))
+      let not_there : index ≡ r.1 → ⊥ = λ same. no_end r.0 (ap (nth ops) same ∙ (enter_pairs r.0 enter r.1 r.2).1) in
+      rw is (le-leb (suc index) r.1 (omega arith)))
 
-  no_enter : (op : Op) (place : ℕ) → IsNoLoop op → loop_reaches (Some op) place ≡ false
-  no_enter (Enter predicate step) place plain = absurd plain
-  no_enter op place plain = refl
+  no_enter : (op : Op) (index : ℕ) → IsNoLoop op → loop_reaches (Some op) index ≡ false
+  no_enter (Enter predicate step) index plain = absurd plain
+  no_enter op index plain = refl
 
   -- an operation that is no Enter and no Step leaves the loops as they are
-  pub stays_around : (place : ℕ) (op : Op) → nth ops place ≡ Some op → IsNoLoop op → loops_around ops (suc place) ≡ loops_around ops place
-  stays_around place op there plain =
-      let none : loop_reaches (nth ops place) (suc place) ≡ false = rw there (no_enter op (suc place) plain) in
-      let same : loops_among ops (suc place) place ≡ loops_among ops place place =
-      holding_alike ops (suc place) place place (λ enter below. held_further place enter (λ predicate is. let step : op ≡ Step predicate enter = cc in subst IsNoLoop step plain)) in
+  pub stays_around : (index : ℕ) (op : Op) → nth ops index ≡ Some op → IsNoLoop op → loops_around ops (suc index) ≡ loops_around ops index
+  stays_around index op there plain =
+      let none : loop_reaches (nth ops index) (suc index) ≡ false = rw there (no_enter op (suc index) plain) in
+      let same : loops_among ops (suc index) index ≡ loops_among ops index index =
+      holding_alike ops (suc index) index index (λ enter below. held_further index enter (λ predicate is. let step : op ≡ Step predicate enter = cc in subst IsNoLoop step plain)) in
       rw none same
 
   -- a loop begins after its Enter
@@ -200,16 +200,16 @@ module _ (ops : List Op) (paired : (place : ℕ) (op : Op) → nth ops place ≡
 
   -- ---- where pass 3 found nothing at the first indexes
 
-  -- whoever holds `place` reaches what the innermost holder reaches, if that is so of the indexes before
-  pub inner_first : (place step : ℕ)
-      → ((inner : ℕ) → inner < place → (predicate : Predicate) (end : ℕ) → nth ops inner ≡ Some (Enter predicate end) → (outer : ℕ) → outer < inner → loop_reaches (nth ops outer) inner ≡ true → loop_reaches (nth ops outer) end ≡ true)
-      → (k : ℕ) → k ≤ place → in_innermost ops (loops_among ops place k) step ≡ true → (outer : ℕ) → outer < k → loop_reaches (nth ops outer) place ≡ true → loop_reaches (nth ops outer) step ≡ true
-  inner_first place step nested zero le inside_it outer below holds = absurd (omega arith)
-  inner_first place step nested (suc k) le inside_it outer below holds =
-      let further : (in_innermost ops (loops_among ops place k) step ≡ true → outer < k → loop_reaches (nth ops outer) step ≡ true) = λ inside_others less. inner_first place step nested k (omega arith) inside_others outer less holds in
-      by_test (loop_reaches (nth ops k) place) refl further
+  -- whoever holds `index` reaches what the innermost holder reaches, if that is so of the indexes before
+  pub inner_first : (index step : ℕ)
+      → ((inner : ℕ) → inner < index → (predicate : Predicate) (end : ℕ) → nth ops inner ≡ Some (Enter predicate end) → (outer : ℕ) → outer < inner → loop_reaches (nth ops outer) inner ≡ true → loop_reaches (nth ops outer) end ≡ true)
+      → (k : ℕ) → k ≤ index → in_innermost ops (loops_among ops index k) step ≡ true → (outer : ℕ) → outer < k → loop_reaches (nth ops outer) index ≡ true → loop_reaches (nth ops outer) step ≡ true
+  inner_first index step nested zero le inside_it outer below holds = absurd (omega arith)
+  inner_first index step nested (suc k) le inside_it outer below holds =
+      let further : (in_innermost ops (loops_among ops index k) step ≡ true → outer < k → loop_reaches (nth ops outer) step ≡ true) = λ inside_others less. inner_first index step nested k (omega arith) inside_others outer less holds in
+      by_test (loop_reaches (nth ops k) index) refl further
     where
-      by_test : (test : Bool) → loop_reaches (nth ops k) place ≡ test → (in_innermost ops (loops_among ops place k) step ≡ true → outer < k → loop_reaches (nth ops outer) step ≡ true) → loop_reaches (nth ops outer) step ≡ true
+      by_test : (test : Bool) → loop_reaches (nth ops k) index ≡ test → (in_innermost ops (loops_among ops index k) step ≡ true → outer < k → loop_reaches (nth ops outer) step ≡ true) → loop_reaches (nth ops outer) step ≡ true
       by_test true is further =
           let ends_inside : loop_reaches (nth ops k) step ≡ true = rw is at inside_it in
           let inner = reaching (nth ops k) step ends_inside in
@@ -217,14 +217,14 @@ module _ (ops : List Op) (paired : (place : ℕ) (op : Op) → nth ops place ≡
           elim (leb_tells k outer) [
             | inl w ↦ let same : k ≡ outer = omega (arith, w.1) in subst (λ enter. loop_reaches (nth ops enter) step ≡ true) same ends_inside
             | inr w ↦
-                let holds_inner : loop_reaches (nth ops outer) k ≡ true = reaches_less (nth ops outer) place k (omega arith) holds in
+                let holds_inner : loop_reaches (nth ops outer) k ≡ true = reaches_less (nth ops outer) index k (omega arith) holds in
                 let holds_end : loop_reaches (nth ops outer) inner.1 ≡ true = nested k (omega arith) inner.0 inner.1 inner.2 outer w.1 holds_inner in
                 reaches_less (nth ops outer) inner.1 step far holds_end
           ]
       by_test false is further =
-          let others : in_innermost ops (loops_among ops place k) step ≡ true = rw is at inside_it in
+          let others : in_innermost ops (loops_among ops index k) step ≡ true = rw is at inside_it in
           elim (leb_tells k outer) [
-            | inl w ↦ let same : k ≡ outer = omega (arith, w.1) in absurd (let clash : loop_reaches (nth ops k) place ≡ true = subst (λ enter. loop_reaches (nth ops enter) place ≡ true) (sym same) holds in cc)
+            | inl w ↦ let same : k ≡ outer = omega (arith, w.1) in absurd (let clash : loop_reaches (nth ops k) index ≡ true = subst (λ enter. loop_reaches (nth ops enter) index ≡ true) (sym same) holds in cc)
             | inr w ↦ further others w.1
           ]
 
@@ -246,7 +246,7 @@ module _ (ops : List Op) (paired : (place : ℕ) (op : Op) → nth ops place ≡
 
     -- at a Step, no loop that began after its Enter is still open, and those around are the same as at the Enter
     none_inside : (predicate : Predicate) (enter step : ℕ) → nth ops step ≡ Some (Step predicate enter) → step ≤ n → (inner : ℕ) → suc enter ≤ inner → inner < step → loop_reaches (nth ops inner) step ≡ false
-    none_inside predicate enter step there le inner behind below = not_true (loop_reaches (nth ops inner) step) (λ h.
+    none_inside predicate enter step there le inner later below = not_true (loop_reaches (nth ops inner) step) (λ h.
         let itself = step_pairs predicate step enter there in
         let r = reaching (nth ops inner) step h in
         let far = r.3 in
@@ -273,37 +273,37 @@ module _ (ops : List Op) (paired : (place : ℕ) (op : Op) → nth ops place ≡
     innermost_at_step predicate step enter there le =
         let itself = step_pairs predicate step enter there in
         let ahead = itself.0 in
-        let down : loops_among ops step step ≡ loops_among ops step (suc enter) = none_behind ops step (suc enter) step (omega arith) (none_inside predicate enter step there le) in
+        let down : loops_among ops step step ≡ loops_among ops step (suc enter) = none_after ops step (suc enter) step (omega arith) (none_inside predicate enter step there le) in
         let own : loop_reaches (nth ops enter) step ≡ true = rw itself.1 (le-leb step step (omega arith)) in
         let around : loops_among ops step enter ≡ loops_among ops enter enter = holding_alike ops step enter enter (same_around predicate enter step there le) in
         rw (down, own, around) refl
 
     -- after a Step its loop has ended
-    pub behind_step : (predicate : Predicate) (step enter : ℕ) → nth ops step ≡ Some (Step predicate enter) → step ≤ n → loops_around ops (suc step) ≡ loops_around ops enter
-    behind_step predicate step enter there le =
+    pub after_step : (predicate : Predicate) (step enter : ℕ) → nth ops step ≡ Some (Step predicate enter) → step ≤ n → loops_around ops (suc step) ≡ loops_around ops enter
+    after_step predicate step enter there le =
         let itself = step_pairs predicate step enter there in
         let ahead = itself.0 in
         let other : (outer : ℕ) → (outer ≡ enter → ⊥) → loop_reaches (nth ops outer) (suc step) ≡ loop_reaches (nth ops outer) step = λ outer differs. held_further step outer (λ family is. differs (let same : outer ≡ enter = cc in same)) in
         let not_step : loop_reaches (nth ops step) (suc step) ≡ false = rw there refl in
         let own : loop_reaches (nth ops enter) (suc step) ≡ false = rw itself.1 (lt-leb (suc step) step (omega arith)) in
         let down : loops_among ops (suc step) step ≡ loops_among ops (suc step) (suc enter) =
-        none_behind ops (suc step) (suc enter) step (omega arith) (λ inner behind below. other inner (λ same. omega arith) ∙ none_inside predicate enter step there le inner behind below) in
+        none_after ops (suc step) (suc enter) step (omega arith) (λ inner later below. other inner (λ same. omega arith) ∙ none_inside predicate enter step there le inner later below) in
         let around : loops_among ops (suc step) enter ≡ loops_among ops enter enter =
         holding_alike ops (suc step) enter enter (λ outer below. other outer (λ same. omega arith) ∙ same_around predicate enter step there le outer below) in
         rw (not_step, down, own, around) refl
 
-    pub behind_enter : (predicate : Predicate) (enter step : ℕ) → nth ops enter ≡ Some (Enter predicate step) → step ≤ n → (loops_around ops (suc step) ≡ loops_around ops enter) × (nth ops step ≡ Some (Step predicate enter))
-    behind_enter predicate enter step there le =
+    pub after_enter : (predicate : Predicate) (enter step : ℕ) → nth ops enter ≡ Some (Enter predicate step) → step ≤ n → (loops_around ops (suc step) ≡ loops_around ops enter) × (nth ops step ≡ Some (Step predicate enter))
+    after_enter predicate enter step there le =
         let pair = enter_pairs predicate enter step there in
-        (behind_step predicate step enter pair.1 le, pair.1)
+        (after_step predicate step enter pair.1 le, pair.1)
 
   -- a jump is forward, to an index inside that the same loops hold
-  stays_by : (place target named : ℕ) → named ≡ target → forward ops place named ≡ None → stays ops place named ≡ None → (place < target) × (target < length ops) × (loops_around ops place ≡ loops_around ops target)
-  stays_by place target named is ahead stay =
-      let bounds = is_ahead ops place named ahead in
-      let same : loops_around ops place ≡ loops_around ops named = the_same_loops (loops_around ops place) (loops_around ops named) (no_reason (same_loops (loops_around ops place) (loops_around ops named)) _ stay) in
-      subst (λ p. (place < p) × (p < length ops) × (loops_around ops place ≡ loops_around ops p)) is (bounds.0, bounds.1, same)
+  stays_by : (index target named : ℕ) → named ≡ target → forward ops index named ≡ None → stays ops index named ≡ None → (index < target) × (target < length ops) × (loops_around ops index ≡ loops_around ops target)
+  stays_by index target named is ahead stay =
+      let bounds = is_ahead ops index named ahead in
+      let same : loops_around ops index ≡ loops_around ops named = the_same_loops (loops_around ops index) (loops_around ops named) (no_reason (same_loops (loops_around ops index) (loops_around ops named)) _ stay) in
+      subst (λ p. (index < p) × (p < length ops) × (loops_around ops index ≡ loops_around ops p)) is (bounds.0, bounds.1, same)
 
-  pub same_target : (place target : ℕ) (op : Op) → JumpsTo op target → nth ops place ≡ Some op → nests_well ops place op ≡ None → (place < target) × (target < length ops) × (loops_around ops place ≡ loops_around ops target)
-  same_target place target (Jump jump named) jumps there nested = stays_by place target named jumps (paired place (Jump jump named) there) nested
-  same_target place target op jumps there nested = absurd jumps
+  pub same_target : (index target : ℕ) (op : Op) → JumpsTo op target → nth ops index ≡ Some op → nests_well ops index op ≡ None → (index < target) × (target < length ops) × (loops_around ops index ≡ loops_around ops target)
+  same_target index target (Jump jump named) jumps there nested = stays_by index target named jumps (paired index (Jump jump named) there) nested
+  same_target index target op jumps there nested = absurd jumps

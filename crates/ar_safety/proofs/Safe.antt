@@ -12,7 +12,7 @@ use Rattle.ar_safety.specs.Arrivals.{Sent, deepest, height, sent}
 use Rattle.ar_safety.specs.Safety.{IsSafe}
 use Rattle.ar_safety.specs.Verdict.{IsVerified}
 use Rattle.ar_safety.proofs.Arriving.{all_more}
-use Rattle.ar_safety.proofs.Dearest.{budget_is_due, due, prices}
+use Rattle.ar_safety.proofs.Costliest.{budget_is_due, due, prices}
 use Rattle.ar_safety.proofs.Reached.{clean, first_inside}
 use Rattle.ar_safety.proofs.Passing.{all_hold}
 use Rattle.ar_safety.proofs.Runs.{all_below, runs_safely}
@@ -26,9 +26,9 @@ pub verified_is_safe : (code : Code) (shape : Shape) (budget depth : ℕ) (value
 verified_is_safe code shape budget depth value is_code verified fit =
     let found_clean = clean code shape verified.sents verified.passes in
     let inside = recursion_from_All (Inside (length code.texts) (length code.names)) code.ops is_code.inside in
-    let safe = runs_safely code shape verified.sents found_clean (λ place op there. all_nth (Inside (length code.texts) (length code.names)) code.ops place op inside there) value fit (due code shape verified.sents found_clean)
+    let safe = runs_safely code shape verified.sents found_clean (λ index op there. all_nth (Inside (length code.texts) (length code.names)) code.ops index op inside there) value fit (due code shape verified.sents found_clean)
     (prices code shape verified.sents found_clean) in
-    let same = budget_is_due code shape verified.sents found_clean budget (first_inside code shape verified.sents found_clean) verified.dearest in
+    let same = budget_is_due code shape verified.sents found_clean budget (first_inside code shape verified.sents found_clean) verified.costliest in
     subst (λ budget. IsSafe code value budget depth) same (subst (λ depth. IsSafe code value (due code shape verified.sents found_clean 0) depth) (sym verified.deepest) safe)
 
 -- ---- how many operands there are
@@ -41,7 +41,7 @@ pub few_operands : (code : Code) (shape : Shape) (budget depth : ℕ) → IsVeri
 few_operands code shape budget depth verified =
     let is = clean code shape verified.sents verified.passes in
     let low = all_hold code shape code.ops (λ one. height one.operands ≤ most_operands) verified.sents
-    (λ place op had more before there came arrive sends all. all_more (λ one. height one.operands ≤ deepest more) (λ one. height one.operands ≤ most_operands) more (λ one h. let few = sends.shallow in omega arith) (all_below more))
+    (λ index op had more before there came arrive sends all. all_more (λ one. height one.operands ≤ deepest more) (λ one. height one.operands ≤ most_operands) more (λ one h. let few = sends.shallow in omega arith) (all_below more))
     0 code.ops (sent 0 [] [] ∷ []) (λ n op there. let start : n + 0 ≡ n = omega arith in rw start there) is.paired is.all (omega arith, tt) in
     let below = deepest_by most_operands verified.sents low in
     let depth_is = verified.deepest in

@@ -4,7 +4,7 @@
 use Rattle.std.specs.Prelude.{ℕ, suc, ◌+◌, max, ◌==◌, Bool, if◌then◌else◌, nat_lt, List, [], ◌∷◌, ◌++◌, is_none, length, nat_le, Option, Some, None, option_map, option_and_then, Result, Ok, Err}
 use Rattle.ar_value.specs.Terms.{Index}
 use Rattle.ar_value.specs.Answer.{◌>>=◌}
-use Rattle.ar_value.specs.Kind.{Kind, shaped, merge, truth_kind}
+use Rattle.ar_value.specs.Kind.{Kind, shaped, merge, boolean_kind}
 use Rattle.ar_value.specs.Shape.{Shape, bool, whole, list}
 use Rattle.ar_value.specs.declared.operator.Predicate.{Predicate}
 use Rattle.ar_value.specs.declared.operator.Predicate.TheVariants as predicates
@@ -56,9 +56,9 @@ sent target kinds loops = record { target = target; operands = operands kinds lo
 
 -- ---- what arrives at an index
 
-abbrev pub sent_to : (place : Index) → List Sent → List Operands
-sent_to place [] = []
-sent_to place (one ∷ others) = if one.target == place then one.operands ∷ sent_to place others else sent_to place others
+abbrev pub sent_to : (index : Index) → List Sent → List Operands
+sent_to index [] = []
+sent_to index (one ∷ others) = if one.target == index then one.operands ∷ sent_to index others else sent_to index others
 
 -- kind by kind, where there are as many
 abbrev pub merged : List Kind → List Kind → Option (List Kind)
@@ -93,54 +93,54 @@ lacks (ops.Push sources.Item) had = is_none (innermost_shape had.loops)
 lacks op had = nat_lt (length had.kinds) (takes op)
 
 -- where a boolean is on top
-abbrev pub on_truth_kind : List Kind → (List Kind → Result (List Sent) Reason) → Result (List Sent) Reason
-on_truth_kind (shaped bool ∷ kinds) next = next kinds
-on_truth_kind kinds next = Err IllKinded
+abbrev pub on_boolean_kind : List Kind → (List Kind → Result (List Sent) Reason) → Result (List Sent) Reason
+on_boolean_kind (shaped bool ∷ kinds) next = next kinds
+on_boolean_kind kinds next = Err IllKinded
 
 abbrev pub to_next : Index → List Around → Option (List Kind) → Result (List Sent) Reason
-to_next place loops (Some kinds) = Ok (sent (suc place) kinds loops ∷ [])
-to_next place loops None = Err IllKinded
+to_next index loops (Some kinds) = Ok (sent (suc index) kinds loops ∷ [])
+to_next index loops None = Err IllKinded
 
 -- what a loop gives over a list of at most `most` items of a shape
 abbrev pub answer_kind : Predicate → Shape → (most : ℕ) → Kind
-answer_kind predicates.All item most = truth_kind
-answer_kind predicates.Any item most = truth_kind
-answer_kind predicates.None item most = truth_kind
-answer_kind predicates.One item most = truth_kind
+answer_kind predicates.All item most = boolean_kind
+answer_kind predicates.Any item most = boolean_kind
+answer_kind predicates.None item most = boolean_kind
+answer_kind predicates.One item most = boolean_kind
 answer_kind predicates.Count item most = shaped whole
 answer_kind predicates.Filter item most = shaped (list item most)
 
 -- to the begin of a loop's body, with the operands below its floor alone, and after the loop with its answer
-abbrev pub loop_entered : Predicate → (place step : Index) → List Kind → List Around → Result (List Sent) Reason
-loop_entered predicate place step (shaped (list item most) ∷ kinds) loops =
-    Ok (sent (suc place) [] (record { item = item; most = most; below = kinds } ∷ loops)
+abbrev pub loop_entered : Predicate → (index step : Index) → List Kind → List Around → Result (List Sent) Reason
+loop_entered predicate index step (shaped (list item most) ∷ kinds) loops =
+    Ok (sent (suc index) [] (record { item = item; most = most; below = kinds } ∷ loops)
     ∷ sent (suc step) (answer_kind predicate item most ∷ kinds) loops ∷ [])
-loop_entered predicate place step kinds loops = Err IllKinded
+loop_entered predicate index step kinds loops = Err IllKinded
 
 -- after a loop, where nothing but its boolean was above its floor
-abbrev pub loop_ended : Predicate → (place : Index) → List Kind → List Around → Result (List Sent) Reason
-loop_ended predicate place [] (loop ∷ outer) =
-    Ok (sent (suc place) (answer_kind predicate loop.item loop.most ∷ loop.below) outer ∷ [])
-loop_ended predicate place kinds loops = Err BadMerge
+abbrev pub loop_ended : Predicate → (index : Index) → List Kind → List Around → Result (List Sent) Reason
+loop_ended predicate index [] (loop ∷ outer) =
+    Ok (sent (suc index) (answer_kind predicate loop.item loop.most ∷ loop.below) outer ∷ [])
+loop_ended predicate index kinds loops = Err BadMerge
 
 -- to the target of a jump or on, with the boolean on top where it stays
-abbrev pub jump_sends : Jump → (place target : Index) → List Kind → List Around → Result (List Sent) Reason
-jump_sends jumps.And place target kinds loops =
-    on_truth_kind kinds (λ taken. Ok (sent target kinds loops ∷ sent (suc place) taken loops ∷ []))
-jump_sends jumps.Or place target kinds loops =
-    on_truth_kind kinds (λ taken. Ok (sent target kinds loops ∷ sent (suc place) taken loops ∷ []))
-jump_sends jumps.Branch place target kinds loops =
-    on_truth_kind kinds (λ taken. Ok (sent target taken loops ∷ sent (suc place) taken loops ∷ []))
-jump_sends jumps.Always place target kinds loops = Ok (sent target kinds loops ∷ [])
+abbrev pub jump_sends : Jump → (index target : Index) → List Kind → List Around → Result (List Sent) Reason
+jump_sends jumps.And index target kinds loops =
+    on_boolean_kind kinds (λ taken. Ok (sent target kinds loops ∷ sent (suc index) taken loops ∷ []))
+jump_sends jumps.Or index target kinds loops =
+    on_boolean_kind kinds (λ taken. Ok (sent target kinds loops ∷ sent (suc index) taken loops ∷ []))
+jump_sends jumps.Branch index target kinds loops =
+    on_boolean_kind kinds (λ taken. Ok (sent target taken loops ∷ sent (suc index) taken loops ∷ []))
+jump_sends jumps.Always index target kinds loops = Ok (sent target kinds loops ∷ [])
 
-abbrev pub passed_on : Code → Shape → (place : Index) → Op → List Kind → List Around → Result (List Sent) Reason
-passed_on code result place (ops.Jump jump target) kinds loops = jump_sends jump place target kinds loops
-passed_on code result place (ops.Enter predicate step) kinds loops = loop_entered predicate place step kinds loops
-passed_on code result place (ops.Step predicate enter) kinds loops =
-    on_truth_kind kinds (λ taken. loop_ended predicate place taken loops)
-passed_on code result place ops.Return kinds loops = on_truth_kind kinds (λ taken. Ok [])
-passed_on code result place op kinds loops =
-    to_next place loops (kinds_left code result (innermost_shape loops) op kinds)
+abbrev pub passed_on : Code → Shape → (index : Index) → Op → List Kind → List Around → Result (List Sent) Reason
+passed_on code result index (ops.Jump jump target) kinds loops = jump_sends jump index target kinds loops
+passed_on code result index (ops.Enter predicate step) kinds loops = loop_entered predicate index step kinds loops
+passed_on code result index (ops.Step predicate enter) kinds loops =
+    on_boolean_kind kinds (λ taken. loop_ended predicate index taken loops)
+passed_on code result index ops.Return kinds loops = on_boolean_kind kinds (λ taken. Ok [])
+passed_on code result index op kinds loops =
+    to_next index loops (kinds_left code result (innermost_shape loops) op kinds)
 
 -- the greatest number of operands on the way anywhere
 abbrev pub deepest : List Sent → ℕ
@@ -150,28 +150,28 @@ deepest (one ∷ others) = max (height one.operands) (deepest others)
 abbrev pub where_shallow : List Sent → Result (List Sent) Reason
 where_shallow sents = if nat_le (deepest sents) most_operands then Ok sents else Err StackTooDeep
 
--- what an operation at `place` sends on, of operands that arrived there
-abbrev pub sends : Code → Shape → (place : Index) → Op → Operands → Result (List Sent) Reason
-sends code result place op had =
-    if lacks op had then Err MissingOperand else passed_on code result place op had.kinds had.loops >>= where_shallow
+-- what an operation at `index` sends on, of operands that arrived there
+abbrev pub sends : Code → Shape → (index : Index) → Op → Operands → Result (List Sent) Reason
+sends code result index op had =
+    if lacks op had then Err MissingOperand else passed_on code result index op had.kinds had.loops >>= where_shallow
 
 -- ---- pass 5: all that is sent, by one operation after another
 
-abbrev pub at_place : {A : Type 0} → Index → Result A Reason → Result A Cause
-at_place place (Ok x) = Ok x
-at_place place (Err reason) = Err (Fault place reason)
+abbrev pub at_index : {A : Type 0} → Index → Result A Reason → Result A Cause
+at_index index (Ok x) = Ok x
+at_index index (Err reason) = Err (Fault index reason)
 
--- what operations send on from `place`, after what was sent before
-abbrev pub sent_on : Code → Shape → (place : Index) → List Op → List Sent → Result (List Sent) Cause
-sent_on code result place [] before = Ok before
-sent_on code result place (op ∷ ops) before =
-    at_place place (arrived (sent_to place before) >>= sends code result place op)
-    >>= λ more. sent_on code result (suc place) ops (before ++ more)
+-- what operations send on from `index`, after what was sent before
+abbrev pub sent_on : Code → Shape → (index : Index) → List Op → List Sent → Result (List Sent) Cause
+sent_on code result index [] before = Ok before
+sent_on code result index (op ∷ ops) before =
+    at_index index (arrived (sent_to index before) >>= sends code result index op)
+    >>= λ more. sent_on code result (suc index) ops (before ++ more)
 
 -- a run begins at the first index, without operands
 abbrev pub all_sent : Code → Shape → Result (List Sent) Cause
 all_sent code result = sent_on code result 0 code.ops (sent 0 [] [] ∷ [])
 
--- what arrives at `place` of all that is sent
-abbrev pub arrival : (place : Index) → List Sent → Result Operands Reason
-arrival place sents = arrived (sent_to place sents)
+-- what arrives at `index` of all that is sent
+abbrev pub arrival : (index : Index) → List Sent → Result Operands Reason
+arrival index sents = arrived (sent_to index sents)

@@ -34,7 +34,7 @@ price op most = 1
 
 -- by a jump
 abbrev pub JumpsTo : Op → Index → Type 0
-JumpsTo (Jump jump place) target = place ≡ target
+JumpsTo (Jump jump index) target = index ≡ target
 JumpsTo (Push source) target = ⊥
 JumpsTo (MakeList scalar count) target = ⊥
 JumpsTo (Field number) target = ⊥
@@ -45,19 +45,19 @@ JumpsTo (Step predicate enter) target = ⊥
 JumpsTo Return target = ⊥
 
 -- at the next index
-abbrev pub GoesOn : Op → Type 0
-GoesOn (Push source) = Unit {0}
-GoesOn (MakeList scalar count) = Unit {0}
-GoesOn (Field number) = Unit {0}
-GoesOn (Unary operator) = Unit {0}
-GoesOn (Binary operator) = Unit {0}
-GoesOn (Jump And place) = Unit {0}
-GoesOn (Jump Or place) = Unit {0}
-GoesOn (Jump Branch place) = Unit {0}
-GoesOn (Jump Always place) = ⊥
-GoesOn (Enter predicate step) = ⊥
-GoesOn (Step predicate enter) = ⊥
-GoesOn Return = ⊥
+abbrev pub Continues : Op → Type 0
+Continues (Push source) = Unit {0}
+Continues (MakeList scalar count) = Unit {0}
+Continues (Field number) = Unit {0}
+Continues (Unary operator) = Unit {0}
+Continues (Binary operator) = Unit {0}
+Continues (Jump And index) = Unit {0}
+Continues (Jump Or index) = Unit {0}
+Continues (Jump Branch index) = Unit {0}
+Continues (Jump Always index) = ⊥
+Continues (Enter predicate step) = ⊥
+Continues (Step predicate enter) = ⊥
+Continues Return = ⊥
 
 -- nowhere: a Return ends the run, and a Step a way through the body of its loop
 abbrev pub Stops : Op → Type 0
@@ -66,7 +66,7 @@ Stops (MakeList scalar count) = ⊥
 Stops (Field number) = ⊥
 Stops (Unary operator) = ⊥
 Stops (Binary operator) = ⊥
-Stops (Jump jump place) = ⊥
+Stops (Jump jump index) = ⊥
 Stops (Enter predicate step) = ⊥
 Stops (Step predicate enter) = Unit {0}
 Stops Return = Unit {0}
@@ -74,26 +74,26 @@ Stops Return = Unit {0}
 -- ---- ways forward from an index, by what they cost
 
 module _ (ops : List Op) (sents : List Sent) where
-  abbrev pub At : (place : Index) → Op → Type 0
-  At place op = nth ops place ≡ Some op
+  abbrev pub At : (index : Index) → Op → Type 0
+  At index op = nth ops index ≡ Some op
 
-  abbrev pub most_at : (place : Index) → ℕ
-  most_at place = most_items (arrival place sents)
+  abbrev pub most_at : (index : Index) → ℕ
+  most_at index = most_items (arrival index sents)
 
-  pub data Way : (place : Index) → (cost : ℕ) → Type 0 where
-    stops : {place : ℕ} {op : Op} → At place op → Stops op → Way place 1
-    goes_on : {place cost : ℕ} {op : Op} → At place op → GoesOn op → Way (suc place) cost
-        → Way place (price op (most_at place) + cost)
-    jumps : {place target cost : ℕ} {op : Op} → At place op → JumpsTo op target → Way target cost → Way place (suc cost)
-    loops : {place step body cost : ℕ} {predicate : Predicate} → At place (Enter predicate step) → Way (suc place) body
+  pub data Way : (index : Index) → (cost : ℕ) → Type 0 where
+    stops : {index : ℕ} {op : Op} → At index op → Stops op → Way index 1
+    continues : {index cost : ℕ} {op : Op} → At index op → Continues op → Way (suc index) cost
+        → Way index (price op (most_at index) + cost)
+    jumps : {index target cost : ℕ} {op : Op} → At index op → JumpsTo op target → Way target cost → Way index (suc cost)
+    loops : {index step body cost : ℕ} {predicate : Predicate} → At index (Enter predicate step) → Way (suc index) body
         → Way (suc step) cost
-        → Way place (suc (most_at place * body + cost))
+        → Way index (suc (most_at index * body + cost))
 
-  -- the cost of the most expensive way from `place`
-  pub record IsDearest (place cost : ℕ) : Type 0 where
-    pub way : Way place cost
-    pub dearest : (other : ℕ) → Way place other → other ≤ cost
+  -- the cost of the most expensive way from `index`
+  pub record IsCostliest (index cost : ℕ) : Type 0 where
+    pub way : Way index cost
+    pub costliest : (other : ℕ) → Way index other → other ≤ cost
 
   -- the budget is the cost of the most expensive way from the first index
   abbrev pub IsBudget : (cost : ℕ) → Type 0
-  IsBudget cost = IsDearest 0 cost
+  IsBudget cost = IsCostliest 0 cost

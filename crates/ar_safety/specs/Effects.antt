@@ -2,7 +2,7 @@
 -- of the literal alone: no operation but IsNil and Default takes it.
 use Rattle.std.specs.Prelude.{ℕ, zero, suc, Bool, true, false, ◌&&◌, if◌then◌else◌, List, [], ◌∷◌, Option, Some, None, option_map, option_and_then}
 use Rattle.ar_value.specs.Terms.{Text}
-use Rattle.ar_value.specs.Kind.{Kind, nil, shaped, merge, plain, scalar_shape, truth_kind}
+use Rattle.ar_value.specs.Kind.{Kind, nil, shaped, merge, plain, scalar_shape, boolean_kind}
 use Rattle.ar_value.specs.Shape.{Shape, bool, whole, decimal, text, list, object, optional, shape_named}
 use Rattle.ar_value.specs.declared.operator.Arithmetic.{Arithmetic}
 use Rattle.ar_value.specs.declared.operator.Arithmetic.TheVariants.{Divide}
@@ -28,7 +28,7 @@ use Rattle.ar_op.specs.declared.op.Source.TheVariants as sources
 -- ---- scalars
 
 abbrev pub family_of : Shape → Option Family
-family_of bool = Some families.Truth
+family_of bool = Some families.Boolean
 family_of whole = Some families.Number
 family_of decimal = Some families.Number
 family_of text = Some families.Text
@@ -40,7 +40,7 @@ family_in nil = None
 family_in (shaped shape) = family_of (plain shape)
 
 abbrev pub is_family : Family → Option Family → Bool
-is_family families.Truth (Some families.Truth) = true
+is_family families.Boolean (Some families.Boolean) = true
 is_family families.Number (Some families.Number) = true
 is_family families.Text (Some families.Text) = true
 is_family family other = false
@@ -94,11 +94,11 @@ decimal_kind nil = None
 
 abbrev pub member_kind : (operand list : Kind) → Option Kind
 member_kind operand (shaped (list shape max)) =
-    where_taken (are_one_family (family_in operand) (family_of (plain shape))) truth_kind
+    where_taken (are_one_family (family_in operand) (family_of (plain shape))) boolean_kind
 member_kind operand kind = None
 
 abbrev pub opposite_kind : Kind → Option Kind
-opposite_kind kind = where_taken (is_scalar_kind scalars.Bool kind) truth_kind
+opposite_kind kind = where_taken (is_scalar_kind scalars.Bool kind) boolean_kind
 
 abbrev pub quotient_kind : Arithmetic → Kind
 quotient_kind Divide = shaped decimal
@@ -130,22 +130,22 @@ is_compared DecimalsOnly kind = is_scalar_kind scalars.Decimal kind
 is_compared Mixed kind = is_number kind
 
 abbrev pub order_kind : Compared → (left right : Kind) → Option Kind
-order_kind numbers left right = where_taken (is_compared numbers left && is_compared numbers right) truth_kind
+order_kind numbers left right = where_taken (is_compared numbers left && is_compared numbers right) boolean_kind
 
 abbrev pub equal_kind : Family → (left right : Kind) → Option Kind
 equal_kind family left right =
-    where_taken (is_family family (family_in left) && is_family family (family_in right)) truth_kind
+    where_taken (is_family family (family_in left) && is_family family (family_in right)) boolean_kind
 
 abbrev pub text_test_kind : (left right : Kind) → Option Kind
 text_test_kind left right =
-    where_taken (is_scalar_kind scalars.Text left && is_scalar_kind scalars.Text right) truth_kind
+    where_taken (is_scalar_kind scalars.Text left && is_scalar_kind scalars.Text right) boolean_kind
 
 -- ---- operators by their families
 
 abbrev pub unary_kind : UnaryOperator → Kind → Option Kind
 unary_kind unary.Len = length_kind
 unary_kind unary.Need = needed_kind
-unary_kind unary.IsNil = λ kind. Some truth_kind
+unary_kind unary.IsNil = λ kind. Some boolean_kind
 unary_kind unary.ToDecimal = decimal_kind
 unary_kind unary.Not = opposite_kind
 unary_kind (unary.Negate of) = negative_kind of
@@ -179,7 +179,7 @@ list_kind_left scalar max (suc n) [] = None
 
 -- what is pushed, where `result` has a shape, and so has the innermost item of a loop
 abbrev pub pushed_kind : Shape → Option Shape → Source → Option Kind
-pushed_kind result here (sources.Bool holds) = Some truth_kind
+pushed_kind result here (sources.Bool holds) = Some boolean_kind
 pushed_kind result here (sources.Whole value) = Some (shaped whole)
 pushed_kind result here (sources.Decimal millionths) = Some (shaped decimal)
 pushed_kind result here (sources.Text number) = Some (shaped text)
@@ -199,7 +199,7 @@ kinds_left code result here (MakeList scalar count) kinds = list_kind_left scala
 kinds_left code result here (Field number) kinds = field_kind_left code number kinds
 kinds_left code result here (Unary operator) kinds = on_one_kind (unary_kind operator) kinds
 kinds_left code result here (Binary operator) kinds = on_two_kinds (binary_kind operator) kinds
-kinds_left code result here (Jump jump place) kinds = None
+kinds_left code result here (Jump jump index) kinds = None
 kinds_left code result here (Enter predicate step) kinds = None
 kinds_left code result here (Step predicate enter) kinds = None
 kinds_left code result here Return kinds = None

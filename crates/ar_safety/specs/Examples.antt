@@ -22,7 +22,7 @@ abbrev of_three : List Op → Result ℕ Cause
 of_three ops = passed (code_of_parts ops [] []) (list whole 3) >>= λ sents. Ok (deepest sents)
 
 abbrev faulty : ℕ → Reason → Result ℕ Cause
-faulty place reason = Err (Fault place reason)
+faulty index reason = Err (Fault index reason)
 
 backward : of_three (Push (sources.Bool true) ∷ Jump jumps.Always 1 ∷ Return ∷ []) ≡ faulty 1 Backward
 backward = refl
@@ -76,9 +76,9 @@ returns_in_loop : of_three (Push sources.Result ∷ Enter All 3 ∷ Return ∷ S
     ≡ faulty 2 CrossesLoop
 returns_in_loop = refl
 
-item_for_truth : of_three (Push sources.Result ∷ Enter All 3 ∷ Push sources.Item ∷ Step All 1 ∷ Return ∷ [])
+item_for_boolean : of_three (Push sources.Result ∷ Enter All 3 ∷ Push sources.Item ∷ Step All 1 ∷ Return ∷ [])
     ≡ faulty 3 IllKinded
-item_for_truth = refl
+item_for_boolean = refl
 
 item_outside : of_three (Push sources.Item ∷ Return ∷ []) ≡ faulty 0 MissingOperand
 item_outside = refl

@@ -1,5 +1,5 @@
 pub mod Bounds
-pub mod Places
+pub mod Indices
 pub mod Effects
 pub mod Arrivals
 pub mod Budget

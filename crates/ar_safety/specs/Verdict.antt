@@ -7,7 +7,7 @@ use Rattle.ar_op.specs.Code.{Code}
 use Rattle.ar_safety.specs.Arrivals.{Sent, all_sent, deepest}
 use Rattle.ar_safety.specs.Bounds.{greatest_budget}
 use Rattle.ar_safety.specs.Budget.{IsBudget, Way}
-use Rattle.ar_safety.specs.Places.{places_pass}
+use Rattle.ar_safety.specs.Indices.{indices_pass}
 use Rattle.ar_safety.specs.declared.error.Cause.{Cause}
 use Rattle.ar_safety.specs.declared.error.Cause.TheVariants.{Fault, OutOfMemory}
 use Rattle.ar_safety.specs.declared.error.Reason.{Reason}
@@ -15,30 +15,31 @@ use Rattle.ar_safety.specs.declared.error.Reason.TheVariants.{BudgetTooLarge}
 
 -- the passes 1 to 4, and then pass 5
 abbrev pub passed : Code → Shape → Result (List Sent) Cause
-passed code shape = places_pass code.ops >>= λ _. all_sent code shape
+passed code shape = indices_pass code.ops >>= λ _. all_sent code shape
 
 -- the verifier accepts the code: it has no fault, costs at most the budget, and has at most `depth` operands
 pub record IsVerified (code : Code) (shape : Shape) (budget depth : ℕ) : Type 0 where
   pub sents : List Sent
   pub passes : passed code shape ≡ Ok sents
-  pub dearest : IsBudget code.ops sents budget
+  pub costliest : IsBudget code.ops sents budget
   pub payable : budget ≤ greatest_budget
   pub deepest : depth ≡ deepest sents
 
 -- a way from the first index costs too much
-pub record IsTooDear (code : Code) (shape : Shape) : Type 0 where
+pub record IsTooExpensive (code : Code) (shape : Shape) : Type 0 where
   pub sents : List Sent
   pub passes : passed code shape ≡ Ok sents
   pub cost : ℕ
   pub way : Way code.ops sents 0 cost
-  pub too_dear : greatest_budget < cost
+  pub too_expensive : greatest_budget < cost
 
 -- the first fault of code: of the passes 1 to 5, or else its budget
-abbrev pub IsFault : Code → Shape → (place : Index) → Reason → Type 0
-IsFault code shape place reason =
-    (passed code shape ≡ Err (Fault place reason)) ⊎ ((place ≡ 0) × (reason ≡ BudgetTooLarge) × IsTooDear code shape)
+abbrev pub IsFault : Code → Shape → (index : Index) → Reason → Type 0
+IsFault code shape index reason =
+    (passed code shape ≡ Err (Fault index reason))
+    ⊎ ((index ≡ 0) × (reason ≡ BudgetTooLarge) × IsTooExpensive code shape)
 
 -- a cause for which code is refused: a fault of it, or out of memory
 abbrev pub IsCause : Code → Shape → Cause → Type 0
-IsCause code shape (Fault place reason) = IsFault code shape place reason
+IsCause code shape (Fault index reason) = IsFault code shape index reason
 IsCause code shape OutOfMemory = Unit {0}

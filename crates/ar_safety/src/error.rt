@@ -34,15 +34,15 @@ impl Reason {
     fn words(self) -> &'static str {
         match self {
             Reason::Empty => "Empty: expected an operation",
-            Reason::JumpOutside => "JumpOutside: expected a place inside the code",
-            Reason::Backward => "Backward: expected a place further on",
+            Reason::JumpOutside => "JumpOutside: expected an index inside the code",
+            Reason::Backward => "Backward: expected a later index",
             Reason::UnpairedLoop =>
-                "UnpairedLoop: expected a loop's Enter and Step to name each other's places",
+                "UnpairedLoop: expected a loop's Enter and Step to have each other's index",
             Reason::LoopsTooDeep => "LoopsTooDeep: expected at most 4 loops around an operation",
             Reason::CrossesLoop =>
                 "CrossesLoop: expected jumps, loops and Returns to stay inside their loop",
             Reason::NoReturn => "NoReturn: expected Return as the last operation",
-            Reason::Unreachable => "Unreachable: expected an operation that a run can come to",
+            Reason::Unreachable => "Unreachable: expected an operation that a run can reach",
             Reason::BadMerge =>
                 "BadMerge: expected operands of the same number and of kinds with one in common, \
                  from wherever a run comes",
@@ -67,8 +67,8 @@ impl fmt::Display for Reason {
 #[derive(Clone, Copy, Debug, Error)]
 pub enum Cause {
     /// The fault is at an operation of the code, counted from 0.
-    #[error("operation {place}: {reason}")]
-    Fault { place: usize, reason: Reason },
+    #[error("operation {index}: {reason}")]
+    Fault { index: usize, reason: Reason },
     #[error("OutOfMemory: the memory for the check of the code was refused")]
     OutOfMemory,
 }

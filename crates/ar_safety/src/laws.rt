@@ -9,18 +9,18 @@ ghost use Rattle.ar_safety.specs.declared.error.Reason.{Reason};
 /// All code is verified for a shape, or has a fault.
 pub fn some_verdict()
     ensures { (code : Code) (shape : Shape) → ((budget : ℕ) × ((depth : ℕ) × IsVerified code shape budget depth))
-        ⊎ ((place : ℕ) × ((reason : Reason) × IsFault code shape place reason)) }
+        ⊎ ((index : ℕ) × ((reason : Reason) × IsFault code shape index reason)) }
 {}
 
-/// No code is both.
+/// No code is both verified for a shape and at fault.
 #[tactic(auto, using(crate::proofs::OneVerdict::one_verdict))]
 pub fn one_verdict()
-    ensures { (code : Code) (shape : Shape) (budget depth place : ℕ) (reason : Reason)
+    ensures { (code : Code) (shape : Shape) (budget depth index : ℕ) (reason : Reason)
         → IsVerified code shape budget depth
-        → IsFault code shape place reason → ⊥ }
+        → IsFault code shape index reason → ⊥ }
 {}
 
-/// Its bounds are those of the code and the shape alone.
+/// Verified code has one budget and one depth: those of the code and the shape alone.
 #[tactic(auto, using(crate::proofs::OneVerdict::same_bounds))]
 pub fn same_bounds()
     ensures { (code : Code) (shape : Shape) (budget depth other_budget other_depth : ℕ)
@@ -28,10 +28,10 @@ pub fn same_bounds()
         → IsVerified code shape other_budget other_depth → (budget ≡ other_budget) × (depth ≡ other_depth) }
 {}
 
-/// So is its fault.
+/// Code that isn't verified has one fault, at one operation: the first that the passes meet.
 #[tactic(auto, using(crate::proofs::OneVerdict::same_fault))]
 pub fn same_fault()
-    ensures { (code : Code) (shape : Shape) (place other_place : ℕ) (reason other_reason : Reason)
-        → IsFault code shape place reason
-        → IsFault code shape other_place other_reason → (place ≡ other_place) × (reason ≡ other_reason) }
+    ensures { (code : Code) (shape : Shape) (index other_index : ℕ) (reason other_reason : Reason)
+        → IsFault code shape index reason
+        → IsFault code shape other_index other_reason → (index ≡ other_index) × (reason ≡ other_reason) }
 {}

@@ -61,6 +61,7 @@ impl Verified {
         }
     }
 
+    /// The code, and what is known of it: its bounds, and how it runs on each value of its shape.
     pub fn code(&self) -> &Code
         ensures code { result.now ≡ self.now.code }
         // It was verified with these bounds.

@@ -39,11 +39,11 @@ pub record EndsAscii (bytes : List ℕ) : Type 0 where
   pub are : bytes ≡ front ++ last ∷ []
   pub small : last < 128
 
-EndsAscii-behind : (front bytes : List ℕ) → EndsAscii bytes → EndsAscii (front ++ bytes)
-EndsAscii-behind front bytes is = record {
+EndsAscii-later : (front bytes : List ℕ) → EndsAscii bytes → EndsAscii (front ++ bytes)
+EndsAscii-later front bytes is = record {
   front = front ++ is.front;
   last = is.last;
-  are = ap (λ (behind : List ℕ). front ++ behind) is.are ∙ sym (append_assoc front is.front (is.last ∷ []));
+  are = ap (λ (later : List ℕ). front ++ later) is.are ∙ sym (append_assoc front is.front (is.last ∷ []));
   small = is.small;
 }
 
@@ -51,11 +51,11 @@ EndsAscii-all : (p : ℕ → Bool) (bytes : List ℕ) → ((byte : ℕ) → p by
 EndsAscii-all p [] small some all = absurd (omega arith)
 EndsAscii-all p (byte ∷ []) small some all = record { front = []; last = byte; are = refl; small = small byte (both_pass (p byte) true all).0 }
 EndsAscii-all p (byte ∷ second ∷ bytes) small some all =
-    EndsAscii-behind (byte ∷ []) (second ∷ bytes) (EndsAscii-all p (second ∷ bytes) small (omega arith) (both_pass (p byte) (list_all p (second ∷ bytes)) all).1)
+    EndsAscii-later (byte ∷ []) (second ∷ bytes) (EndsAscii-all p (second ∷ bytes) small (omega arith) (both_pass (p byte) (list_all p (second ∷ bytes)) all).1)
 
 -- a text may be cut after them
-pub boundary_behind : (bytes front rest : List ℕ) → IsUtf8 bytes → bytes ≡ front ++ rest → EndsAscii front → IsCharBoundary bytes (length front)
-boundary_behind bytes front rest utf8 are ends =
+pub boundary_after : (bytes front rest : List ℕ) → IsUtf8 bytes → bytes ≡ front ++ rest → EndsAscii front → IsCharBoundary bytes (length front)
+boundary_after bytes front rest utf8 are ends =
     let len : length front ≡ length ends.front + 1 = omega (arith, ap length ends.are, length-append ends.front (ends.last ∷ [])) in
     let whole : bytes ≡ ends.front ++ ends.last ∷ rest = are ∙ ap (λ (f : List ℕ). f ++ rest) ends.are ∙ append_assoc ends.front (ends.last ∷ []) rest in
     let last : get_or bytes (length ends.front) 0 ≡ ends.last = ap (λ (b : List ℕ). get_or b (length ends.front) 0) whole ∙ get_or-middle ends.front ends.last rest in
@@ -161,11 +161,11 @@ EndsAscii-spelling sign = EndsAscii-small _ (omega arith) refl
 EndsAscii-whole : (bytes : List ℕ) (magnitude : ℕ) → spelled.SpellsWhole bytes magnitude → EndsAscii bytes
 EndsAscii-whole bytes magnitude (spelled.decimal digits is) = EndsAscii-all is_ascii_digit bytes digit-small digits.0 digits.1
 EndsAscii-whole bytes magnitude (spelled.prefixed base digits are some all is) =
-    subst EndsAscii (sym are) (EndsAscii-behind (spelled.prefix base) digits (EndsAscii-all (is_digit_in base) digits (digit_in-small base) some all))
+    subst EndsAscii (sym are) (EndsAscii-later (spelled.prefix base) digits (EndsAscii-all (is_digit_in base) digits (digit_in-small base) some all))
 
 EndsAscii-decimal : (bytes whole fraction : List ℕ) → spelled.SpellsDecimal bytes whole fraction → EndsAscii bytes
 EndsAscii-decimal bytes whole fraction is =
-    subst EndsAscii (sym is.parts) (EndsAscii-behind whole (46 ∷ fraction) (EndsAscii-behind (46 ∷ []) fraction (EndsAscii-all is_ascii_digit fraction digit-small is.fraction_digits.0 is.fraction_digits.1)))
+    subst EndsAscii (sym is.parts) (EndsAscii-later whole (46 ∷ fraction) (EndsAscii-later (46 ∷ []) fraction (EndsAscii-all is_ascii_digit fraction digit-small is.fraction_digits.0 is.fraction_digits.1)))
 
 EndsAscii-text : (at : ℕ) (bytes value : List ℕ) → spelled.SpellsText at bytes value → EndsAscii bytes
 EndsAscii-text at bytes value is = record { front = is.quote ∷ is.inside; last = is.quote; are = is.are; small = quote-small is.quote is.quotes }
@@ -184,13 +184,13 @@ token_end : (bytes : List ℕ) (at end : ℕ) (kind : TokenKind) → IsUtf8 byte
 token_end bytes at end kind utf8 some within spells =
     let len : length (take (end - at) bytes) ≡ end - at = length-take-le (end - at) bytes (omega arith) in
     subst (IsCharBoundary bytes) len
-    (boundary_behind bytes (take (end - at) bytes) (drop (end - at) bytes) utf8 (sym (take-append-drop (end - at) bytes))
+    (boundary_after bytes (take (end - at) bytes) (drop (end - at) bytes) utf8 (sym (take-append-drop (end - at) bytes))
     (EndsAscii-spells at (take (end - at) bytes) kind (omega (arith, len)) spells))
 
 line_end-chosen : (byte : ℕ) (bytes : List ℕ) (passes : Bool) → in_line byte ≡ passes → (length (line_comment bytes) < length bytes → get_or bytes (length (line_comment bytes)) 0 ≡ 10)
     → length (cond passes (byte ∷ line_comment bytes) []) < length (byte ∷ bytes) → get_or (byte ∷ bytes) (length (cond passes (byte ∷ line_comment bytes) [])) 0 ≡ 10
-line_end-chosen byte bytes true test behind below = behind (omega arith)
-line_end-chosen byte bytes false test behind below = eqb-true byte 10 (not-false (byte == 10) test)
+line_end-chosen byte bytes true test later below = later (omega arith)
+line_end-chosen byte bytes false test later below = eqb-true byte 10 (not-false (byte == 10) test)
 
 line_end : (bytes : List ℕ) → length (line_comment bytes) < length bytes → get_or bytes (length (line_comment bytes)) 0 ≡ 10
 line_end [] below = absurd (omega arith)
@@ -207,8 +207,8 @@ comment_slash at star (byte ∷ bytes) len e = elim (chosen (star && byte == 47)
       let same : at + 1 ≡ len = cc in
       (0, sym same, omega arith, eqb-true byte 47 (both_pass star (byte == 47) stop.0).1)
   | inr go ↦
-      let behind = comment_slash (at + 1) (byte == 42) bytes len go.1 in
-      (suc behind.0, omega (arith, behind.1), omega (arith, behind.2), behind.3)
+      let later = comment_slash (at + 1) (byte == 42) bytes len go.1 in
+      (suc later.0, omega (arith, later.1), omega (arith, later.2), later.3)
 ]
 
 block_boundary : (bytes : List ℕ) (len : ℕ) → IsUtf8 bytes → 2 ≤ length bytes → begins_block_comment bytes ≡ true → comment_end 2 false (drop 2 bytes) ≡ Some len → IsCharBoundary bytes len
@@ -216,8 +216,8 @@ block_boundary bytes len utf8 two begins ends =
     let star = eqb-true (slice_index bytes 1) 42 (both_pass (slice_index bytes 0 == 47) (slice_index bytes 1 == 42) begins).1 in
     let inside : IsCharBoundary bytes 2 = IsCharBoundary-after_ascii bytes 1 utf8 (omega arith) (omega (arith, star)) in
     let slash = comment_slash 2 false (drop 2 bytes) len ends in
-    let behind = IsCharBoundary-after_ascii (drop 2 bytes) slash.0 (IsUtf8-drop bytes 2 utf8 inside) slash.2 (omega (arith, slash.3)) in
-    subst (IsCharBoundary bytes) (sym slash.1) (IsCharBoundary-from_rest bytes 2 (slash.0 + 1) two behind)
+    let later = IsCharBoundary-after_ascii (drop 2 bytes) slash.0 (IsUtf8-drop bytes 2 utf8 inside) slash.2 (omega (arith, slash.3)) in
+    subst (IsCharBoundary bytes) (sym slash.1) (IsCharBoundary-from_rest bytes 2 (slash.0 + 1) two later)
 
 blank-small : (byte : ℕ) → is_blank byte ≡ true → byte < 128
 blank-small byte h = elim (or_cases _ (byte == 10) h) [
@@ -240,19 +240,19 @@ gap_end-begins bytes len utf8 some within (spelled.block is ends) =
 
 -- a text whose rest begins with a blank, a comment or a token may be cut after that
 module _ (text : List ℕ) (at : ℕ) (utf8 : IsUtf8 text) (boundary : IsCharBoundary text at) where
-  pub boundary_behind_gap : (len : ℕ) → IsFrontGap (drop at text) len → IsCharBoundary text (at + len)
-  boundary_behind_gap len gap = IsCharBoundary-from_rest text at len boundary.0 (gap_end-begins (drop at text) len (IsUtf8-drop text at utf8 boundary) gap.some gap.within gap.begins)
+  pub boundary_after_gap : (len : ℕ) → IsFrontGap (drop at text) len → IsCharBoundary text (at + len)
+  boundary_after_gap len gap = IsCharBoundary-from_rest text at len boundary.0 (gap_end-begins (drop at text) len (IsUtf8-drop text at utf8 boundary) gap.some gap.within gap.begins)
 
-  pub boundary_behind_token : (token : Token) → IsFront at (drop at text) token → IsCharBoundary text token.span.end
-  boundary_behind_token token front =
-      let behind = IsCharBoundary-from_rest text at (token.span.end - at) boundary.0 (token_end (drop at text) at token.span.end token.kind (IsUtf8-drop text at utf8 boundary) front.some front.within front.spells) in
-      subst (IsCharBoundary text) (omega (arith, front.some)) behind
+  pub boundary_after_token : (token : Token) → IsFront at (drop at text) token → IsCharBoundary text token.span.end
+  boundary_after_token token front =
+      let later = IsCharBoundary-from_rest text at (token.span.end - at) boundary.0 (token_end (drop at text) at token.span.end token.kind (IsUtf8-drop text at utf8 boundary) front.some front.within front.spells) in
+      subst (IsCharBoundary text) (omega (arith, front.some)) later
 
 -- ---- words
 
 word_boundary-chosen : (bytes front : List ℕ) → IsUtf8 bytes → bytes ≡ front ++ drop (length front) bytes → list_all continues_word front ≡ true → IsCharBoundary bytes (length front)
 word_boundary-chosen bytes [] utf8 are all = IsCharBoundary-start bytes utf8
-word_boundary-chosen bytes (byte ∷ front) utf8 are all = boundary_behind bytes (byte ∷ front) _ utf8 are (EndsAscii-all continues_word (byte ∷ front) continues-small (omega arith) all)
+word_boundary-chosen bytes (byte ∷ front) utf8 are all = boundary_after bytes (byte ∷ front) _ utf8 are (EndsAscii-all continues_word (byte ∷ front) continues-small (omega arith) all)
 
 -- a text may be cut after the word at its front
 pub word_boundary : (text bytes : List ℕ) (len : ℕ) → IsUtf8 text → bytes ≡ text → len ≡ length (word_at bytes) → IsCharBoundary text len

@@ -2,7 +2,7 @@
 use Rattle.std.proofs.Common.{◌≡◌, ℕ, zero, suc, ◌<◌, Some, true, false, List, [], ◌∷◌, ◌++◌, length, refl, ◌∙◌, ap, arith, length-append}
 use Rattle.std.specs.Prelude.{slice_get}
 use Rattle.ar_tree.specs.Expression.{Expression}
-use Rattle.ar_syntax.specs.Machine.{Frame, RightOf, Prefixed, No, Have, climbed, unwound}
+use Rattle.ar_syntax.specs.Machine.{Frame, RightOf, Prefixed, Else, Have, climbed, unwound}
 use Rattle.ar_syntax.specs.Private.Frames.{closed_by, phrase_ended, ends, ends_below, frame_of, frames_of, top_ends, unwinds}
 use Rattle.ar_syntax.specs.declared.climb.Reach.{Reach}
 use Rattle.ar_syntax.specs.declared.climb.Reach.TheVariants.{Level, Ender}
@@ -33,14 +33,14 @@ climbed-stays level (frame ∷ stack) tree stays = refl
 unwound-ended : (frame : Frame) (stack : List Frame) (tree : Expression) → unwinds frame ≡ true → unwound (frame ∷ stack) tree ≡ unwound stack (closed_by frame tree)
 unwound-ended (RightOf at operator first) stack tree ends = refl
 unwound-ended (Prefixed at operator) stack tree ends = refl
-unwound-ended (No at condition met) stack tree ends = refl
+unwound-ended (Else at condition then_branch) stack tree ends = refl
 unwound-ended frame stack tree ends = absurd cc
 
 unwound-stays : (stack : List Frame) (tree : Expression) → top_ends Ender stack ≡ false → unwound stack tree ≡ Have stack tree
 unwound-stays [] tree stays = refl
 unwound-stays (RightOf at operator first ∷ stack) tree stays = absurd cc
 unwound-stays (Prefixed at operator ∷ stack) tree stays = absurd cc
-unwound-stays (No at condition met ∷ stack) tree stays = absurd cc
+unwound-stays (Else at condition then_branch ∷ stack) tree stays = absurd cc
 unwound-stays (frame ∷ stack) tree stays = refl
 
 pub ended-ends : (reach : Reach) (frame : Frame) (stack : List Frame) (tree : Expression) → ends reach frame ≡ true → phrase_ended reach (frame ∷ stack) tree ≡ phrase_ended reach stack (closed_by frame tree)

@@ -2,10 +2,10 @@
 use Rattle.std.proofs.Common.{◌≡◌, ◌≢◌, ℕ, zero, suc, ◌+◌, ◌-◌, ◌≤◌, Bool, true, false, List, [], ◌∷◌, ◌++◌, length, refl, sym, ◌∙◌, ap, subst, arith, Option, Some, None}
 use Rattle.std.specs.Prelude.{pred}
 use Rattle.ar_tree.specs.Expression.{Expression, FieldAt, IndexAt, LiteralAt, UnaryAt, BinaryAt, ChoiceAt, ListAt, expressions}
-use Rattle.ar_syntax.specs.Grammar.{Arguments, ArgumentsBehind, Further, ListItems, ItemsBehind, Phrase, Primary, Rules, Selections, may_continue, may_open, most_openers, takes_all, takes_more, ternary}
+use Rattle.ar_syntax.specs.Grammar.{Arguments, ArgumentsAfter, Further, ListItems, ItemsAfter, Phrase, Primary, Rules, Selections, may_continue, may_open, most_openers, takes_all, takes_more, ternary}
 use Rattle.ar_syntax.specs.Grammar as grammar
-use Rattle.ar_syntax.specs.Machine.{Frame, ParserState, RightOf, Prefixed, Yes, No, Grouped, Listed, Indexed, Argued, Body, Braced, Want, Have, WantName, WantIndex, HaveText, WantIn, WantGroup, WantArgument, HaveArgument, in_call, openers_left, wanted}
-use Rattle.ar_syntax.specs.Roles.{Call, Ends, Comma, Colon, EndGroup, EndBracket, EndBrace, called, follows, is_body, is_group, is_in, looseness, field_name_of, begun_by, literal_text}
+use Rattle.ar_syntax.specs.Machine.{Frame, ParserState, RightOf, Prefixed, Then, Else, Grouped, Listed, Indexed, Argued, Body, Braced, Want, Have, WantName, WantIndex, HaveText, WantIn, WantGroup, WantArgument, HaveArgument, in_predicate, openers_left, wanted}
+use Rattle.ar_syntax.specs.Roles.{Call, Ends, Comma, Colon, EndGroup, EndBracket, EndBrace, called, follows, is_body, is_group, is_in, precedence, field_name_of, begun_by, literal_text}
 use Rattle.ar_syntax.specs.declared.token.Token.{Token}
 use Rattle.ar_syntax.specs.declared.token.Sign.TheVariants as signs
 use Rattle.ar_syntax.specs.declared.token.Word.TheVariants as words
@@ -110,9 +110,9 @@ module _ (rules : Rules) where
   -- a number is a phrase of each level
   digit-phrase : (w : ℕ) (b : Bool) (n : ℕ) (rest : List Token) → (at : ℕ) × Phrase rules w b n (digit ∷ rest) zero_leaf rest
   digit-phrase w b n rest =
-      let up = phrase-up rules w 0 w b n (λ tree behind. (tree ≡ zero_leaf) × (behind ≡ rest)) (digit ∷ rest) (omega arith) zero_leaf rest
-      (grammar.postfixed (grammar.leaf (digit-starts b)) grammar.nothing_more) (rise-stay rules w 0 b n (λ tree behind. (tree ≡ zero_leaf) × (behind ≡ rest)) zero_leaf rest (refl, refl)) in
-      (0, subst (λ (behind : List Token). Phrase rules w b n (digit ∷ rest) zero_leaf behind) up.3.1 (subst (λ (tree : Expression). Phrase rules w b n (digit ∷ rest) tree up.1) up.3.0 up.2))
+      let up = phrase-up rules w 0 w b n (λ tree later. (tree ≡ zero_leaf) × (later ≡ rest)) (digit ∷ rest) (omega arith) zero_leaf rest
+      (grammar.postfixed (grammar.leaf (digit-starts b)) grammar.nothing_more) (rise-stay rules w 0 b n (λ tree later. (tree ≡ zero_leaf) × (later ≡ rest)) zero_leaf rest (refl, refl)) in
+      (0, subst (λ (later : List Token). Phrase rules w b n (digit ∷ rest) zero_leaf later) up.3.1 (subst (λ (tree : Expression). Phrase rules w b n (digit ∷ rest) tree up.1) up.3.0 up.2))
 
   abbrev Completes : List Frame → Type 0
   Completes stack = (tree : Expression) → (final : Expression) × (tokens : List Token) × After rules final stack tree tokens
@@ -120,16 +120,16 @@ module _ (rules : Rules) where
   complete-had : (stack : List Frame) → Completes stack → (tree : Expression) → (final : Expression) × (tokens : List Token) × Had rules stack (After rules final stack) tree tokens
   complete-had stack completes tree =
       let end = completes tree in
-      (end.0, end.1, (tree, end.1, grammar.nothing_more, rise-stay rules (wanted stack) 0 (in_call stack) (openers_left stack) (After rules end.0 stack) tree end.1 end.2))
+      (end.0, end.1, (tree, end.1, grammar.nothing_more, rise-stay rules (wanted stack) 0 (in_predicate stack) (openers_left stack) (After rules end.0 stack) tree end.1 end.2))
 
   -- one argument more
-  digit-argument : (stack : List Frame) (function : Call) (so_far arguments : List Expression) (mid rest : List Token) → ArgumentsBehind rules (in_call stack) (pred (openers_left stack)) function (so_far ++ zero_leaf ∷ []) mid arguments rest
-      → Arguments rules (in_call stack) (pred (openers_left stack)) function so_far (digit ∷ mid) arguments rest
-  digit-argument stack function so_far arguments mid rest behind = chosen (is_body function (length so_far)) refl
+  digit-argument : (stack : List Frame) (function : Call) (so_far arguments : List Expression) (mid rest : List Token) → ArgumentsAfter rules (in_predicate stack) (pred (openers_left stack)) function (so_far ++ zero_leaf ∷ []) mid arguments rest
+      → Arguments rules (in_predicate stack) (pred (openers_left stack)) function so_far (digit ∷ mid) arguments rest
+  digit-argument stack function so_far arguments mid rest later = chosen (is_body function (length so_far)) refl
     where
-      chosen : (body : Bool) → is_body function (length so_far) ≡ body → Arguments rules (in_call stack) (pred (openers_left stack)) function so_far (digit ∷ mid) arguments rest
-      chosen false is = grammar.argument is (digit-phrase ternary (in_call stack) (pred (openers_left stack)) mid).1 behind
-      chosen true is = grammar.body is (digit-phrase ternary true (pred (openers_left stack)) mid).1 behind
+      chosen : (body : Bool) → is_body function (length so_far) ≡ body → Arguments rules (in_predicate stack) (pred (openers_left stack)) function so_far (digit ∷ mid) arguments rest
+      chosen false is = grammar.argument is (digit-phrase ternary (in_predicate stack) (pred (openers_left stack)) mid).1 later
+      chosen true is = grammar.body is (digit-phrase ternary true (pred (openers_left stack)) mid).1 later
 
   module _ (stack : List Frame) (completes : Completes stack) (at : ℕ) (function : Call) where
     all-arguments : (so_far : List Expression) → takes_all rules function (length so_far) ≡ true → (final : Expression) × (tokens : List Token) × Argument rules stack at function so_far (After rules final stack) tokens
@@ -146,9 +146,9 @@ module _ (rules : Rules) where
         full n a true below more = or-true (nat_eq n a)
         full n a false below more = grind (arith, nat_tests)
     some-arguments (suc k) so_far enough (inr more) =
-        let behind = some-arguments k (so_far ++ zero_leaf ∷ []) (omega (arith, enough, length-append so_far (zero_leaf ∷ []))) (next_fits rules function so_far zero_leaf more) in
-        let inner = behind.2 in
-        (behind.0, comma ∷ digit ∷ behind.1, (inner.0, inner.1, grammar.comma_argument comma-follows more (digit-argument stack function so_far inner.0 behind.1 inner.1 inner.2), inner.3))
+        let later = some-arguments k (so_far ++ zero_leaf ∷ []) (omega (arith, enough, length-append so_far (zero_leaf ∷ []))) (next_fits rules function so_far zero_leaf more) in
+        let inner = later.2 in
+        (later.0, comma ∷ digit ∷ later.1, (inner.0, inner.1, grammar.comma_argument comma-follows more (digit-argument stack function so_far inner.0 later.1 inner.1 inner.2), inner.3))
 
     complete-arguments : (so_far : List Expression) → Fits rules function so_far → (final : Expression) × (tokens : List Token) × Argument rules stack at function so_far (After rules final stack) tokens
     complete-arguments so_far fits = some-arguments (arity function) so_far (omega arith) fits
@@ -157,14 +157,14 @@ module _ (rules : Rules) where
   complete [] is tree = (tree, [], (refl, refl))
   complete (RightOf at operator first ∷ stack) is tree =
       let end = complete stack is (BinaryAt at operator first tree) in
-      (end.0, end.1, rise-stay rules (wanted stack - looseness operator) (looseness operator) (in_call stack) (openers_left stack) (After rules end.0 stack) (BinaryAt at operator first tree) end.1 end.2)
+      (end.0, end.1, rise-stay rules (wanted stack - precedence operator) (precedence operator) (in_predicate stack) (openers_left stack) (After rules end.0 stack) (BinaryAt at operator first tree) end.1 end.2)
   complete (Prefixed at operator ∷ stack) is tree =
       let end = complete stack is (UnaryAt at operator tree) in
-      (end.0, end.1, rise-stay rules (wanted stack) 0 (in_call stack) (openers_left stack) (After rules end.0 stack) (UnaryAt at operator tree) end.1 end.2)
-  complete (Yes at condition ∷ stack) is tree =
+      (end.0, end.1, rise-stay rules (wanted stack) 0 (in_predicate stack) (openers_left stack) (After rules end.0 stack) (UnaryAt at operator tree) end.1 end.2)
+  complete (Then at condition ∷ stack) is tree =
       let end = complete stack is (ChoiceAt at condition tree zero_leaf) in
-      (end.0, colon ∷ digit ∷ end.1, (colon-follows, (zero_leaf, end.1, (digit-phrase ternary (in_call stack) (pred (openers_left stack)) end.1).1, end.2)))
-  complete (No at condition met ∷ stack) is tree = complete stack is (ChoiceAt at condition met tree)
+      (end.0, colon ∷ digit ∷ end.1, (colon-follows, (zero_leaf, end.1, (digit-phrase ternary (in_predicate stack) (pred (openers_left stack)) end.1).1, end.2)))
+  complete (Else at condition then_branch ∷ stack) is tree = complete stack is (ChoiceAt at condition then_branch tree)
   complete (Grouped ∷ stack) is tree =
       let had = complete-had stack (complete stack is) tree in
       (had.0, group_end ∷ had.1, (group_end-follows, had.2))
@@ -177,19 +177,19 @@ module _ (rules : Rules) where
   complete (Argued at function so_far ∷ stack) is tree = complete-arguments stack (complete stack is.1) at function (so_far ++ tree ∷ []) (next_fits rules function so_far tree is.0)
   complete (Body at function so_far ∷ stack) is tree = complete-arguments stack (complete stack is.1) at function (so_far ++ tree ∷ []) (next_fits rules function so_far tree is.0)
   complete (Braced at function so_far ∷ stack) is tree =
-      let behind = complete-arguments stack (complete stack is.2) at function (so_far ++ tree ∷ []) (next_fits rules function so_far tree is.0) in
-      (behind.0, brace_end ∷ behind.1, (brace_end-follows, behind.2))
+      let later = complete-arguments stack (complete stack is.2) at function (so_far ++ tree ∷ []) (next_fits rules function so_far tree is.0) in
+      (later.0, brace_end ∷ later.1, (brace_end-follows, later.2))
 
   complete-want : (stack : List Frame) → IsCounted rules stack → (final : Expression) × (tokens : List Token) × Wanted rules final stack (digit ∷ tokens)
   complete-want stack is =
       let end = complete stack is zero_leaf in
-      (end.0, end.1, (zero_leaf, end.1, (digit-phrase (wanted stack) (in_call stack) (openers_left stack) end.1).1, end.2))
+      (end.0, end.1, (zero_leaf, end.1, (digit-phrase (wanted stack) (in_predicate stack) (openers_left stack) end.1).1, end.2))
 
   complete-argument : (stack : List Frame) (at : ℕ) (function : Call) (so_far : List Expression) → IsCounted rules stack → takes_more rules function (length so_far) ≡ true → (final : Expression) × (tokens : List Token) × Called rules final stack at function so_far tokens
   complete-argument stack at function so_far is more =
-      let behind = complete-arguments stack (complete stack is) at function (so_far ++ zero_leaf ∷ []) (next_fits rules function so_far zero_leaf more) in
-      let inner = behind.2 in
-      (behind.0, digit ∷ behind.1, (inner.0, inner.1, digit-argument stack function so_far inner.0 behind.1 inner.1 inner.2, inner.3))
+      let later = complete-arguments stack (complete stack is) at function (so_far ++ zero_leaf ∷ []) (next_fits rules function so_far zero_leaf more) in
+      let inner = later.2 in
+      (later.0, digit ∷ later.1, (inner.0, inner.1, digit-argument stack function so_far inner.0 later.1 inner.1 inner.2, inner.3))
 
   -- some tokens after a state lead to a tree
   pub complete-state : (state : ParserState) → IsCountedState rules state → (final : Expression) × (tokens : List Token) × Leads rules final state tokens

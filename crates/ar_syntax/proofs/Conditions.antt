@@ -14,7 +14,7 @@ use Rattle.ar_syntax.specs.Fault.{accepts}
 use Rattle.ar_syntax.proofs.Completions.{BeginsBy-reached, reached-BeginsBy, run-append}
 use Rattle.ar_syntax.specs.Fault.{fault_of}
 use Rattle.ar_syntax.specs.Condition.{Derives, at_any_depth, depth, most_depth, of_any_count, of_any_items, strict}
-use Rattle.ar_syntax.specs.Refusal.{BeginsCondition, IsInside, IsNamedBehind, AreRefused, IsRefusedBehind, WantsOperand, has_no_comma, is_comma}
+use Rattle.ar_syntax.specs.Refusal.{BeginsCondition, IsInside, IsNamedAfter, AreRefused, IsRefusedAfter, WantsOperand, has_no_comma, is_comma}
 use Rattle.ar_syntax.specs.Refusal as refusal
 use Rattle.ar_syntax.specs.declared.error.SyntaxError.{SyntaxError}
 use Rattle.ar_syntax.specs.declared.error.SyntaxError.TheVariants.{Unexpected, TooDeep}
@@ -56,17 +56,17 @@ BeginsCondition-front before token more begins =
 reached-from : (tokens : List Token) → BeginsCondition tokens → (state : ParserState) × (reached strict tokens ≡ Some state)
 reached-from tokens begins = accepted (reached strict tokens) (accepts-some (reached strict tokens) (reached-BeginsBy strict tokens begins))
 
-one_refusal_behind : (before : List Token) (token : Token) (first second : SyntaxError) → BeginsCondition before → IsRefusedBehind before token first → IsRefusedBehind before token second → first ≡ second
-one_refusal_behind before token first second begins why why' =
+one_refusal_after : (before : List Token) (token : Token) (first second : SyntaxError) → BeginsCondition before → IsRefusedAfter before token first → IsRefusedAfter before token second → first ≡ second
+one_refusal_after before token first second begins why why' =
     let there = reached-from before begins in
     one-name before there.0 there.1 token first why ∙ sym (one-name before there.0 there.1 token second why')
 
 one_refusal-split : (before : List Token) (token : Token) (first : SyntaxError) (before' : List Token) (token' : Token) (second : SyntaxError)
-    → BeginsCondition before → ¬ BeginsCondition (before ++ token ∷ []) → IsRefusedBehind before token first
-    → BeginsCondition before' → ¬ BeginsCondition (before' ++ token' ∷ []) → IsRefusedBehind before' token' second
+    → BeginsCondition before → ¬ BeginsCondition (before ++ token ∷ []) → IsRefusedAfter before token first
+    → BeginsCondition before' → ¬ BeginsCondition (before' ++ token' ∷ []) → IsRefusedAfter before' token' second
     → IsSplit before token before' token' → first ≡ second
 one_refusal-split before token first before' token' second begins stops why begins' stops' why' (same lists elements) =
-    one_refusal_behind before' token' first second begins' (subst (λ (t : Token). IsRefusedBehind before' t first) elements (subst (λ (b : List Token). IsRefusedBehind b token first) lists why)) why'
+    one_refusal_after before' token' first second begins' (subst (λ (t : Token). IsRefusedAfter before' t first) elements (subst (λ (b : List Token). IsRefusedAfter b token first) lists why)) why'
 one_refusal-split before token first before' token' second begins stops why begins' stops' why' (shorter more e) = absurd (stops (BeginsCondition-front before token more (subst BeginsCondition e begins')))
 one_refusal-split before token first before' token' second begins stops why begins' stops' why' (longer more e) = absurd (stops' (BeginsCondition-front before' token' more (subst BeginsCondition e begins)))
 

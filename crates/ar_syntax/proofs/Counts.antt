@@ -3,8 +3,8 @@ use Rattle.std.proofs.Common.{◌≡◌, ℕ, suc, Bool, true, false, List, [], 
 use Rattle.std.specs.Prelude.{pred}
 use Rattle.ar_tree.specs.Expression.{Expression, LiteralAt, UnaryAt, BinaryAt, ChoiceAt}
 use Rattle.ar_syntax.specs.Grammar.{Rules, may_continue, may_open, takes_all, takes_more}
-use Rattle.ar_syntax.specs.Machine.{Frame, ParserState, RightOf, Prefixed, Yes, No, Grouped, Listed, Indexed, Argued, Body, Braced, Want, Have, WantName, WantIndex, HaveText, WantIn, WantGroup, WantArgument, HaveArgument, in_call, openers_left}
-use Rattle.ar_syntax.specs.Roles.{Call, Ender, Follow, Start, Ends, Comma, Colon, EndGroup, EndBracket, EndBrace, Operator, NotOf, Choose, Select, Open, NoFollow, follows, is_body, is_brace, is_group, is_in, looseness, field_name_of, begun_by, literal_text}
+use Rattle.ar_syntax.specs.Machine.{Frame, ParserState, RightOf, Prefixed, Then, Else, Grouped, Listed, Indexed, Argued, Body, Braced, Want, Have, WantName, WantIndex, HaveText, WantIn, WantGroup, WantArgument, HaveArgument, in_predicate, openers_left}
+use Rattle.ar_syntax.specs.Roles.{Call, Ender, Follow, Start, Ends, Comma, Colon, EndGroup, EndBracket, EndBrace, Operator, NotOf, Choose, Select, Open, NoFollow, follows, is_body, is_brace, is_group, is_in, precedence, field_name_of, begun_by, literal_text}
 use Rattle.ar_syntax.specs.declared.token.Token.{Token}
 use Rattle.ar_tree.specs.declared.tree.Binary.{Binary}
 use Rattle.ar_tree.specs.declared.tree.Literal.TheVariants.{Text}
@@ -95,11 +95,11 @@ module _ (rules : Rules) where
 
   counts-climbed : (l : ℕ) (stack : List Frame) (tree : Expression) → IsCounted stack → IsCountedState (climbed l stack tree)
   counts-climbed l (RightOf at operator first ∷ stack) tree is =
-      either IsCountedState (nat_le (looseness operator) l) (climbed l stack (BinaryAt at operator first tree)) (Have (RightOf at operator first ∷ stack) tree) (λ is_tight. counts-climbed l stack (BinaryAt at operator first tree) is) (λ is_loose. is)
+      either IsCountedState (nat_le (precedence operator) l) (climbed l stack (BinaryAt at operator first tree)) (Have (RightOf at operator first ∷ stack) tree) (λ is_tight. counts-climbed l stack (BinaryAt at operator first tree) is) (λ is_loose. is)
   counts-climbed l (Prefixed at operator ∷ stack) tree is = counts-climbed l stack (UnaryAt at operator tree) is
   counts-climbed l [] tree is = is
-  counts-climbed l (Yes at condition ∷ stack) tree is = is
-  counts-climbed l (No at condition met ∷ stack) tree is = is
+  counts-climbed l (Then at condition ∷ stack) tree is = is
+  counts-climbed l (Else at condition then_branch ∷ stack) tree is = is
   counts-climbed l (Grouped ∷ stack) tree is = is
   counts-climbed l (Listed at so_far ∷ stack) tree is = is
   counts-climbed l (Indexed at whole ∷ stack) tree is = is
@@ -127,9 +127,9 @@ module _ (rules : Rules) where
   counts-end [] tree EndBrace is = tt
   counts-end (RightOf at operator first ∷ stack) tree ender is = counts-end stack (BinaryAt at operator first tree) ender is
   counts-end (Prefixed at operator ∷ stack) tree ender is = counts-end stack (UnaryAt at operator tree) ender is
-  counts-end (Yes at condition ∷ stack) tree Colon is = is
-  counts-end (Yes at condition ∷ stack) tree ender is = tt
-  counts-end (No at condition met ∷ stack) tree ender is = counts-end stack (ChoiceAt at condition met tree) ender is
+  counts-end (Then at condition ∷ stack) tree Colon is = is
+  counts-end (Then at condition ∷ stack) tree ender is = tt
+  counts-end (Else at condition then_branch ∷ stack) tree ender is = counts-end stack (ChoiceAt at condition then_branch tree) ender is
   counts-end (Grouped ∷ stack) tree EndGroup is = is
   counts-end (Grouped ∷ stack) tree ender is = tt
   counts-end (Listed at so_far ∷ stack) tree EndBracket is = is
@@ -147,7 +147,7 @@ module _ (rules : Rules) where
   counts-end (Braced at function so_far ∷ stack) tree ender is = tt
 
   counts-follow : (stack : List Frame) (tree : Expression) (at : ℕ) (r : Follow) → IsCounted stack → IsCountedFrom (followed_by rules stack tree at r)
-  counts-follow stack tree at (Operator operator) is = counts-operate at operator (climbed (looseness operator) stack tree) (counts-climbed (looseness operator) stack tree is)
+  counts-follow stack tree at (Operator operator) is = counts-operate at operator (climbed (precedence operator) stack tree) (counts-climbed (precedence operator) stack tree is)
   counts-follow stack tree at NotOf is = counts-negate at (climbed 2 stack tree) (counts-climbed 2 stack tree is)
   counts-follow stack tree at Choose is = counts-choose at (climbed 5 stack tree) (counts-climbed 5 stack tree is)
   counts-follow stack tree at Select is = is
@@ -161,14 +161,14 @@ module _ (rules : Rules) where
 
   counts-open : (stack : List Frame) (at : ℕ) (whole : Expression) (c : Token) (text : Option (List ℕ)) → IsCounted stack → IsCountedFrom (open_index rules stack at whole c text)
   counts-open stack at whole c (Some text) is = is
-  counts-open stack at whole c None is = counts-begin (Indexed at whole ∷ stack) c.span.start (begun_by (in_call stack) c) is
+  counts-open stack at whole c None is = counts-begin (Indexed at whole ∷ stack) c.span.start (begun_by (in_predicate stack) c) is
 
   counts-close_text : (stack : List Frame) (at : ℕ) (whole : Expression) (text_at : ℕ) (text : List ℕ) (c : Token) (r : Follow) → IsCounted stack → IsCountedFrom (close_text rules stack at whole text_at text c r)
   counts-close_text stack at whole text_at text c (Ends EndBracket) is = is
   counts-close_text stack at whole text_at text c r is = counts-follow (Indexed at whole ∷ stack) (LiteralAt text_at (Text text)) c.span.start (follows c) is
 
   counts-argue : (stack : List Frame) (at : ℕ) (function : Call) (so_far : List Expression) (c : Token) (body brace : Bool) → is_body function (length so_far) ≡ body → (takes_more rules function (length so_far) ≡ true) × IsCounted stack → IsCountedFrom (argue rules stack at function so_far c (start_by body brace))
-  counts-argue stack at function so_far c false brace b is = counts-begin (Argued at function so_far ∷ stack) c.span.start (begun_by (in_call stack) c) is
+  counts-argue stack at function so_far c false brace b is = counts-begin (Argued at function so_far ∷ stack) c.span.start (begun_by (in_predicate stack) c) is
   counts-argue stack at function so_far c true false b is = counts-begin (Body at function so_far ∷ stack) c.span.start (begun_by true c) is
   counts-argue stack at function so_far c true true b is = counts-when (may_open rules (pred (openers_left stack))) _ (is.0, b, is.1)
 
@@ -183,7 +183,7 @@ module _ (rules : Rules) where
 
   pub counts : (state : ParserState) (c : Token) → IsCountedState state → IsCountedFrom (parser_step rules state c)
   unfolding parser_step
-  counts (Want stack) c is = counts-begin stack c.span.start (begun_by (in_call stack) c) is
+  counts (Want stack) c is = counts-begin stack c.span.start (begun_by (in_predicate stack) c) is
   counts (Have stack tree) c is = counts-follow stack tree c.span.start (follows c) is
   counts (WantName stack at whole) c is = counts-select stack at whole (field_name_of c) is
   counts (WantIndex stack at whole) c is = counts-open stack at whole c (literal_text c) is

@@ -9,7 +9,7 @@ use Rattle.ar_value.specs.Answer.{Gives}
 use Rattle.ar_value.specs.Limits.{most_text_bytes}
 use Rattle.ar_syntax.specs.Token.{takes_field}
 use Rattle.ar_syntax.specs.Spelling.{AreTokensInOrder, IsGapBetween, IsSpelled, is_syntax_memory}
-use Rattle.ar_syntax.specs.Tokens.{front_of, is_blank, tokens_behind, tokens_of, with_front}
+use Rattle.ar_syntax.specs.Tokens.{front_of, is_blank, tokens_after, tokens_of, with_front}
 use Rattle.ar_syntax.specs.declared.error.SyntaxError.{SyntaxError}
 use Rattle.ar_syntax.specs.declared.error.SyntaxError.TheVariants.{TooLong}
 use Rattle.ar_syntax.specs.declared.token.Token.{Token}
@@ -45,8 +45,8 @@ module _ (text : List ℕ) where
     apart = (rw here (cuts.more gap.begins (rw (drop-next at len bytes here) at cut.apart.0)), cut.apart.1);
   }
 
-  drop-behind : (at byte : ℕ) (bytes : List ℕ) → drop at text ≡ byte ∷ bytes → drop (at + 1) text ≡ bytes
-  drop-behind at byte bytes here = drop-next at 1 (byte ∷ bytes) here
+  drop-later : (at byte : ℕ) (bytes : List ℕ) → drop at text ≡ byte ∷ bytes → drop (at + 1) text ≡ bytes
+  drop-later at byte bytes here = drop-next at 1 (byte ∷ bytes) here
 
   -- a token in front
   AreCut-token : (at end : ℕ) (bytes : List ℕ) (token : Token) (tokens : List Token) → drop at text ≡ bytes → IsFront at bytes token → AreCut text token.span.end end tokens → AreCut text at end (token ∷ tokens)
@@ -59,38 +59,38 @@ module _ (text : List ℕ) where
         apart = (rw start cuts.none, cut.apart);
       }
 
-  AreCut-from_tokens_behind : (skip at : ℕ) (field : Bool) (bytes : List ℕ) (tokens : List Token) → drop at text ≡ bytes → skip ≤ length bytes → tokens_behind skip at field bytes ≡ Ok tokens
+  AreCut-from_tokens_after : (skip at : ℕ) (field : Bool) (bytes : List ℕ) (tokens : List Token) → drop at text ≡ bytes → skip ≤ length bytes → tokens_after skip at field bytes ≡ Ok tokens
       → AreCut text (at + skip) (at + length bytes) tokens
-  unfolding tokens_behind
-  AreCut-from_tokens_behind skip at field [] tokens here enough e =
+  unfolding tokens_after
+  AreCut-from_tokens_after skip at field [] tokens here enough e =
       let none : [] ≡ tokens = cc in
-      let place : at + skip ≡ at = omega arith in
-      subst (AreCut text (at + skip) (at + 0)) none (record { in_order = omega arith; spelled = tt; apart = rw (place, here) cuts.none })
-  AreCut-from_tokens_behind (suc skip) at field (byte ∷ bytes) tokens here enough e =
-      AreCut-at _ _ _ _ tokens (omega arith) (omega arith) (AreCut-from_tokens_behind skip (at + 1) field bytes tokens (drop-behind at byte bytes here) (omega arith) e)
-  AreCut-from_tokens_behind zero at field (byte ∷ bytes) tokens here enough e =
-      let found = bind_ok (front_of at field (byte ∷ bytes)) (λ front. with_front at front (λ skip word. tokens_behind skip (at + 1) word bytes)) tokens e in
-      AreCut-from_front at field byte bytes found.0 tokens here found.1 found.2 (λ skip word others. AreCut-from_tokens_behind skip (at + 1) word bytes others (drop-behind at byte bytes here))
+      let offset : at + skip ≡ at = omega arith in
+      subst (AreCut text (at + skip) (at + 0)) none (record { in_order = omega arith; spelled = tt; apart = rw (offset, here) cuts.none })
+  AreCut-from_tokens_after (suc skip) at field (byte ∷ bytes) tokens here enough e =
+      AreCut-at _ _ _ _ tokens (omega arith) (omega arith) (AreCut-from_tokens_after skip (at + 1) field bytes tokens (drop-later at byte bytes here) (omega arith) e)
+  AreCut-from_tokens_after zero at field (byte ∷ bytes) tokens here enough e =
+      let found = bind_ok (front_of at field (byte ∷ bytes)) (λ front. with_front at front (λ skip word. tokens_after skip (at + 1) word bytes)) tokens e in
+      AreCut-from_front at field byte bytes found.0 tokens here found.1 found.2 (λ skip word others. AreCut-from_tokens_after skip (at + 1) word bytes others (drop-later at byte bytes here))
     where
       AreCut-from_front : (at : ℕ) (field : Bool) (byte : ℕ) (bytes : List ℕ) (front : Piece) (tokens : List Token) → drop at text ≡ byte ∷ bytes → front_of at field (byte ∷ bytes) ≡ Ok front
-          → with_front at front (λ skip word. tokens_behind skip (at + 1) word bytes) ≡ Ok tokens
-          → ((skip : ℕ) (word : Bool) (others : List Token) → skip ≤ length bytes → tokens_behind skip (at + 1) word bytes ≡ Ok others → AreCut text (at + 1 + skip) (at + 1 + length bytes) others)
+          → with_front at front (λ skip word. tokens_after skip (at + 1) word bytes) ≡ Ok tokens
+          → ((skip : ℕ) (word : Bool) (others : List Token) → skip ≤ length bytes → tokens_after skip (at + 1) word bytes ≡ Ok others → AreCut text (at + 1 + skip) (at + 1 + length bytes) others)
           → AreCut text (at + zero) (at + length (byte ∷ bytes)) tokens
-      AreCut-from_front at field byte bytes (Gap len) tokens here found e behind =
+      AreCut-from_front at field byte bytes (Gap len) tokens here found e later =
           let gap = IsFrontGap-front_of at len field (byte ∷ bytes) (omega arith) found in
-          let rest = behind (len - 1) false tokens (omega (arith, gap.within)) e in
+          let rest = later (len - 1) false tokens (omega (arith, gap.within)) e in
           AreCut-at at _ _ _ tokens (omega arith) refl (AreCut-gap at len _ (byte ∷ bytes) tokens here gap (AreCut-at _ (at + len) _ (at + length (byte ∷ bytes)) tokens (omega (arith, gap.some)) (omega arith) rest))
-      AreCut-from_front at field byte bytes (Found token) tokens here found e behind =
+      AreCut-from_front at field byte bytes (Found token) tokens here found e later =
           let front = IsFront-front_of at field (byte ∷ bytes) token found in
-          let inner = bind_ok (tokens_behind (token.span.end - (at + 1)) (at + 1) (takes_field token.kind) bytes) (λ others. Ok (token ∷ others)) tokens e in
+          let inner = bind_ok (tokens_after (token.span.end - (at + 1)) (at + 1) (takes_field token.kind) bytes) (λ others. Ok (token ∷ others)) tokens e in
           let same : token ∷ inner.0 ≡ tokens = cc in
-          let rest = behind (token.span.end - (at + 1)) (takes_field token.kind) inner.0 (omega (arith, front.within)) inner.1 in
+          let rest = later (token.span.end - (at + 1)) (takes_field token.kind) inner.0 (omega (arith, front.within)) inner.1 in
           let cut = AreCut-token at (at + length (byte ∷ bytes)) (byte ∷ bytes) token inner.0 here front (AreCut-at _ token.span.end _ (at + length (byte ∷ bytes)) inner.0 (omega (arith, front.some)) (omega arith) rest) in
           subst (AreCut text (at + zero) (at + length (byte ∷ bytes))) same (AreCut-at at _ _ _ (token ∷ inner.0) (omega arith) refl cut)
 
-AreCut-chosen : (text : List ℕ) (long : Bool) (tokens : List Token) → cond long (Err TooLong) (tokens_behind 0 0 false text) ≡ Ok tokens → AreCut text 0 (length text) tokens
+AreCut-chosen : (text : List ℕ) (long : Bool) (tokens : List Token) → cond long (Err TooLong) (tokens_after 0 0 false text) ≡ Ok tokens → AreCut text 0 (length text) tokens
 AreCut-chosen text true tokens e = absurd cc
-AreCut-chosen text false tokens e = AreCut-at text _ _ _ _ tokens refl (omega arith) (AreCut-from_tokens_behind text 0 0 false text tokens refl (omega arith) e)
+AreCut-chosen text false tokens e = AreCut-at text _ _ _ _ tokens refl (omega arith) (AreCut-from_tokens_after text 0 0 false text tokens refl (omega arith) e)
 
 -- the tokens of a text are all of it but blanks
 pub AreCut-from_tokens_of : (text : List ℕ) (tokens : List Token) → tokens_of text ≡ Ok tokens → AreCut text 0 (length text) tokens

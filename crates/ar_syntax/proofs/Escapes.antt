@@ -23,13 +23,13 @@ high_others : (byte : ℕ) (bytes : List ℕ) → AreHigh (byte ∷ bytes) → A
 high_others byte bytes high i below = high (suc i) (omega arith)
 
 -- they represent themselves
-high_stand : (before : ℕ) (front rest value : List ℕ) → AreHigh front → unescaped before false (front ++ rest) ≡ Ok value
-    → (place : ℕ) × (behind : List ℕ) × (unescaped place false rest ≡ Ok behind) × (value ≡ front ++ behind)
-high_stand before [] rest value high e = (before, value, e, refl)
-high_stand before (byte ∷ front) rest value high e =
+high_stay : (before : ℕ) (front rest value : List ℕ) → AreHigh front → unescaped before false (front ++ rest) ≡ Ok value
+    → (offset : ℕ) × (later : List ℕ) × (unescaped offset false rest ≡ Ok later) × (value ≡ front ++ later)
+high_stay before [] rest value high e = (before, value, e, refl)
+high_stay before (byte ∷ front) rest value high e =
     let plain : with_byte byte (unescaped (before + 1) false (front ++ rest)) ≡ Ok value = rw (not_that byte 92 (high_first byte front high) (omega arith)) at e in
     let found = bind_ok (unescaped (before + 1) false (front ++ rest)) (λ bytes. Ok (byte ∷ bytes)) value plain in
-    let inner = high_stand (before + 1) front rest found.0 (high_others byte front high) found.1 in
+    let inner = high_stay (before + 1) front rest found.0 (high_others byte front high) found.1 in
     let whole : byte ∷ found.0 ≡ value = cc in
     (inner.0, inner.1, inner.2, sym whole ∙ ap (λ (b : List ℕ). byte ∷ b) inner.3)
 
@@ -43,21 +43,21 @@ high_escaped before (byte ∷ front) rest value some high e =
     let refused : with_escape before None (unescaped (before + 1) false (front ++ rest)) ≡ Ok value = rw (no_high_escape byte (high_first byte front high)) at e in
     cc
 
-escape-small : (byte stands : ℕ) → escape_of byte ≡ Some stands → stands < 128
-escape-small byte stands e = elim (chosen (byte == 92 || byte == 34 || byte == 39) (Some byte) _ (Some stands) e) [
-  | inl itself ↦ let same : byte ≡ stands = cc in elim (or_cases _ (byte == 39) itself.0) [
+escape-small : (byte is_there : ℕ) → escape_of byte ≡ Some is_there → is_there < 128
+escape-small byte is_there e = elim (chosen (byte == 92 || byte == 34 || byte == 39) (Some byte) _ (Some is_there) e) [
+  | inl itself ↦ let same : byte ≡ is_there = cc in elim (or_cases _ (byte == 39) itself.0) [
     | inr single ↦ omega (arith, eqb-true byte 39 single)
     | inl others ↦ elim (or_cases (byte == 92) (byte == 34) others) [
       | inl slash ↦ omega (arith, eqb-true byte 92 slash)
       | inr double ↦ omega (arith, eqb-true byte 34 double)
     ]
   ]
-  | inr no_sign ↦ elim (chosen (byte == 110) (Some 10) _ (Some stands) no_sign.1) [
-    | inl line ↦ let same : 10 ≡ stands = cc in omega arith
-    | inr no_line ↦ elim (chosen (byte == 114) (Some 13) _ (Some stands) no_line.1) [
-      | inl return ↦ let same : 13 ≡ stands = cc in omega arith
-      | inr no_return ↦ elim (chosen (byte == 116) (Some 9) None (Some stands) no_return.1) [
-        | inl tab ↦ let same : 9 ≡ stands = cc in omega arith
+  | inr no_sign ↦ elim (chosen (byte == 110) (Some 10) _ (Some is_there) no_sign.1) [
+    | inl line ↦ let same : 10 ≡ is_there = cc in omega arith
+    | inr no_line ↦ elim (chosen (byte == 114) (Some 13) _ (Some is_there) no_line.1) [
+      | inl return ↦ let same : 13 ≡ is_there = cc in omega arith
+      | inr no_return ↦ elim (chosen (byte == 116) (Some 9) None (Some is_there) no_return.1) [
+        | inl tab ↦ let same : 9 ≡ is_there = cc in omega arith
         | inr none ↦ absurd cc
       ]
     ]
@@ -79,29 +79,29 @@ IsUtf8-byte byte bytes small utf8 = IsUtf8-append (byte ∷ []) bytes (IsUtf8-fr
     one (suc i) = omega arith
 
 -- what a character with text after it represents, where the text after it represents UTF-8
-module _ (bytes : List ℕ) (behind-utf8 : (place : ℕ) (escaped : Bool) (value : List ℕ) → unescaped place escaped bytes ≡ Ok value → IsUtf8 value) where
-  with_byte-utf8 : (place byte : ℕ) (value : List ℕ) → byte < 128 → with_byte byte (unescaped place false bytes) ≡ Ok value → IsUtf8 value
-  with_byte-utf8 place byte value small e =
-      let found = bind_ok (unescaped place false bytes) (λ inner. Ok (byte ∷ inner)) value e in
+module _ (bytes : List ℕ) (later-utf8 : (offset : ℕ) (escaped : Bool) (value : List ℕ) → unescaped offset escaped bytes ≡ Ok value → IsUtf8 value) where
+  with_byte-utf8 : (offset byte : ℕ) (value : List ℕ) → byte < 128 → with_byte byte (unescaped offset false bytes) ≡ Ok value → IsUtf8 value
+  with_byte-utf8 offset byte value small e =
+      let found = bind_ok (unescaped offset false bytes) (λ inner. Ok (byte ∷ inner)) value e in
       let whole : byte ∷ found.0 ≡ value = cc in
-      subst IsUtf8 whole (IsUtf8-byte byte found.0 small (behind-utf8 place false found.0 found.1))
+      subst IsUtf8 whole (IsUtf8-byte byte found.0 small (later-utf8 offset false found.0 found.1))
 
-  with_escape-utf8 : (before byte : ℕ) (stands : Option ℕ) (value : List ℕ) → escape_of byte ≡ stands → with_escape before stands (unescaped (before + 1) false bytes) ≡ Ok value → IsUtf8 value
+  with_escape-utf8 : (before byte : ℕ) (is_there : Option ℕ) (value : List ℕ) → escape_of byte ≡ is_there → with_escape before is_there (unescaped (before + 1) false bytes) ≡ Ok value → IsUtf8 value
   with_escape-utf8 before byte None value is e = absurd cc
-  with_escape-utf8 before byte (Some stands) value is e = with_byte-utf8 (before + 1) stands value (escape-small byte stands is) e
+  with_escape-utf8 before byte (Some is_there) value is e = with_byte-utf8 (before + 1) is_there value (escape-small byte is_there is) e
 
   small_utf8 : (before : ℕ) (escaped : Bool) (byte : ℕ) (value : List ℕ) → byte < 128 → unescaped before escaped (byte ∷ bytes) ≡ Ok value → IsUtf8 value
   small_utf8 before true byte value small e = with_escape-utf8 before byte (escape_of byte) value refl e
   small_utf8 before false byte value small e = elim (chosen (byte == 92) (unescaped (before + 1) true bytes) (with_byte byte (unescaped (before + 1) false bytes)) (Ok value) e) [
-    | inl slash ↦ behind-utf8 (before + 1) true value slash.1
+    | inl slash ↦ later-utf8 (before + 1) true value slash.1
     | inr plain ↦ with_byte-utf8 (before + 1) byte value small plain.1
   ]
 
   high_utf8 : (before : ℕ) (escaped : Bool) (front value : List ℕ) → 0 < length front → AreHigh front → IsUtf8 front → unescaped before escaped (front ++ bytes) ≡ Ok value → IsUtf8 value
   high_utf8 before true front value some high utf8 e = absurd (high_escaped before front bytes value some high e)
   high_utf8 before false front value some high utf8 e =
-      let found = high_stand before front bytes value high e in
-      subst IsUtf8 (sym found.3) (IsUtf8-append front found.1 utf8 (behind-utf8 found.0 false found.1 found.2))
+      let found = high_stay before front bytes value high e in
+      subst IsUtf8 (sym found.3) (IsUtf8-append front found.1 utf8 (later-utf8 found.0 false found.1 found.2))
 
 encode-some : (c : ℕ) → 0 < length (encode c)
 encode-some c = omega (arith, length-encode c, (len_utf8_bounds c).0)
@@ -112,10 +112,10 @@ scalar-utf8 c cs all = (c ∷ [], (and_from (scalar c) true (and_parts (scalar c
 value_utf8 : (before : ℕ) (escaped : Bool) (cs value : List ℕ) → scalars cs ≡ true → unescaped before escaped (encodes cs) ≡ Ok value → IsUtf8 value
 value_utf8 before escaped [] value all e = let same : [] ≡ value = cc in subst IsUtf8 same IsUtf8-nil
 value_utf8 before escaped (c ∷ cs) value all e =
-    let behind = λ (place : ℕ) (escaped : Bool) (value : List ℕ). value_utf8 place escaped cs value (and_parts (scalar c) (scalars cs) all).1 in
+    let later = λ (offset : ℕ) (escaped : Bool) (value : List ℕ). value_utf8 offset escaped cs value (and_parts (scalar c) (scalars cs) all).1 in
     elim (cases_lt c 128) [
-      | inl small ↦ small_utf8 (encodes cs) behind before escaped c value small (rw (encode_ascii c small) at e)
-      | inr high ↦ high_utf8 (encodes cs) behind before escaped (encode c) value (encode-some c) (high_encode c high) (scalar-utf8 c cs all) e
+      | inl small ↦ small_utf8 (encodes cs) later before escaped c value small (rw (encode_ascii c small) at e)
+      | inr high ↦ high_utf8 (encodes cs) later before escaped (encode c) value (encode-some c) (high_encode c high) (scalar-utf8 c cs all) e
     ]
 
 pub unescaped_utf8 : (before : ℕ) (bytes value : List ℕ) → IsUtf8 bytes → unescaped before false bytes ≡ Ok value → IsUtf8 value

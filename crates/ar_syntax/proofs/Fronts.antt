@@ -13,7 +13,7 @@ use Rattle.std.specs.Int.{is_in_range}
 use Rattle.ar_value.specs.Answer.{◌>>=◌}
 use Rattle.ar_syntax.specs.Spelling.{prefix}
 use Rattle.ar_syntax.specs.Token.{begins_word, continues_word, is_digit_in, word_or_name, spelling}
-use Rattle.ar_syntax.specs.Tokens.{all_signs, base_digits, base_named, base_of, begins_number, digits_at, digits_behind_point, piece_found, fraction_at, number_text, sign_at, with_digit, word_at}
+use Rattle.ar_syntax.specs.Tokens.{all_signs, base_digits, base_named, base_of, begins_number, digits_at, digits_after_point, piece_found, fraction_at, number_text, sign_at, with_digit, word_at}
 use Rattle.ar_syntax.specs.declared.error.SyntaxError.{SyntaxError}
 use Rattle.ar_syntax.specs.declared.token.Base.{Base}
 use Rattle.ar_syntax.specs.declared.token.Base.TheVariants.{Binary, Octal, Hexadecimal}
@@ -101,12 +101,12 @@ point_front-chosen whole bytes byte is_point [] test e = (byte ∷ bytes, refl)
 point_front-chosen whole bytes byte false (digit ∷ fraction) test e = absurd cc
 point_front-chosen whole bytes byte true (digit ∷ fraction) test e =
     let point : byte ≡ 46 = eqb-true byte 46 test in
-    let behind : bytes ≡ (digit ∷ fraction) ++ drop (length (digits_at bytes)) bytes = take_while-front is_ascii_digit bytes ∙ ap (λ (front : List ℕ). front ++ drop (length (digits_at bytes)) bytes) (sym e) in
-    (drop (length (digits_at bytes)) bytes, ap (λ (b : ℕ). whole ++ b ∷ bytes) point ∙ ap (λ (bs : List ℕ). whole ++ 46 ∷ bs) behind ∙ sym (append_assoc whole (46 ∷ digit ∷ fraction) (drop (length (digits_at bytes)) bytes)))
+    let later : bytes ≡ (digit ∷ fraction) ++ drop (length (digits_at bytes)) bytes = take_while-front is_ascii_digit bytes ∙ ap (λ (front : List ℕ). front ++ drop (length (digits_at bytes)) bytes) (sym e) in
+    (drop (length (digits_at bytes)) bytes, ap (λ (b : ℕ). whole ++ b ∷ bytes) point ∙ ap (λ (bs : List ℕ). whole ++ 46 ∷ bs) later ∙ sym (append_assoc whole (46 ∷ digit ∷ fraction) (drop (length (digits_at bytes)) bytes)))
 
-point_front : (whole behind : List ℕ) → (rest : List ℕ) × (whole ++ behind ≡ number_text whole (digits_behind_point behind) ++ rest)
+point_front : (whole later : List ℕ) → (rest : List ℕ) × (whole ++ later ≡ number_text whole (digits_after_point later) ++ rest)
 point_front whole [] = ([], refl)
-point_front whole (byte ∷ bytes) = point_front-chosen whole bytes byte (byte == 46) (digits_behind_point (byte ∷ bytes)) refl refl
+point_front whole (byte ∷ bytes) = point_front-chosen whole bytes byte (byte == 46) (digits_after_point (byte ∷ bytes)) refl refl
 
 -- bytes begin with the text of the number at their front
 pub number_front : (bytes : List ℕ) → (rest : List ℕ) × (bytes ≡ number_text (digits_at bytes) (fraction_at bytes) ++ rest)
@@ -122,9 +122,9 @@ number_taken bytes =
     let front = number_front bytes in
     ap (take (length (number_text (digits_at bytes) (fraction_at bytes)))) front.1 ∙ take_at (number_text (digits_at bytes) (fraction_at bytes)) front.0 _ refl
 
-pub list_all-digits_behind_point : (behind : List ℕ) → list_all is_ascii_digit (digits_behind_point behind) ≡ true
-list_all-digits_behind_point behind = elim (chosen (slice_index behind 0 == 46) (digits_at (drop 1 behind)) [] (digits_behind_point behind) refl) [
-  | inl point ↦ rw (← point.1) (list_all-take_while is_ascii_digit (drop 1 behind))
+pub list_all-digits_after_point : (later : List ℕ) → list_all is_ascii_digit (digits_after_point later) ≡ true
+list_all-digits_after_point later = elim (chosen (slice_index later 0 == 46) (digits_at (drop 1 later)) [] (digits_after_point later) refl) [
+  | inl point ↦ rw (← point.1) (list_all-take_while is_ascii_digit (drop 1 later))
   | inr none ↦ rw (← none.1) refl
 ]
 
@@ -216,7 +216,7 @@ prefix-len Hexadecimal = refl
 pub prefixed_front : (base : Base) (bytes : List ℕ) → IsPrefixed base bytes → (rest : List ℕ) × (bytes ≡ (prefix base ++ base_digits base bytes) ++ rest)
 prefixed_front base bytes is =
     let digits = take_while-front (is_digit_in base) (drop 2 bytes) in
-    (drop (length (base_digits base bytes)) (drop 2 bytes), is.front ∙ ap (λ (behind : List ℕ). prefix base ++ behind) digits ∙ sym (append_assoc (prefix base) (base_digits base bytes) (drop (length (base_digits base bytes)) (drop 2 bytes))))
+    (drop (length (base_digits base bytes)) (drop 2 bytes), is.front ∙ ap (λ (later : List ℕ). prefix base ++ later) digits ∙ sym (append_assoc (prefix base) (base_digits base bytes) (drop (length (base_digits base bytes)) (drop 2 bytes))))
 
 pub prefixed_len : (base : Base) (bytes : List ℕ) → length (prefix base ++ base_digits base bytes) ≡ 2 + length (base_digits base bytes)
 prefixed_len base bytes = omega (arith, length-append (prefix base) (base_digits base bytes), prefix-len base)

@@ -2,8 +2,8 @@
 use Rattle.std.proofs.Common.{◌≡◌, ◌≢◌, ℕ, Bool, true, false, List, [], ◌∷◌, ◌++◌, length, refl, ◌∙◌, ap, subst, arith, Option, Some, None}
 use Rattle.ar_tree.specs.Expression.{Expression, FieldAt, ItemAt, LiteralAt, UnaryAt, BinaryAt, ChoiceAt}
 use Rattle.ar_syntax.specs.Grammar.{Rules, may_open, takes_all}
-use Rattle.ar_syntax.specs.Machine.{Frame, ParserState, RightOf, Prefixed, Yes, No, Grouped, Listed, Indexed, Argued, Body, Braced, Want, Have, WantName, WantIndex, HaveText, WantIn, WantGroup, WantArgument, HaveArgument, in_call, openers_left}
-use Rattle.ar_syntax.specs.Roles.{Call, Ender, Follow, Start, Ends, Comma, Colon, EndGroup, EndBracket, EndBrace, Operator, NotOf, Choose, Select, Open, NoFollow, called, follows, is_body, is_brace, is_group, is_in, looseness, field_name_of, begun_by, literal_text}
+use Rattle.ar_syntax.specs.Machine.{Frame, ParserState, RightOf, Prefixed, Then, Else, Grouped, Listed, Indexed, Argued, Body, Braced, Want, Have, WantName, WantIndex, HaveText, WantIn, WantGroup, WantArgument, HaveArgument, in_predicate, openers_left}
+use Rattle.ar_syntax.specs.Roles.{Call, Ender, Follow, Start, Ends, Comma, Colon, EndGroup, EndBracket, EndBrace, Operator, NotOf, Choose, Select, Open, NoFollow, called, follows, is_body, is_brace, is_group, is_in, precedence, field_name_of, begun_by, literal_text}
 use Rattle.ar_syntax.specs.declared.token.Token.{Token}
 use Rattle.ar_syntax.specs.declared.token.Sign.TheVariants as signs
 use Rattle.ar_syntax.specs.declared.token.Word.TheVariants as words
@@ -34,13 +34,13 @@ abbrev pub Out : Bool → Option ParserState → Type 0
 Out b (Some state) = is_inside state ≡ true → b ≡ true
 Out b None = Unit {0}
 
-climbed-inside : (l : ℕ) (stack : List Frame) (tree : Expression) → is_inside (climbed l stack tree) ≡ in_call stack
+climbed-inside : (l : ℕ) (stack : List Frame) (tree : Expression) → is_inside (climbed l stack tree) ≡ in_predicate stack
 climbed-inside l (RightOf at operator first ∷ stack) tree =
-    either (λ (state : ParserState). is_inside state ≡ in_call stack) (nat_le (looseness operator) l) (climbed l stack (BinaryAt at operator first tree)) (Have (RightOf at operator first ∷ stack) tree) (λ tight. climbed-inside l stack (BinaryAt at operator first tree)) (λ loose. refl)
+    either (λ (state : ParserState). is_inside state ≡ in_predicate stack) (nat_le (precedence operator) l) (climbed l stack (BinaryAt at operator first tree)) (Have (RightOf at operator first ∷ stack) tree) (λ tight. climbed-inside l stack (BinaryAt at operator first tree)) (λ loose. refl)
 climbed-inside l (Prefixed at operator ∷ stack) tree = climbed-inside l stack (UnaryAt at operator tree)
 climbed-inside l [] tree = refl
-climbed-inside l (Yes at condition ∷ stack) tree = refl
-climbed-inside l (No at condition met ∷ stack) tree = refl
+climbed-inside l (Then at condition ∷ stack) tree = refl
+climbed-inside l (Else at condition then_branch ∷ stack) tree = refl
 climbed-inside l (Grouped ∷ stack) tree = refl
 climbed-inside l (Listed at so_far ∷ stack) tree = refl
 climbed-inside l (Indexed at whole ∷ stack) tree = refl
@@ -82,12 +82,12 @@ module _ (rules : Rules) where
   out-when b true state out = out
   out-when b false state out = tt
 
-  out-begin : (stack : List Frame) (at : ℕ) (s : Start) → Out (in_call stack) (begun_with rules stack at s)
+  out-begin : (stack : List Frame) (at : ℕ) (s : Start) → Out (in_predicate stack) (begun_with rules stack at s)
   out-begin stack at (Leaf tree) = λ h. h
-  out-begin stack at (Prefix operator) = out-when (in_call stack) (may_open rules (openers_left stack)) _ (λ h. h)
-  out-begin stack at Group = out-when (in_call stack) (may_open rules (openers_left stack)) _ (λ h. h)
-  out-begin stack at Bracket = out-when (in_call stack) (may_open rules (openers_left stack)) _ (λ h. h)
-  out-begin stack at (Calls function) = out-when (in_call stack) (may_open rules (openers_left stack)) _ (λ h. h)
+  out-begin stack at (Prefix operator) = out-when (in_predicate stack) (may_open rules (openers_left stack)) _ (λ h. h)
+  out-begin stack at Group = out-when (in_predicate stack) (may_open rules (openers_left stack)) _ (λ h. h)
+  out-begin stack at Bracket = out-when (in_predicate stack) (may_open rules (openers_left stack)) _ (λ h. h)
+  out-begin stack at (Calls function) = out-when (in_predicate stack) (may_open rules (openers_left stack)) _ (λ h. h)
   out-begin stack at ItemPoint = λ h. h
   out-begin stack at NoStart = tt
 
@@ -100,10 +100,10 @@ module _ (rules : Rules) where
   out-negate at state = tt
 
   out-choose : (at : ℕ) (state : ParserState) → Out (is_inside state) (choose rules at state)
-  out-choose at (Have stack tree) = out-when (in_call stack) (may_open rules (openers_left stack)) _ (λ h. h)
+  out-choose at (Have stack tree) = out-when (in_predicate stack) (may_open rules (openers_left stack)) _ (λ h. h)
   out-choose at state = tt
 
-  out-end : (stack : List Frame) (tree : Expression) (ender : Ender) → ender ≢ Comma → Out (in_call stack) (end_with rules ender (unwound stack tree))
+  out-end : (stack : List Frame) (tree : Expression) (ender : Ender) → ender ≢ Comma → Out (in_predicate stack) (end_with rules ender (unwound stack tree))
   out-end stack tree Comma none = absurd (none refl)
   out-end [] tree Colon none = tt
   out-end [] tree EndGroup none = tt
@@ -111,40 +111,40 @@ module _ (rules : Rules) where
   out-end [] tree EndBrace none = tt
   out-end (RightOf at operator first ∷ stack) tree ender none = out-end stack (BinaryAt at operator first tree) ender none
   out-end (Prefixed at operator ∷ stack) tree ender none = out-end stack (UnaryAt at operator tree) ender none
-  out-end (Yes at condition ∷ stack) tree Colon none = λ h. h
-  out-end (Yes at condition ∷ stack) tree ender none = tt
-  out-end (No at condition met ∷ stack) tree ender none = out-end stack (ChoiceAt at condition met tree) ender none
+  out-end (Then at condition ∷ stack) tree Colon none = λ h. h
+  out-end (Then at condition ∷ stack) tree ender none = tt
+  out-end (Else at condition then_branch ∷ stack) tree ender none = out-end stack (ChoiceAt at condition then_branch tree) ender none
   out-end (Grouped ∷ stack) tree EndGroup none = λ h. h
   out-end (Grouped ∷ stack) tree ender none = tt
   out-end (Listed at so_far ∷ stack) tree EndBracket none = λ h. h
   out-end (Listed at so_far ∷ stack) tree ender none = tt
   out-end (Indexed at whole ∷ stack) tree EndBracket none = λ h. h
   out-end (Indexed at whole ∷ stack) tree ender none = tt
-  out-end (Argued at function so_far ∷ stack) tree EndGroup none = out-when (in_call stack) (takes_all rules function (length (so_far ++ tree ∷ []))) _ (λ h. h)
+  out-end (Argued at function so_far ∷ stack) tree EndGroup none = out-when (in_predicate stack) (takes_all rules function (length (so_far ++ tree ∷ []))) _ (λ h. h)
   out-end (Argued at function so_far ∷ stack) tree ender none = tt
   out-end (Body at function so_far ∷ stack) tree EndGroup none = out-when true (takes_all rules function (length (so_far ++ tree ∷ []))) _ (λ h. refl)
   out-end (Body at function so_far ∷ stack) tree ender none = tt
   out-end (Braced at function so_far ∷ stack) tree EndBrace none = λ h. refl
   out-end (Braced at function so_far ∷ stack) tree ender none = tt
 
-  out-follow : (stack : List Frame) (tree : Expression) (at : ℕ) (r : Follow) → r ≢ Ends Comma → Out (in_call stack) (followed_by rules stack tree at r)
-  out-follow stack tree at (Operator operator) none = subst (λ (b : Bool). Out b (operate rules at operator (climbed (looseness operator) stack tree))) (climbed-inside (looseness operator) stack tree) (out-operate at operator (climbed (looseness operator) stack tree))
+  out-follow : (stack : List Frame) (tree : Expression) (at : ℕ) (r : Follow) → r ≢ Ends Comma → Out (in_predicate stack) (followed_by rules stack tree at r)
+  out-follow stack tree at (Operator operator) none = subst (λ (b : Bool). Out b (operate rules at operator (climbed (precedence operator) stack tree))) (climbed-inside (precedence operator) stack tree) (out-operate at operator (climbed (precedence operator) stack tree))
   out-follow stack tree at NotOf none = subst (λ (b : Bool). Out b (negate rules at (climbed 2 stack tree))) (climbed-inside 2 stack tree) (out-negate at (climbed 2 stack tree))
   out-follow stack tree at Choose none = subst (λ (b : Bool). Out b (choose rules at (climbed 5 stack tree))) (climbed-inside 5 stack tree) (out-choose at (climbed 5 stack tree))
   out-follow stack tree at Select none = λ h. h
-  out-follow stack tree at Open none = out-when (in_call stack) (may_open rules (openers_left stack)) _ (λ h. h)
+  out-follow stack tree at Open none = out-when (in_predicate stack) (may_open rules (openers_left stack)) _ (λ h. h)
   out-follow stack tree at (Ends ender) none = out-end stack tree ender (λ same. none (ap (λ (e : Ender). Ends e) same))
   out-follow stack tree at NoFollow none = tt
 
-  out-select : (stack : List Frame) (at : ℕ) (whole : Expression) (word : Option (List ℕ)) → Out (in_call stack) (select rules stack at whole word)
+  out-select : (stack : List Frame) (at : ℕ) (whole : Expression) (word : Option (List ℕ)) → Out (in_predicate stack) (select rules stack at whole word)
   out-select stack at whole (Some word) = λ h. h
   out-select stack at whole None = tt
 
-  out-index : (stack : List Frame) (at : ℕ) (whole : Expression) (c : Token) (text : Option (List ℕ)) → Out (in_call stack) (open_index rules stack at whole c text)
+  out-index : (stack : List Frame) (at : ℕ) (whole : Expression) (c : Token) (text : Option (List ℕ)) → Out (in_predicate stack) (open_index rules stack at whole c text)
   out-index stack at whole c (Some text) = λ h. h
-  out-index stack at whole c None = out-begin (Indexed at whole ∷ stack) c.span.start (begun_by (in_call stack) c)
+  out-index stack at whole c None = out-begin (Indexed at whole ∷ stack) c.span.start (begun_by (in_predicate stack) c)
 
-  out-text : (stack : List Frame) (at : ℕ) (whole : Expression) (text_at : ℕ) (text : List ℕ) (c : Token) (r : Follow) → follows c ≢ Ends Comma → Out (in_call stack) (close_text rules stack at whole text_at text c r)
+  out-text : (stack : List Frame) (at : ℕ) (whole : Expression) (text_at : ℕ) (text : List ℕ) (c : Token) (r : Follow) → follows c ≢ Ends Comma → Out (in_predicate stack) (close_text rules stack at whole text_at text c r)
   out-text stack at whole text_at text c (Ends EndBracket) none = λ h. h
   out-text stack at whole text_at text c r none = out-follow (Indexed at whole ∷ stack) (LiteralAt text_at (Text text)) c.span.start (follows c) none
 
@@ -160,16 +160,16 @@ module _ (rules : Rules) where
   out-any a (Some state) = λ h. or-true a
   out-any a None = tt
 
-  out-argue : (stack : List Frame) (at : ℕ) (function : Call) (so_far : List Expression) (c : Token) (body brace : Bool) → Out (in_call stack || body) (argue rules stack at function so_far c (start_by body brace))
-  out-argue stack at function so_far c false brace = out-weaken (in_call stack) false _ (out-begin (Argued at function so_far ∷ stack) c.span.start (begun_by (in_call stack) c))
-  out-argue stack at function so_far c true brace = out-any (in_call stack) _
+  out-argue : (stack : List Frame) (at : ℕ) (function : Call) (so_far : List Expression) (c : Token) (body brace : Bool) → Out (in_predicate stack || body) (argue rules stack at function so_far c (start_by body brace))
+  out-argue stack at function so_far c false brace = out-weaken (in_predicate stack) false _ (out-begin (Argued at function so_far ∷ stack) c.span.start (begun_by (in_predicate stack) c))
+  out-argue stack at function so_far c true brace = out-any (in_predicate stack) _
 
-  out-empty : (stack : List Frame) (at : ℕ) (function : Call) (c : Token) (so_far : List Expression) (r : Follow) → Out (in_call stack || is_body function (length so_far)) (close_empty rules stack at function c so_far r)
-  out-empty stack at function c [] (Ends EndGroup) = out-when (in_call stack || is_body function 0) (takes_all rules function 0) _ (λ h. or-left (in_call stack) (is_body function 0) h)
+  out-empty : (stack : List Frame) (at : ℕ) (function : Call) (c : Token) (so_far : List Expression) (r : Follow) → Out (in_predicate stack || is_body function (length so_far)) (close_empty rules stack at function c so_far r)
+  out-empty stack at function c [] (Ends EndGroup) = out-when (in_predicate stack || is_body function 0) (takes_all rules function 0) _ (λ h. or-left (in_predicate stack) (is_body function 0) h)
   out-empty stack at function c so_far r = out-argue stack at function so_far c (is_body function (length so_far)) (is_brace c)
 
-  out-braced : (stack : List Frame) (at : ℕ) (function : Call) (arguments : List Expression) (r : Follow) → r ≢ Ends Comma → Out (in_call stack) (close_braced rules stack at function arguments r)
-  out-braced stack at function arguments (Ends EndGroup) none = out-when (in_call stack) (takes_all rules function (length arguments)) _ (λ h. h)
+  out-braced : (stack : List Frame) (at : ℕ) (function : Call) (arguments : List Expression) (r : Follow) → r ≢ Ends Comma → Out (in_predicate stack) (close_braced rules stack at function arguments r)
+  out-braced stack at function arguments (Ends EndGroup) none = out-when (in_predicate stack) (takes_all rules function (length arguments)) _ (λ h. h)
   out-braced stack at function arguments (Ends Comma) none = absurd (none refl)
   out-braced stack at function arguments r none = tt
 
@@ -182,24 +182,24 @@ module _ (rules : Rules) where
   -- without a comma no predicate begins
   pub out-step : (state : ParserState) (c : Token) → is_comma c.kind ≡ false → Out (is_inside state) (parser_step rules state c)
   unfolding parser_step
-  out-step (Want stack) c is = out-begin stack c.span.start (begun_by (in_call stack) c)
+  out-step (Want stack) c is = out-begin stack c.span.start (begun_by (in_predicate stack) c)
   out-step (Have stack tree) c is = out-follow stack tree c.span.start (follows c) (no_comma c is)
   out-step (WantName stack at whole) c is = out-select stack at whole (field_name_of c)
   out-step (WantIndex stack at whole) c is = out-index stack at whole c (literal_text c)
   out-step (HaveText stack at whole text_at text) c is = out-text stack at whole text_at text c (follows c) (no_comma c is)
-  out-step (WantIn stack at first) c is = out-when (in_call stack) (is_in c) _ (λ h. h)
-  out-step (WantGroup stack at function) c is = out-when (in_call stack) (is_group c) _ (first_argument function (in_call stack))
+  out-step (WantIn stack at first) c is = out-when (in_predicate stack) (is_in c) _ (λ h. h)
+  out-step (WantGroup stack at function) c is = out-when (in_predicate stack) (is_group c) _ (first_argument function (in_predicate stack))
   out-step (WantArgument stack at function so_far) c is = out-empty stack at function c so_far (follows c)
   out-step (HaveArgument stack at function arguments) c is = out-braced stack at function arguments (follows c) (no_comma c is)
 
   -- ---- tokens that no state takes
 
-  stop-want : (stack : List Frame) (c : Token) → begun_by (in_call stack) c ≡ NoStart → want rules stack c ≡ None
+  stop-want : (stack : List Frame) (c : Token) → begun_by (in_predicate stack) c ≡ NoStart → want rules stack c ≡ None
   stop-want stack c e = ap (begun_with rules stack c.span.start) e
 
-  stop-argue : (stack : List Frame) (at : ℕ) (function : Call) (so_far : List Expression) (c : Token) (body : Bool) → IsIdle (in_call stack || body) c → argue rules stack at function so_far c (start_by body false) ≡ None
-  stop-argue stack at function so_far c false idle = stop-want (Argued at function so_far ∷ stack) c (idle.begins (in_call stack) (λ h. or-left (in_call stack) false h))
-  stop-argue stack at function so_far c true idle = stop-want (Body at function so_far ∷ stack) c (idle.begins true (λ h. or-true (in_call stack)))
+  stop-argue : (stack : List Frame) (at : ℕ) (function : Call) (so_far : List Expression) (c : Token) (body : Bool) → IsIdle (in_predicate stack || body) c → argue rules stack at function so_far c (start_by body false) ≡ None
+  stop-argue stack at function so_far c false idle = stop-want (Argued at function so_far ∷ stack) c (idle.begins (in_predicate stack) (λ h. or-left (in_predicate stack) false h))
+  stop-argue stack at function so_far c true idle = stop-want (Body at function so_far ∷ stack) c (idle.begins true (λ h. or-true (in_predicate stack)))
 
   stop-empty : (stack : List Frame) (at : ℕ) (function : Call) (c : Token) (so_far : List Expression) (r : Follow) → r ≢ Ends EndGroup → argue rules stack at function so_far c (start_by (is_body function (length so_far)) (is_brace c)) ≡ None → close_empty rules stack at function c so_far r ≡ None
   stop-empty stack at function c [] (Ends EndGroup) other e = absurd (other refl)
@@ -207,8 +207,8 @@ module _ (rules : Rules) where
 
   pub stop-operand : (state : ParserState) (c : Token) → wants_operand state ≡ true → IsIdle (is_inside state) c → parser_step rules state c ≡ None
   unfolding parser_step
-  stop-operand (Want stack) c wants idle = stop-want stack c (idle.begins (in_call stack) (λ h. h))
-  stop-operand (WantIndex stack at whole) c wants idle = ap (open_index rules stack at whole c) idle.text ∙ stop-want (Indexed at whole ∷ stack) c (idle.begins (in_call stack) (λ h. h))
+  stop-operand (Want stack) c wants idle = stop-want stack c (idle.begins (in_predicate stack) (λ h. h))
+  stop-operand (WantIndex stack at whole) c wants idle = ap (open_index rules stack at whole c) idle.text ∙ stop-want (Indexed at whole ∷ stack) c (idle.begins (in_predicate stack) (λ h. h))
   stop-operand (WantArgument stack at function so_far) c wants idle =
       stop-empty stack at function c so_far (follows c) idle.end
       (ap (λ brace. argue rules stack at function so_far c (start_by (is_body function (length so_far)) brace)) idle.brace ∙ stop-argue stack at function so_far c (is_body function (length so_far)) idle)
@@ -325,10 +325,10 @@ hash-is = refl
 abbrev pub Arrives : ParserState → List Token → Type 0
 Arrives state further = accepts (run strict (Some state) (further ++ hash ∷ [])) ≡ true
 
-at-want : (stack : List Frame) → in_call stack ≡ true → want strict stack hash ≡ Some (Have stack (ItemAt 0))
+at-want : (stack : List Frame) → in_predicate stack ≡ true → want strict stack hash ≡ Some (Have stack (ItemAt 0))
 at-want stack is = ap (λ (b : Bool). begun_with strict stack hash.span.start (begun_by b hash)) is ∙ ap (begun_with strict stack hash.span.start) hash-starts
 
-want-arrives : (stack : List Frame) → in_call stack ≡ true → Arrives (Want stack) []
+want-arrives : (stack : List Frame) → in_predicate stack ≡ true → Arrives (Want stack) []
 unfolding parser_step
 want-arrives stack is = ap accepts (at-want stack is)
 
@@ -339,12 +339,12 @@ operand-arrives at state is within = absurd is
 have-plus : (stack : List Frame) (tree : Expression) → have strict stack tree plus ≡ operate strict plus.span.start binaries.Add (climbed 1 stack tree)
 have-plus stack tree = ap (followed_by strict stack tree plus.span.start) plus-follows
 
-have-arrives : (stack : List Frame) (tree : Expression) → IsStack stack → in_call stack ≡ true → accepts (run strict (have strict stack tree plus) (hash ∷ [])) ≡ true
+have-arrives : (stack : List Frame) (tree : Expression) → IsStack stack → in_predicate stack ≡ true → accepts (run strict (have strict stack tree plus) (hash ∷ [])) ≡ true
 have-arrives stack tree is within =
     ap (λ (s : Option ParserState). accepts (run strict s (hash ∷ []))) (have-plus stack tree)
     ∙ operand-arrives plus.span.start (climbed 1 stack tree) (climbed-is 1 (omega arith) stack tree is) (climbed-inside 1 stack tree ∙ within)
 
-state-arrives : (stack : List Frame) (tree : Expression) → IsStack stack → in_call stack ≡ true → Arrives (Have stack tree) (plus ∷ [])
+state-arrives : (stack : List Frame) (tree : Expression) → IsStack stack → in_predicate stack ≡ true → Arrives (Have stack tree) (plus ∷ [])
 unfolding parser_step
 state-arrives stack tree is within = have-arrives stack tree is within
 
@@ -352,11 +352,11 @@ empty-open : (stack : List Frame) (at : ℕ) (function : Call) (c : Token) (so_f
 empty-open stack at function c [] = refl
 empty-open stack at function c (first ∷ so_far) = refl
 
-argue-arrives : (stack : List Frame) (at : ℕ) (function : Call) (so_far : List Expression) (body : Bool) → (in_call stack || body) ≡ true → accepts (argue strict stack at function so_far hash (start_by body false)) ≡ true
-argue-arrives stack at function so_far false within = ap accepts (at-want (Argued at function so_far ∷ stack) (or-drop strict (in_call stack) within))
+argue-arrives : (stack : List Frame) (at : ℕ) (function : Call) (so_far : List Expression) (body : Bool) → (in_predicate stack || body) ≡ true → accepts (argue strict stack at function so_far hash (start_by body false)) ≡ true
+argue-arrives stack at function so_far false within = ap accepts (at-want (Argued at function so_far ∷ stack) (or-drop strict (in_predicate stack) within))
 argue-arrives stack at function so_far true within = ap accepts (at-want (Body at function so_far ∷ stack) refl)
 
-argument-arrives : (stack : List Frame) (at : ℕ) (function : Call) (so_far : List Expression) → (in_call stack || is_body function (length so_far)) ≡ true → Arrives (WantArgument stack at function so_far) []
+argument-arrives : (stack : List Frame) (at : ℕ) (function : Call) (so_far : List Expression) → (in_predicate stack || is_body function (length so_far)) ≡ true → Arrives (WantArgument stack at function so_far) []
 unfolding parser_step
 argument-arrives stack at function so_far within =
     ap accepts (ap (close_empty strict stack at function hash so_far) hash-follows ∙ empty-open stack at function hash so_far ∙ ap (λ brace. argue strict stack at function so_far hash (start_by (is_body function (length so_far)) brace)) hash-no_brace)
@@ -408,7 +408,7 @@ arrives (WantIn stack at first) is counted within = (
 arrives (WantGroup stack at function) is counted within = (
   group ∷ [],
   no_comma-cons group [] group-no_comma refl,
-  ap (λ (b : Bool). accepts (run strict (when strict b (WantArgument stack at function [])) (hash ∷ []))) group-is ∙ argument-arrives stack at function [] (or-left (in_call stack) (is_body function 0) within),
+  ap (λ (b : Bool). accepts (run strict (when strict b (WantArgument stack at function [])) (hash ∷ []))) group-is ∙ argument-arrives stack at function [] (or-left (in_predicate stack) (is_body function 0) within),
 )
 arrives (WantArgument stack at function so_far) is counted within = ([], refl, argument-arrives stack at function so_far within)
 arrives (HaveArgument stack at function arguments) is counted within = (

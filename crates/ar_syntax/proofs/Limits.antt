@@ -9,14 +9,14 @@ use Rattle.ar_tree.specs.Expression.{Expression, expression_count, expressions}
 use Rattle.ar_tree.specs.Limits.{AllWrittenInLimits, IsShort, WrittenInLimits}
 use Rattle.ar_tree.specs.Views.{expression_of}
 use Rattle.ar_tree.specs.declared.tree.Tree.{Tree}
-use Rattle.ar_syntax.specs.Grammar.{Arguments, ArgumentsBehind, Further, ListItems, ItemsBehind, Phrase, Primary, Selections, may_continue}
+use Rattle.ar_syntax.specs.Grammar.{Arguments, ArgumentsAfter, Further, ListItems, ItemsAfter, Phrase, Primary, Selections, may_continue}
 use Rattle.ar_syntax.specs.Grammar as grammar
 use Rattle.ar_syntax.specs.Parse.{parse_of}
 use Rattle.ar_syntax.specs.Condition.{SaysTree, strict}
 use Rattle.ar_syntax.specs.Roles.{Call, Len, IsNil, Default, Over, Start, Leaf, called, kind_name, kind_start, kind_text, field_name_of, sign_start, begun_by, literal_text, word_start}
 use Rattle.ar_syntax.specs.Spelling.{IsSpelled, Spells, is_syntax_memory, text_in_span}
 use Rattle.ar_syntax.specs.Token.{escape_of, letters, predicate_letters, test_letters, unescaped, with_byte, with_escape}
-use Rattle.ar_syntax.specs.Tokens.{tokens_behind, tokens_of}
+use Rattle.ar_syntax.specs.Tokens.{tokens_after, tokens_of}
 use Rattle.ar_syntax.specs.declared.error.SyntaxError.{SyntaxError}
 use Rattle.ar_syntax.specs.declared.error.SyntaxError.TheVariants.{TooLong}
 use Rattle.ar_syntax.specs.declared.token.Sign.{Sign}
@@ -39,21 +39,21 @@ use Rattle.ar_syntax.proofs.Texts.{SaysTree-from_parse_of}
 abbrev HasUpTo : ℕ → Result (List ℕ) SyntaxError → Type 0
 HasUpTo most answer = IfOk answer (λ bytes. length bytes ≤ most)
 
-one_byte_more : (most byte : ℕ) (behind : Result (List ℕ) SyntaxError) → HasUpTo most behind → HasUpTo (suc most) (with_byte byte behind)
+one_byte_more : (most byte : ℕ) (later : Result (List ℕ) SyntaxError) → HasUpTo most later → HasUpTo (suc most) (with_byte byte later)
 one_byte_more most byte (Ok bytes) few = omega (arith, few)
 one_byte_more most byte (Err error) few = tt
 
-one_escape_more : (most at : ℕ) (byte : Option ℕ) (behind : Result (List ℕ) SyntaxError) → HasUpTo most behind → HasUpTo (suc most) (with_escape at byte behind)
-one_escape_more most at (Some byte) behind few = one_byte_more most byte behind few
-one_escape_more most at None behind few = tt
+one_escape_more : (most at : ℕ) (byte : Option ℕ) (later : Result (List ℕ) SyntaxError) → HasUpTo most later → HasUpTo (suc most) (with_escape at byte later)
+one_escape_more most at (Some byte) later few = one_byte_more most byte later few
+one_escape_more most at None later few = tt
 
-no_byte_more : (most : ℕ) (behind : Result (List ℕ) SyntaxError) → HasUpTo most behind → HasUpTo (suc most) behind
+no_byte_more : (most : ℕ) (later : Result (List ℕ) SyntaxError) → HasUpTo most later → HasUpTo (suc most) later
 no_byte_more most (Ok bytes) few = omega (arith, few)
 no_byte_more most (Err error) few = tt
 
-either_way : (most : ℕ) (test : Bool) (met unmet : Result (List ℕ) SyntaxError) → HasUpTo most met → HasUpTo most unmet → HasUpTo most (if test then met else unmet)
-either_way most true met unmet h k = h
-either_way most false met unmet h k = k
+either_way : (most : ℕ) (test : Bool) (then_branch else_branch : Result (List ℕ) SyntaxError) → HasUpTo most then_branch → HasUpTo most else_branch → HasUpTo most (if test then then_branch else else_branch)
+either_way most true then_branch else_branch h k = h
+either_way most false then_branch else_branch h k = k
 
 -- an escape has two bytes and represents one
 unescaped_few : (before : ℕ) (escaped : Bool) (bytes : List ℕ) → HasUpTo (length bytes) (unescaped before escaped bytes)
@@ -96,7 +96,7 @@ condition_chosen text false answer tokens is e = ltb-false most_text_bytes (leng
 
 condition_short : (text : List ℕ) (tokens : List Token) → tokens_of text ≡ Ok tokens → IsShort text
 unfolding tokens_of
-condition_short text tokens e = condition_chosen text (nat_lt most_text_bytes (length text)) (tokens_behind 0 0 false text) tokens refl e
+condition_short text tokens e = condition_chosen text (nat_lt most_text_bytes (length text)) (tokens_after 0 0 false text) tokens refl e
 
 -- ---- what tokens begin
 
@@ -209,7 +209,7 @@ mutual
   further_within grammar.nothing h short = (h, short)
   further_within (grammar.operator is loose phrase further) h short = let second = phrase_within phrase short.1 in further_within further (h, second.0) second.1
   further_within (grammar.not_in is is_in loose phrase further) h short = let second = phrase_within phrase short.1.1 in further_within further (h, second.0) second.1
-  further_within (grammar.choice is may last met colon unmet) h short = let yes = phrase_within met short.1 in let other = phrase_within unmet yes.1.1 in ((h, yes.0, other.0), other.1)
+  further_within (grammar.choice is may last then_branch colon else_branch) h short = let first = phrase_within then_branch short.1 in let other = phrase_within else_branch first.1.1 in ((h, first.0, other.0), other.1)
 
   selections_within : {inside : Bool} {left : ℕ} {tokens rest : List Token} {owner tree : Expression} → Selections strict inside left owner tokens tree rest → WrittenInLimits owner → AreShort tokens → Within tree rest
   selections_within grammar.nothing_more h short = (h, short)
@@ -228,24 +228,24 @@ mutual
 
   items_within : {inside : Bool} {left : ℕ} {so_far trees : List Expression} {tokens rest : List Token} → ListItems strict inside left so_far tokens trees rest → AllWrittenInLimits (expressions so_far) → length so_far < most_literal_items → AreShort tokens
       → (AllWrittenInLimits (expressions trees) × (length trees ≤ most_literal_items)) × AreShort rest
-  items_within (grammar.item {so_far = so_far} {first = tree} phrase behind) all few short =
+  items_within (grammar.item {so_far = so_far} {first = tree} phrase later) all few short =
       let first = phrase_within phrase short in
-      items_behind_within behind (one_more so_far tree all first.0) (omega (arith, few, length-append so_far (tree ∷ []))) first.1
+      items_after_within later (one_more so_far tree all first.0) (omega (arith, few, length-append so_far (tree ∷ []))) first.1
 
-  items_behind_within : {inside : Bool} {left : ℕ} {so_far trees : List Expression} {tokens rest : List Token} → ItemsBehind strict inside left so_far tokens trees rest → AllWrittenInLimits (expressions so_far) → length so_far ≤ most_literal_items → AreShort tokens
+  items_after_within : {inside : Bool} {left : ℕ} {so_far trees : List Expression} {tokens rest : List Token} → ItemsAfter strict inside left so_far tokens trees rest → AllWrittenInLimits (expressions so_far) → length so_far ≤ most_literal_items → AreShort tokens
       → (AllWrittenInLimits (expressions trees) × (length trees ≤ most_literal_items)) × AreShort rest
-  items_behind_within (grammar.last_item close) all few short = ((all, few), short.1)
-  items_behind_within (grammar.comma_item {so_far = so_far} comma may items) all few short = items_within items all (may_chosen (length so_far) (nat_lt (length so_far) most_literal_items) refl may) short.1
+  items_after_within (grammar.last_item close) all few short = ((all, few), short.1)
+  items_after_within (grammar.comma_item {so_far = so_far} comma may items) all few short = items_within items all (may_chosen (length so_far) (nat_lt (length so_far) most_literal_items) refl may) short.1
 
   arguments_within : {inside : Bool} {left : ℕ} {function : Call} {so_far trees : List Expression} {tokens rest : List Token} → Arguments strict inside left function so_far tokens trees rest → AllWrittenInLimits (expressions so_far) → AreShort tokens → AllWithin trees rest
   arguments_within (grammar.no_argument close takes) all short = (tt, short.1)
-  arguments_within (grammar.argument {so_far = so_far} {first = tree} plain phrase behind) all short = let first = phrase_within phrase short in arguments_behind_within behind (one_more so_far tree all first.0) first.1
-  arguments_within (grammar.body {so_far = so_far} {first = tree} body phrase behind) all short = let first = phrase_within phrase short in arguments_behind_within behind (one_more so_far tree all first.0) first.1
-  arguments_within (grammar.braced {so_far = so_far} {first = tree} body opener may phrase close behind) all short = let first = phrase_within phrase short.1 in arguments_behind_within behind (one_more so_far tree all first.0) first.1.1
+  arguments_within (grammar.argument {so_far = so_far} {first = tree} plain phrase later) all short = let first = phrase_within phrase short in arguments_after_within later (one_more so_far tree all first.0) first.1
+  arguments_within (grammar.body {so_far = so_far} {first = tree} body phrase later) all short = let first = phrase_within phrase short in arguments_after_within later (one_more so_far tree all first.0) first.1
+  arguments_within (grammar.braced {so_far = so_far} {first = tree} body opener may phrase close later) all short = let first = phrase_within phrase short.1 in arguments_after_within later (one_more so_far tree all first.0) first.1.1
 
-  arguments_behind_within : {inside : Bool} {left : ℕ} {function : Call} {so_far trees : List Expression} {tokens rest : List Token} → ArgumentsBehind strict inside left function so_far tokens trees rest → AllWrittenInLimits (expressions so_far) → AreShort tokens → AllWithin trees rest
-  arguments_behind_within (grammar.last_argument close takes) all short = (all, short.1)
-  arguments_behind_within (grammar.comma_argument comma takes arguments) all short = arguments_within arguments all short.1
+  arguments_after_within : {inside : Bool} {left : ℕ} {function : Call} {so_far trees : List Expression} {tokens rest : List Token} → ArgumentsAfter strict inside left function so_far tokens trees rest → AllWrittenInLimits (expressions so_far) → AreShort tokens → AllWithin trees rest
+  arguments_after_within (grammar.last_argument close takes) all short = (all, short.1)
+  arguments_after_within (grammar.comma_argument comma takes arguments) all short = arguments_within arguments all short.1
 
 -- ---- conditions
 

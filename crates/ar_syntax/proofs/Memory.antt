@@ -6,12 +6,12 @@ use Rattle.ar_value.specs.Decimal.{is_i64}
 use Rattle.ar_value.specs.Digits.{magnitude_of}
 use Rattle.ar_value.specs.Answer.{◌>>=◌}
 use Rattle.ar_value.specs.Limits.{most_text_bytes}
-use Rattle.ar_syntax.specs.Refusal.{IsNamedBehind, AreRefused, IsRefusedBehind}
+use Rattle.ar_syntax.specs.Refusal.{IsNamedAfter, AreRefused, IsRefusedAfter}
 use Rattle.ar_syntax.specs.Refusal as refusal
 use Rattle.ar_syntax.specs.Parsed.{IsRefusal, token_fault, grammar_fault}
 use Rattle.ar_syntax.specs.Parse.{parse_of}
 use Rattle.ar_syntax.specs.Token.{begins_word, continues_word, escape_of, is_quote, radix, takes_field, text_end, unescaped, with_byte, with_escape}
-use Rattle.ar_syntax.specs.Tokens.{base_digits, base_of, begins_block_comment, begins_line_comment, begins_number, block_comment, comment_end, comment_of, digits_at, number_ended, piece_found, fraction_at, front_of, is_blank, is_coalescing, line_comment, number_in, number_at_front, number_text, sign_at, sign_of, sign_token, text_in, text_at_front, token, token_of, tokens_behind, tokens_of, number_token_kind, whole_token_kind, with_front, word_at, word_token}
+use Rattle.ar_syntax.specs.Tokens.{base_digits, base_of, begins_block_comment, begins_line_comment, begins_number, block_comment, comment_end, comment_of, digits_at, number_ended, piece_found, fraction_at, front_of, is_blank, is_coalescing, line_comment, number_in, number_at_front, number_text, sign_at, sign_of, sign_token, text_in, text_at_front, token, token_of, tokens_after, tokens_of, number_token_kind, whole_token_kind, with_front, word_at, word_token}
 use Rattle.ar_syntax.specs.declared.error.SyntaxError.{SyntaxError}
 use Rattle.ar_syntax.specs.declared.error.SyntaxError.TheVariants.{BadCharacter, OutOfMemory}
 use Rattle.ar_syntax.specs.declared.scanner.Piece.{Piece}
@@ -58,12 +58,12 @@ number_of-defined : (at : ℕ) (bytes : List ℕ) → IsDefined (number_at_front
 unfolding number_at_front
 number_of-defined at bytes = number_in-defined at bytes (base_of bytes)
 
-with_byte-defined : (byte : ℕ) (behind : Result (List ℕ) SyntaxError) → IsDefined behind → IsDefined (with_byte byte behind)
-with_byte-defined byte behind is = IsDefined-then behind (λ bytes. Ok (byte ∷ bytes)) is (λ bytes. tt)
+with_byte-defined : (byte : ℕ) (later : Result (List ℕ) SyntaxError) → IsDefined later → IsDefined (with_byte byte later)
+with_byte-defined byte later is = IsDefined-then later (λ bytes. Ok (byte ∷ bytes)) is (λ bytes. tt)
 
-with_escape-defined : (at : ℕ) (escape : Option ℕ) (behind : Result (List ℕ) SyntaxError) → IsDefined behind → IsDefined (with_escape at escape behind)
-with_escape-defined at (Some byte) behind is = with_byte-defined byte behind is
-with_escape-defined at None behind is = λ same. absurd cc
+with_escape-defined : (at : ℕ) (escape : Option ℕ) (later : Result (List ℕ) SyntaxError) → IsDefined later → IsDefined (with_escape at escape later)
+with_escape-defined at (Some byte) later is = with_byte-defined byte later is
+with_escape-defined at None later is = λ same. absurd cc
 
 unescaped-defined : (before : ℕ) (escaped : Bool) (bytes : List ℕ) → IsDefined (unescaped before escaped bytes)
 unescaped-defined before escaped [] = tt
@@ -103,27 +103,27 @@ front_of-defined at field bytes =
     (IsDefined-cond (begins_block_comment bytes) (block_comment at bytes) (token_of at field bytes >>= piece_found) (comment_of-defined at (comment_end 2 false (drop 2 bytes)))
     (IsDefined-then (token_of at field bytes) piece_found (token_of-defined at field bytes) (λ token. tt))))
 
-with_front-defined : (at : ℕ) (front : Piece) (behind : ℕ → Bool → Result (List Token) SyntaxError) → ((skip : ℕ) (word : Bool) → IsDefined (behind skip word)) → IsDefined (with_front at front behind)
-with_front-defined at (Gap len) behind behind-is = behind-is _ false
-with_front-defined at (Found token) behind behind-is = IsDefined-then (behind _ (takes_field token.kind)) (λ tokens. Ok (token ∷ tokens)) (behind-is _ (takes_field token.kind)) (λ tokens. tt)
+with_front-defined : (at : ℕ) (front : Piece) (later : ℕ → Bool → Result (List Token) SyntaxError) → ((skip : ℕ) (word : Bool) → IsDefined (later skip word)) → IsDefined (with_front at front later)
+with_front-defined at (Gap len) later later-is = later-is _ false
+with_front-defined at (Found token) later later-is = IsDefined-then (later _ (takes_field token.kind)) (λ tokens. Ok (token ∷ tokens)) (later-is _ (takes_field token.kind)) (λ tokens. tt)
 
-tokens_behind-defined : (skip at : ℕ) (field : Bool) (bytes : List ℕ) → IsDefined (tokens_behind skip at field bytes)
-unfolding tokens_behind
-tokens_behind-defined skip at field [] = tt
-tokens_behind-defined (suc skip) at field (byte ∷ bytes) = tokens_behind-defined skip (at + 1) field bytes
-tokens_behind-defined zero at field (byte ∷ bytes) =
-    IsDefined-then (front_of at field (byte ∷ bytes)) (λ front. with_front at front (λ skip word. tokens_behind skip (at + 1) word bytes)) (front_of-defined at field (byte ∷ bytes))
-    (λ front. with_front-defined at front (λ skip word. tokens_behind skip (at + 1) word bytes) (λ skip word. tokens_behind-defined skip (at + 1) word bytes))
+tokens_after-defined : (skip at : ℕ) (field : Bool) (bytes : List ℕ) → IsDefined (tokens_after skip at field bytes)
+unfolding tokens_after
+tokens_after-defined skip at field [] = tt
+tokens_after-defined (suc skip) at field (byte ∷ bytes) = tokens_after-defined skip (at + 1) field bytes
+tokens_after-defined zero at field (byte ∷ bytes) =
+    IsDefined-then (front_of at field (byte ∷ bytes)) (λ front. with_front at front (λ skip word. tokens_after skip (at + 1) word bytes)) (front_of-defined at field (byte ∷ bytes))
+    (λ front. with_front-defined at front (λ skip word. tokens_after skip (at + 1) word bytes) (λ skip word. tokens_after-defined skip (at + 1) word bytes))
 
 tokens_of-defined : (text : List ℕ) → IsDefined (tokens_of text)
 unfolding tokens_of
-tokens_of-defined text = IsDefined-cond (ltb most_text_bytes (length text)) _ _ (λ same. absurd cc) (tokens_behind-defined 0 0 false text)
+tokens_of-defined text = IsDefined-cond (ltb most_text_bytes (length text)) _ _ (λ same. absurd cc) (tokens_after-defined 0 0 false text)
 
 not_memory : {A : Type 0} (r : Result A SyntaxError) → IsDefined r → r ≢ Err OutOfMemory
 not_memory (Ok x) r-is e = absurd cc
 not_memory (Err error) r-is e = let same : error ≡ OutOfMemory = cc in r-is same
 
-named-defined : (before : List Token) (token : Token) (error : SyntaxError) → IsNamedBehind before token error → error ≢ OutOfMemory
+named-defined : (before : List Token) (token : Token) (error : SyntaxError) → IsNamedAfter before token error → error ≢ OutOfMemory
 named-defined before token error (refusal.unknown_name is wants) same = absurd cc
 named-defined before token error (refusal.item_outside is out) same = absurd cc
 named-defined before token error (refusal.item_field_outside is wants out) same = absurd cc
@@ -131,12 +131,12 @@ named-defined before token error (refusal.wrong_count begins) same = absurd cc
 named-defined before token error (refusal.too_many_items others begins) same = absurd cc
 named-defined before token error (refusal.too_deep others further begins) same = absurd cc
 
-behind-defined : (before : List Token) (token : Token) (error : SyntaxError) → IsRefusedBehind before token error → error ≢ OutOfMemory
-behind-defined before token error (refusal.named is) same = named-defined before token error is same
-behind-defined before token error (refusal.unexpected none) same = absurd cc
+later-defined : (before : List Token) (token : Token) (error : SyntaxError) → IsRefusedAfter before token error → error ≢ OutOfMemory
+later-defined before token error (refusal.named is) same = named-defined before token error is same
+later-defined before token error (refusal.unexpected none) same = absurd cc
 
 refused-chosen : (end : ℕ) (tokens : List Token) (error : SyntaxError) → AreRefused end tokens error → error ≢ OutOfMemory
-refused-chosen end tokens error (refusal.at_token before token rest are begins stops why) same = behind-defined before token error why same
+refused-chosen end tokens error (refusal.at_token before token rest are begins stops why) same = later-defined before token error why same
 refused-chosen end tokens error (refusal.at_end begins none) same = absurd cc
 refused-chosen end tokens error (refusal.at_depth tree derived deep) same = absurd cc
 

@@ -2,10 +2,10 @@
 use Rattle.std.proofs.Common.{◌≡◌, ℕ, ◌-◌, true, false, List, [], ◌∷◌, refl, ap, subst, Option, Some, None}
 use Rattle.std.specs.Prelude.{pred}
 use Rattle.ar_tree.specs.Expression.{Expression, UnaryAt, BinaryAt, ChoiceAt}
-use Rattle.ar_syntax.specs.Grammar.{Arguments, ArgumentsBehind, Further, ListItems, ItemsBehind, Phrase, Primary, Rules, Selections, may_continue, may_open, most_openers, takes_all, takes_more, ternary}
+use Rattle.ar_syntax.specs.Grammar.{Arguments, ArgumentsAfter, Further, ListItems, ItemsAfter, Phrase, Primary, Rules, Selections, may_continue, may_open, most_openers, takes_all, takes_more, ternary}
 use Rattle.ar_syntax.specs.Grammar as grammar
-use Rattle.ar_syntax.specs.Machine.{Frame, ParserState, RightOf, Prefixed, Yes, No, Grouped, Listed, Indexed, Argued, Body, Braced, Want, Have, WantName, WantIndex, HaveText, WantIn, WantGroup, WantArgument, HaveArgument, in_call, openers_left, wanted}
-use Rattle.ar_syntax.specs.Roles.{Call, looseness}
+use Rattle.ar_syntax.specs.Machine.{Frame, ParserState, RightOf, Prefixed, Then, Else, Grouped, Listed, Indexed, Argued, Body, Braced, Want, Have, WantName, WantIndex, HaveText, WantIn, WantGroup, WantArgument, HaveArgument, in_predicate, openers_left, wanted}
+use Rattle.ar_syntax.specs.Roles.{Call, precedence}
 use Rattle.ar_syntax.specs.declared.token.Token.{Token}
 use Rattle.ar_syntax.specs.Grammar.{ends_bracket, is_alone, is_text_alone}
 use Rattle.ar_syntax.specs.Machine.{unwound}
@@ -20,17 +20,17 @@ use Rattle.ar_syntax.proofs.Runs.{IsStateFrom, keeps, step-back, step-to}
 module _ (rules : Rules) (final : Expression) where
   -- ---- the end
 
-  no_called : (stack : List Frame) (at : ℕ) (function : Call) (so_far arguments : List Expression) (rest : List Token) → ¬ Arguments rules (in_call stack) (pred (openers_left stack)) function so_far [] arguments rest
-  no_called stack at function so_far arguments rest (grammar.argument plain phrase behind) = no_phrase_on rules (in_call stack) (pred (openers_left stack)) ternary _ _ phrase
-  no_called stack at function so_far arguments rest (grammar.body body phrase behind) = no_phrase_on rules true (pred (openers_left stack)) ternary _ _ phrase
+  no_called : (stack : List Frame) (at : ℕ) (function : Call) (so_far arguments : List Expression) (rest : List Token) → ¬ Arguments rules (in_predicate stack) (pred (openers_left stack)) function so_far [] arguments rest
+  no_called stack at function so_far arguments rest (grammar.argument plain phrase later) = no_phrase_on rules (in_predicate stack) (pred (openers_left stack)) ternary _ _ phrase
+  no_called stack at function so_far arguments rest (grammar.body body phrase later) = no_phrase_on rules true (pred (openers_left stack)) ternary _ _ phrase
 
   after-end : (stack : List Frame) (tree : Expression) → After rules final stack tree [] → whole (unwound stack tree) ≡ Some final
   after-end [] tree after = ap (λ (t : Expression). Some t) after.0
   after-end (RightOf at operator first ∷ stack) tree after =
-      after-end stack (BinaryAt at operator first tree) (rise-end rules (wanted stack - looseness operator) (looseness operator) (in_call stack) (openers_left stack) (After rules final stack) (BinaryAt at operator first tree) after)
-  after-end (Prefixed at operator ∷ stack) tree after = after-end stack (UnaryAt at operator tree) (rise-end rules (wanted stack) 0 (in_call stack) (openers_left stack) (After rules final stack) (UnaryAt at operator tree) after)
-  after-end (Yes at condition ∷ stack) tree after = absurd after
-  after-end (No at condition met ∷ stack) tree after = after-end stack (ChoiceAt at condition met tree) after
+      after-end stack (BinaryAt at operator first tree) (rise-end rules (wanted stack - precedence operator) (precedence operator) (in_predicate stack) (openers_left stack) (After rules final stack) (BinaryAt at operator first tree) after)
+  after-end (Prefixed at operator ∷ stack) tree after = after-end stack (UnaryAt at operator tree) (rise-end rules (wanted stack) 0 (in_predicate stack) (openers_left stack) (After rules final stack) (UnaryAt at operator tree) after)
+  after-end (Then at condition ∷ stack) tree after = absurd after
+  after-end (Else at condition then_branch ∷ stack) tree after = after-end stack (ChoiceAt at condition then_branch tree) after
   after-end (Grouped ∷ stack) tree after = absurd after
   after-end (Listed at so_far ∷ stack) tree after = elim after.2 [ ]
   after-end (Indexed at whole ∷ stack) tree after = absurd after
@@ -53,13 +53,13 @@ module _ (rules : Rules) (final : Expression) where
   end-after : (stack : List Frame) (tree : Expression) → whole (unwound stack tree) ≡ Some final → After rules final stack tree []
   end-after [] tree e = (cc, refl)
   end-after (RightOf at operator first ∷ stack) tree e =
-      rise-stay rules (wanted stack - looseness operator) (looseness operator) (in_call stack) (openers_left stack) (After rules final stack) (BinaryAt at operator first tree) [] (end-after stack (BinaryAt at operator first tree) e)
-  end-after (Prefixed at operator ∷ stack) tree e = rise-stay rules (wanted stack) 0 (in_call stack) (openers_left stack) (After rules final stack) (UnaryAt at operator tree) [] (end-after stack (UnaryAt at operator tree) e)
-  end-after (No at condition met ∷ stack) tree e = end-after stack (ChoiceAt at condition met tree) e
+      rise-stay rules (wanted stack - precedence operator) (precedence operator) (in_predicate stack) (openers_left stack) (After rules final stack) (BinaryAt at operator first tree) [] (end-after stack (BinaryAt at operator first tree) e)
+  end-after (Prefixed at operator ∷ stack) tree e = rise-stay rules (wanted stack) 0 (in_predicate stack) (openers_left stack) (After rules final stack) (UnaryAt at operator tree) [] (end-after stack (UnaryAt at operator tree) e)
+  end-after (Else at condition then_branch ∷ stack) tree e = end-after stack (ChoiceAt at condition then_branch tree) e
   end-after (frame ∷ stack) tree e = absurd cc
 
   end-leads : (state : ParserState) → finished state ≡ Some final → Leads rules final state []
-  end-leads (Have stack tree) e = (tree, [], grammar.nothing_more, rise-stay rules (wanted stack) 0 (in_call stack) (openers_left stack) (After rules final stack) tree [] (end-after stack tree e))
+  end-leads (Have stack tree) e = (tree, [], grammar.nothing_more, rise-stay rules (wanted stack) 0 (in_predicate stack) (openers_left stack) (After rules final stack) tree [] (end-after stack tree e))
   end-leads state e = absurd cc
 
   -- ---- all tokens

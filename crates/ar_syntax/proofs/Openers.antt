@@ -3,7 +3,7 @@ use Rattle.std.proofs.Common.{◌≡◌, ℕ, zero, suc, ◌<◌, ◌≤◌, Boo
 use Rattle.std.proofs.lemmas.Bool.Decides.{nat_tests}
 use Rattle.std.specs.Prelude.{nat_eq, nat_lt, pred}
 use Rattle.ar_syntax.specs.Grammar.{Rules, ends_bracket, may_continue, may_open, takes_all, takes_more}
-use Rattle.ar_syntax.specs.Machine.{Argued, Body, Braced, Frame, Grouped, Have, Indexed, Listed, No, Prefixed, RightOf, ParserState, Yes, argue, close_empty, close_text, end_with, have, parser_step, when, whole}
+use Rattle.ar_syntax.specs.Machine.{Argued, Body, Braced, Frame, Grouped, Have, Indexed, Listed, Else, Prefixed, RightOf, ParserState, Then, argue, close_empty, close_text, end_with, have, parser_step, when, whole}
 use Rattle.ar_syntax.specs.Condition.{at_any_depth, of_any_count, of_any_items, strict}
 use Rattle.ar_syntax.specs.Roles.{Call, Colon, Comma, Default, EndBrace, EndBracket, EndGroup, Ender, Ends, Follow, IsNil, Len, Over, arity, is_body, is_brace}
 use Rattle.ar_syntax.specs.Private.Frames.{unwinds}
@@ -68,11 +68,11 @@ pub text_is_name : (rules : Rules) (stack : List Frame) (at : ℕ) (whole : Expr
 text_is_name rules stack at whole text_at text token (Ends EndBracket) h = refl
 text_is_name rules stack at whole text_at text token role h = absurd cc
 
-pub text_goes_on : (old stack : List Frame) (at : ℕ) (whole : Expression) (text_at : ℕ) (text : List ℕ) (token : Token) (role : Follow) (r : Result rust.State Refusal) → ends_bracket role ≡ false
+pub text_continues : (old stack : List Frame) (at : ℕ) (whole : Expression) (text_at : ℕ) (text : List ℕ) (token : Token) (role : Follow) (r : Result rust.State Refusal) → ends_bracket role ≡ false
     → Steps (λ rules. have rules (Indexed at whole ∷ old) (LiteralAt text_at (Text text)) token) stack r
     → Steps (λ rules. close_text rules old at whole text_at text token role) stack r
-text_goes_on old stack at whole text_at text token (Ends EndBracket) r h goes = absurd cc
-text_goes_on old stack at whole text_at text token role r h goes = goes
+text_continues old stack at whole text_at text token (Ends EndBracket) r h proceeds = absurd cc
+text_continues old stack at whole text_at text token role r h proceeds = proceeds
 
 -- and an operand is there
 pub text_gives_field : (stack : List Frame) (at : ℕ) (whole : Expression) (text_at : ℕ) (text : List ℕ) (token : Token) (role : Follow) (r : Result rust.State Refusal) → ends_bracket role ≡ true
@@ -173,20 +173,20 @@ module _ (stack : List Frame) (tree : Expression) where
   pub no_end : (ender : Ender) (frame : Frame) → unwinds frame ≡ true → Steps (λ rules. end_with rules ender (Have (frame ∷ stack) tree)) stack (Err Other)
   no_end Comma (RightOf at operator first) is = (refl, refl)
   no_end Comma (Prefixed at operator) is = (refl, refl)
-  no_end Comma (No at condition met) is = (refl, refl)
+  no_end Comma (Else at condition then_branch) is = (refl, refl)
   no_end Colon (RightOf at operator first) is = (refl, refl)
   no_end Colon (Prefixed at operator) is = (refl, refl)
-  no_end Colon (No at condition met) is = (refl, refl)
+  no_end Colon (Else at condition then_branch) is = (refl, refl)
   no_end EndGroup (RightOf at operator first) is = (refl, refl)
   no_end EndGroup (Prefixed at operator) is = (refl, refl)
-  no_end EndGroup (No at condition met) is = (refl, refl)
+  no_end EndGroup (Else at condition then_branch) is = (refl, refl)
   no_end EndBracket (RightOf at operator first) is = (refl, refl)
   no_end EndBracket (Prefixed at operator) is = (refl, refl)
-  no_end EndBracket (No at condition met) is = (refl, refl)
+  no_end EndBracket (Else at condition then_branch) is = (refl, refl)
   no_end EndBrace (RightOf at operator first) is = (refl, refl)
   no_end EndBrace (Prefixed at operator) is = (refl, refl)
-  no_end EndBrace (No at condition met) is = (refl, refl)
-  no_end ender (Yes at condition) is = absurd cc
+  no_end EndBrace (Else at condition then_branch) is = (refl, refl)
+  no_end ender (Then at condition) is = absurd cc
   no_end ender Grouped is = absurd cc
   no_end ender (Listed at so_far) is = absurd cc
   no_end ender (Indexed at list) is = absurd cc

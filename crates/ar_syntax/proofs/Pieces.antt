@@ -13,7 +13,7 @@ use Rattle.ar_value.specs.Answer.{◌>>=◌}
 use Rattle.ar_syntax.specs.Spelling.{BeginsWithGap, Spells, SpellsText, SpellsWhole, prefix}
 use Rattle.ar_syntax.specs.Token.{begins_word, continues_word, comparison_sign, is_digit_in, is_quote, letters, word_or_name, named_words, radix, spelling, text_end, unescaped, word_of}
 use Rattle.ar_syntax.specs.Spelling as spelled
-use Rattle.ar_syntax.specs.Tokens.{all_signs, base_digits, base_named, base_of, begins_block_comment, begins_line_comment, begins_number, block_comment, comment_end, comment_of, digits_at, digits_behind_point, fraction_at, front_of, in_line, is_blank, is_coalescing, line_comment, number_at_front, number_ended, number_in, number_token_kind, number_text, piece_found, plain_number, prefixed_number, sign_at, sign_of, sign_token, text_at_front, text_in, token, token_of, whole_token_kind, with_digit, word_at, word_token}
+use Rattle.ar_syntax.specs.Tokens.{all_signs, base_digits, base_named, base_of, begins_block_comment, begins_line_comment, begins_number, block_comment, comment_end, comment_of, digits_at, digits_after_point, fraction_at, front_of, in_line, is_blank, is_coalescing, line_comment, number_at_front, number_ended, number_in, number_token_kind, number_text, piece_found, plain_number, prefixed_number, sign_at, sign_of, sign_token, text_at_front, text_in, token, token_of, whole_token_kind, with_digit, word_at, word_token}
 use Rattle.ar_syntax.specs.declared.error.SyntaxError.TheVariants.{BadCharacter, LiteralTooFine, NumberTooLarge}
 use Rattle.ar_syntax.specs.declared.scanner.Piece.{Piece}
 use Rattle.ar_syntax.specs.declared.scanner.Piece.TheVariants.{Gap, Found}
@@ -27,7 +27,7 @@ use Rattle.ar_syntax.specs.declared.token.Sign.{Sign}
 use Rattle.ar_syntax.specs.declared.token.Sign.TheVariants as signs
 use Rattle.ar_syntax.specs.declared.token.Word.{Word}
 use Rattle.std.proofs.lemmas.Slice.Eq.{bytes_eq-Decides}
-use Rattle.ar_syntax.proofs.Fronts.{IsPrefixed-base_of, both_pass, bind_ok, chosen, length-front, list_all-digits_behind_point, list_all-take_while, number-some, number_front, number_text-some, passes-from_find, prefixed_front, prefixed_len, sign_at_front, take_while-front, take_while-some, word_at-first, word_at-some}
+use Rattle.ar_syntax.proofs.Fronts.{IsPrefixed-base_of, both_pass, bind_ok, chosen, length-front, list_all-digits_after_point, list_all-take_while, number-some, number_front, number_text-some, passes-from_find, prefixed_front, prefixed_len, sign_at_front, take_while-front, take_while-some, word_at-first, word_at-some}
 
 -- a token is at the front of bytes that begin at an offset
 pub record IsFront (at : ℕ) (bytes : List ℕ) (token : Token) : Type 0 where
@@ -86,7 +86,7 @@ IsFront-plain at field bytes found begins e =
     let whole = digits_at bytes in
     let fraction = fraction_at bytes in
     let value = bind_ok (number_token_kind at whole fraction) (number_ended at (length (number_text whole fraction)) bytes) found e in
-    let spells = Spells-value_of at whole fraction value.0 (list_all-take_while is_ascii_digit bytes) (list_all-digits_behind_point (drop (length whole) bytes)) (number-some field bytes begins) value.1 in
+    let spells = Spells-value_of at whole fraction value.0 (list_all-take_while is_ascii_digit bytes) (list_all-digits_after_point (drop (length whole) bytes)) (number-some field bytes begins) value.1 in
     let front = number_front bytes in
     IsFront-ended at (length (number_text whole fraction)) bytes (number_text whole fraction) front.0 value.0 found front.1 refl (number_text-some whole fraction (number-some field bytes begins)) spells value.2
 
@@ -131,13 +131,13 @@ record IsTextEnd (quote at : ℕ) (escaped : Bool) (bytes : List ℕ) (end : ℕ
   len : end ≡ at + length inside
   ends : text_end quote at escaped (inside ++ quote ∷ []) ≡ Some end
 
-IsTextEnd-more : (quote at byte : ℕ) (escaped next : Bool) (bytes : List ℕ) (end : ℕ) → ((behind : List ℕ) → text_end quote at escaped (byte ∷ behind) ≡ text_end quote (at + 1) next behind) → IsTextEnd quote (at + 1) next bytes end → IsTextEnd quote at escaped (byte ∷ bytes) end
-IsTextEnd-more quote at byte escaped next bytes end goes is = record {
+IsTextEnd-more : (quote at byte : ℕ) (escaped next : Bool) (bytes : List ℕ) (end : ℕ) → ((later : List ℕ) → text_end quote at escaped (byte ∷ later) ≡ text_end quote (at + 1) next later) → IsTextEnd quote (at + 1) next bytes end → IsTextEnd quote at escaped (byte ∷ bytes) end
+IsTextEnd-more quote at byte escaped next bytes end proceeds is = record {
   inside = byte ∷ is.inside;
   rest = is.rest;
-  are = ap (λ (behind : List ℕ). byte ∷ behind) is.are;
+  are = ap (λ (later : List ℕ). byte ∷ later) is.are;
   len = omega (arith, is.len);
-  ends = goes (is.inside ++ quote ∷ []) ∙ is.ends;
+  ends = proceeds (is.inside ++ quote ∷ []) ∙ is.ends;
 }
 
 text_end-one : (quote at byte : ℕ) → (byte == quote) ≡ true → byte ≡ quote → text_end quote at false (quote ∷ []) ≡ Some at
@@ -145,36 +145,36 @@ text_end-one quote at byte test is = subst (λ (b : ℕ). text_end quote at fals
 
 IsTextEnd-text_end : (quote at : ℕ) (escaped : Bool) (bytes : List ℕ) (end : ℕ) → text_end quote at escaped bytes ≡ Some end → IsTextEnd quote at escaped bytes end
 IsTextEnd-text_end quote at escaped [] end e = absurd cc
-IsTextEnd-text_end quote at true (byte ∷ bytes) end e = IsTextEnd-more quote at byte true false bytes end (λ behind. refl) (IsTextEnd-text_end quote (at + 1) false bytes end e)
+IsTextEnd-text_end quote at true (byte ∷ bytes) end e = IsTextEnd-more quote at byte true false bytes end (λ later. refl) (IsTextEnd-text_end quote (at + 1) false bytes end e)
 IsTextEnd-text_end quote at false (byte ∷ bytes) end e =
     elim (chosen (byte == quote) (Some at) (text_end quote (at + 1) (byte == 92) bytes) (Some end) e) [
       | inl stop ↦
           let same : at ≡ end = cc in
           let is : byte ≡ quote = eqb-true byte quote stop.0 in
           record { inside = []; rest = bytes; are = ap (λ (b : ℕ). b ∷ bytes) is; len = omega arith; ends = text_end-one quote at byte stop.0 is ∙ ap (λ (n : ℕ). Some n) same }
-      | inr go ↦ IsTextEnd-more quote at byte false (byte == 92) bytes end (λ behind. rw go.0 refl) (IsTextEnd-text_end quote (at + 1) (byte == 92) bytes end go.1)
+      | inr go ↦ IsTextEnd-more quote at byte false (byte == 92) bytes end (λ later. rw go.0 refl) (IsTextEnd-text_end quote (at + 1) (byte == 92) bytes end go.1)
     ]
 
-IsFront-quoted : (at quote len : ℕ) (behind : List ℕ) (found : Token) → is_quote quote ≡ true → text_end quote 0 false behind ≡ Some len → text_in at (quote ∷ behind) (Some len) ≡ Ok found → IsFront at (quote ∷ behind) found
-IsFront-quoted at quote len behind found quotes ends e =
-    let is = IsTextEnd-text_end quote 0 false behind len ends in
-    let inside : take len behind ≡ is.inside = ap (take len) is.are ∙ take_at is.inside (quote ∷ is.rest) len (omega (arith, is.len)) in
-    let value = bind_ok (unescaped at false (take len behind)) (λ value. Ok (token (kinds.Text value) at (len + 2))) found e in
+IsFront-quoted : (at quote len : ℕ) (later : List ℕ) (found : Token) → is_quote quote ≡ true → text_end quote 0 false later ≡ Some len → text_in at (quote ∷ later) (Some len) ≡ Ok found → IsFront at (quote ∷ later) found
+IsFront-quoted at quote len later found quotes ends e =
+    let is = IsTextEnd-text_end quote 0 false later len ends in
+    let inside : take len later ≡ is.inside = ap (take len) is.are ∙ take_at is.inside (quote ∷ is.rest) len (omega (arith, is.len)) in
+    let value = bind_ok (unescaped at false (take len later)) (λ value. Ok (token (kinds.Text value) at (len + 2))) found e in
     let same : token (kinds.Text value.0) at (len + 2) ≡ found = cc in
     let count : length is.inside ≡ len = omega (arith, is.len) in
     let whole_len : length (quote ∷ is.inside ++ quote ∷ []) ≡ len + 2 = omega (arith, length-append is.inside (quote ∷ []), count) in
-    let parts : quote ∷ behind ≡ (quote ∷ is.inside ++ quote ∷ []) ++ is.rest = ap (λ (behind : List ℕ). quote ∷ behind) (is.are ∙ sym (append_assoc is.inside (quote ∷ []) is.rest)) in
+    let parts : quote ∷ later ≡ (quote ∷ is.inside ++ quote ∷ []) ++ is.rest = ap (λ (later : List ℕ). quote ∷ later) (is.are ∙ sym (append_assoc is.inside (quote ∷ []) is.rest)) in
     let spells : SpellsText at (quote ∷ is.inside ++ quote ∷ []) value.0 = record { quote = quote; inside = is.inside; are = refl; quotes = quotes; ends = is.ends ∙ ap (λ (n : ℕ). Some n) (sym count); means = ap (unescaped at false) (sym inside) ∙ value.1 } in
-    subst (IsFront at (quote ∷ behind)) same (IsFront-part at (quote ∷ behind) (quote ∷ is.inside ++ quote ∷ []) is.rest (kinds.Text value.0) (len + 2) parts whole_len (omega arith) spells)
+    subst (IsFront at (quote ∷ later)) same (IsFront-part at (quote ∷ later) (quote ∷ is.inside ++ quote ∷ []) is.rest (kinds.Text value.0) (len + 2) parts whole_len (omega arith) spells)
 
-IsFront-text_in : (at quote : ℕ) (behind : List ℕ) (end : Option ℕ) (found : Token) → is_quote quote ≡ true → text_end quote 0 false behind ≡ end → text_in at (quote ∷ behind) end ≡ Ok found → IsFront at (quote ∷ behind) found
-IsFront-text_in at quote behind None found quotes ends e = absurd cc
-IsFront-text_in at quote behind (Some len) found quotes ends e = IsFront-quoted at quote len behind found quotes ends e
+IsFront-text_in : (at quote : ℕ) (later : List ℕ) (end : Option ℕ) (found : Token) → is_quote quote ≡ true → text_end quote 0 false later ≡ end → text_in at (quote ∷ later) end ≡ Ok found → IsFront at (quote ∷ later) found
+IsFront-text_in at quote later None found quotes ends e = absurd cc
+IsFront-text_in at quote later (Some len) found quotes ends e = IsFront-quoted at quote len later found quotes ends e
 
 IsFront-text : (at : ℕ) (bytes : List ℕ) (found : Token) → is_quote (slice_index bytes 0) ≡ true → text_at_front at bytes ≡ Ok found → IsFront at bytes found
 unfolding text_at_front
 IsFront-text at [] found quotes e = absurd cc
-IsFront-text at (quote ∷ behind) found quotes e = IsFront-text_in at quote behind (text_end quote 0 false behind) found quotes refl e
+IsFront-text at (quote ∷ later) found quotes e = IsFront-text_in at quote later (text_end quote 0 false later) found quotes refl e
 
 -- ---- signs
 

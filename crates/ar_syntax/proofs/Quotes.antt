@@ -66,25 +66,25 @@ with_bytes-push : (front : List ℕ) (byte : ℕ) (answer : Result (List ℕ) Sy
 with_bytes-push front byte (Ok bytes) = ap (λ (all : List ℕ). Ok all) (sym (append_assoc front (byte ∷ []) bytes))
 with_bytes-push front byte (Err error) = refl
 
-module _ (front bytes : List ℕ) (place i : ℕ) (all : Result (List ℕ) SyntaxError) (below : i < length bytes) where
+module _ (front bytes : List ℕ) (offset i : ℕ) (all : Result (List ℕ) SyntaxError) (below : i < length bytes) where
   -- a backslash takes the next byte
-  pub unescaped-slash : (get_or bytes i 0 == 92) ≡ true → with_bytes front (unescaped place false (drop i bytes)) ≡ all → with_bytes front (unescaped (place + 1) true (drop (i + 1) bytes)) ≡ all
+  pub unescaped-slash : (get_or bytes i 0 == 92) ≡ true → with_bytes front (unescaped offset false (drop i bytes)) ≡ all → with_bytes front (unescaped (offset + 1) true (drop (i + 1) bytes)) ≡ all
   unescaped-slash is e = rw is at (rw (next_byte bytes i below) at e)
 
   -- another byte represents itself
-  pub unescaped-plain : (front' : List ℕ) → (get_or bytes i 0 == 92) ≡ false → front' ≡ front ++ get_or bytes i 0 ∷ [] → with_bytes front (unescaped place false (drop i bytes)) ≡ all → with_bytes front' (unescaped (place + 1) false (drop (i + 1) bytes)) ≡ all
+  pub unescaped-plain : (front' : List ℕ) → (get_or bytes i 0 == 92) ≡ false → front' ≡ front ++ get_or bytes i 0 ∷ [] → with_bytes front (unescaped offset false (drop i bytes)) ≡ all → with_bytes front' (unescaped (offset + 1) false (drop (i + 1) bytes)) ≡ all
   unescaped-plain front' is pushed e = rw pushed (sym (with_bytes-push front (get_or bytes i 0) _) ∙ rw is at (rw (next_byte bytes i below) at e))
 
   -- an escape represents its byte
-  pub unescaped-escape : (front' : List ℕ) (byte : ℕ) → Some byte ≡ escape_of (get_or bytes i 0) → front' ≡ front ++ byte ∷ [] → with_bytes front (unescaped place true (drop i bytes)) ≡ all → with_bytes front' (unescaped (place + 1) false (drop (i + 1) bytes)) ≡ all
+  pub unescaped-escape : (front' : List ℕ) (byte : ℕ) → Some byte ≡ escape_of (get_or bytes i 0) → front' ≡ front ++ byte ∷ [] → with_bytes front (unescaped offset true (drop i bytes)) ≡ all → with_bytes front' (unescaped (offset + 1) false (drop (i + 1) bytes)) ≡ all
   unescaped-escape front' byte is pushed e = rw pushed (sym (with_bytes-push front byte _) ∙ rw (← is) at (rw (next_byte bytes i below) at e))
 
   -- an unknown escape is refused at its backslash
-  pub unescaped-bad : None ≡ escape_of (get_or bytes i 0) → with_bytes front (unescaped place true (drop i bytes)) ≡ all → all ≡ Err (BadEscape place)
+  pub unescaped-bad : None ≡ escape_of (get_or bytes i 0) → with_bytes front (unescaped offset true (drop i bytes)) ≡ all → all ≡ Err (BadEscape offset)
   unescaped-bad is e = sym (rw (← is) at (rw (next_byte bytes i below) at e))
 
-pub unescaped-end : (front bytes : List ℕ) (place i : ℕ) (escaped : Bool) (all : Result (List ℕ) SyntaxError) → length bytes ≤ i → with_bytes front (unescaped place escaped (drop i bytes)) ≡ all → all ≡ Ok front
-unescaped-end front bytes place i escaped all past e =
+pub unescaped-end : (front bytes : List ℕ) (offset i : ℕ) (escaped : Bool) (all : Result (List ℕ) SyntaxError) → length bytes ≤ i → with_bytes front (unescaped offset escaped (drop i bytes)) ≡ all → all ≡ Ok front
+unescaped-end front bytes offset i escaped all past e =
     let none : drop i bytes ≡ [] = drop_of_length-le bytes past in
     sym (rw none at e) ∙ ap (λ (all : List ℕ). Ok all) (append-nil front)
 

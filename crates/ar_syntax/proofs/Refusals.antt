@@ -22,7 +22,7 @@ use Rattle.ar_syntax.specs.Roles.{kind_is_group, kind_is_in, kind_name}
 use Rattle.ar_syntax.proofs.Completions.{BeginsBy-reached, reached-BeginsBy, reached-counted, reached-is, run-append, run-none, token_of}
 use Rattle.ar_syntax.specs.Fault.{fault_of, kind_fault}
 use Rattle.ar_syntax.specs.Condition.{Derives, at_any_depth, of_any_count, of_any_items, strict}
-use Rattle.ar_syntax.specs.Refusal.{BeginsCondition, IsInside, IsNamedBehind, AreRefused, IsRefusedBehind, WantsOperand, has_no_comma, is_comma}
+use Rattle.ar_syntax.specs.Refusal.{BeginsCondition, IsInside, IsNamedAfter, AreRefused, IsRefusedAfter, WantsOperand, has_no_comma, is_comma}
 use Rattle.ar_syntax.specs.Refusal as refusal
 use Rattle.ar_syntax.specs.declared.error.SyntaxError.{SyntaxError}
 use Rattle.ar_syntax.specs.declared.error.SyntaxError.TheVariants.{Unexpected, WrongCount, TooManyItems, TooDeep}
@@ -168,7 +168,7 @@ module _ (before : List Token) (state : ParserState) (there : reached strict bef
   relaxed : (rules : Rules) → reached rules before ≡ Some state
   relaxed rules = reached-relaxed rules before state there
 
-  named-is : (error : SyntaxError) → IsNamedBehind before c error → fault_of state c ≡ error
+  named-is : (error : SyntaxError) → IsNamedAfter before c error → fault_of state c ≡ error
   unfolding fault_of
   named-is error (refusal.unknown_name {name = word} is wants) =
       let wanted_is = wants-from before state there wants in
@@ -188,7 +188,7 @@ module _ (before : List Token) (state : ParserState) (there : reached strict bef
   named-is error (refusal.too_deep counts_not items_not begins) =
       rw (refuses (accepts (parser_step of_any_count state c)) _ (accepts-begins of_any_count before state (relaxed of_any_count) c) counts_not, refuses (accepts (parser_step of_any_items state c)) _ (accepts-begins of_any_items before state (relaxed of_any_items) c) items_not, begins-accepts at_any_depth before state (relaxed at_any_depth) c begins) refl
 
-  never_unexpected : (at : ℕ) (error : SyntaxError) → IsNamedBehind before c error → error ≢ Unexpected at
+  never_unexpected : (at : ℕ) (error : SyntaxError) → IsNamedAfter before c error → error ≢ Unexpected at
   never_unexpected at error (refusal.unknown_name is wants) e = cc
   never_unexpected at error (refusal.item_outside is out) e = cc
   never_unexpected at error (refusal.item_field_outside is wants out) e = cc
@@ -197,7 +197,7 @@ module _ (before : List Token) (state : ParserState) (there : reached strict bef
   never_unexpected at error (refusal.too_deep counts_not items_not begins) e = cc
 
   -- a token without a name of its own
-  unnamed : fault_of state c ≡ Unexpected c.span.start → IsRefusedBehind before c (Unexpected c.span.start)
+  unnamed : fault_of state c ≡ Unexpected c.span.start → IsRefusedAfter before c (Unexpected c.span.start)
   unnamed e = refusal.unexpected (λ error is. never_unexpected c.span.start error is (sym (named-is error is) ∙ e))
 
   wants-test : (b : Bool) → wants_operand state ≡ b → b ≡ true → WantsOperand before
@@ -206,7 +206,7 @@ module _ (before : List Token) (state : ParserState) (there : reached strict bef
   outside-test : (b : Bool) → is_inside state ≡ b → b ≡ false → ¬ IsInside before
   outside-test b e is inside_is = let within = inside-from before state there inside_is in absurd cc
 
-  kind-refused : (kind : TokenKind) (wants within : Bool) → c.kind ≡ kind → wants_operand state ≡ wants → is_inside state ≡ within → fault_of state c ≡ kind_fault wants within kind c.span.start → IsRefusedBehind before c (kind_fault wants within kind c.span.start)
+  kind-refused : (kind : TokenKind) (wants within : Bool) → c.kind ≡ kind → wants_operand state ≡ wants → is_inside state ≡ within → fault_of state c ≡ kind_fault wants within kind c.span.start → IsRefusedAfter before c (kind_fault wants within kind c.span.start)
   kind-refused (kinds.Name word) true within is w i e = refusal.named (refusal.unknown_name is (wants-test true w refl))
   kind-refused (kinds.Name word) false within is w i e = unnamed e
   kind-refused (kinds.Sign signs.Hash) wants false is w i e = refusal.named (refusal.item_outside is (outside-test false i refl))
@@ -224,24 +224,24 @@ module _ (before : List Token) (state : ParserState) (there : reached strict bef
   not_begun : (rules : Rules) → accepts (parser_step rules state c) ≡ false → ¬ BeginsBy rules (before ++ c ∷ [])
   not_begun rules e begins = let taken = begins-accepts rules before state (relaxed rules) c begins in absurd cc
 
-  refused-by : (b1 b2 b3 : Bool) → accepts (parser_step of_any_count state c) ≡ b1 → accepts (parser_step of_any_items state c) ≡ b2 → accepts (parser_step at_any_depth state c) ≡ b3 → IsRefusedBehind before c (fault_of state c)
-  refused-by true b2 b3 e1 e2 e3 = subst (IsRefusedBehind before c) (sym (fault-is true b2 b3 e1 e2 e3)) (refusal.named (refusal.wrong_count (accepts-begins of_any_count before state (relaxed of_any_count) c e1)))
-  refused-by false true b3 e1 e2 e3 = subst (IsRefusedBehind before c) (sym (fault-is false true b3 e1 e2 e3)) (refusal.named (refusal.too_many_items (not_begun of_any_count e1) (accepts-begins of_any_items before state (relaxed of_any_items) c e2)))
+  refused-by : (b1 b2 b3 : Bool) → accepts (parser_step of_any_count state c) ≡ b1 → accepts (parser_step of_any_items state c) ≡ b2 → accepts (parser_step at_any_depth state c) ≡ b3 → IsRefusedAfter before c (fault_of state c)
+  refused-by true b2 b3 e1 e2 e3 = subst (IsRefusedAfter before c) (sym (fault-is true b2 b3 e1 e2 e3)) (refusal.named (refusal.wrong_count (accepts-begins of_any_count before state (relaxed of_any_count) c e1)))
+  refused-by false true b3 e1 e2 e3 = subst (IsRefusedAfter before c) (sym (fault-is false true b3 e1 e2 e3)) (refusal.named (refusal.too_many_items (not_begun of_any_count e1) (accepts-begins of_any_items before state (relaxed of_any_items) c e2)))
   refused-by false false true e1 e2 e3 =
-      subst (IsRefusedBehind before c) (sym (fault-is false false true e1 e2 e3)) (refusal.named (refusal.too_deep (not_begun of_any_count e1) (not_begun of_any_items e2) (accepts-begins at_any_depth before state (relaxed at_any_depth) c e3)))
+      subst (IsRefusedAfter before c) (sym (fault-is false false true e1 e2 e3)) (refusal.named (refusal.too_deep (not_begun of_any_count e1) (not_begun of_any_items e2) (accepts-begins at_any_depth before state (relaxed at_any_depth) c e3)))
   refused-by false false false e1 e2 e3 =
       let e = fault-is false false false e1 e2 e3 in
-      subst (IsRefusedBehind before c) (sym e) (kind-refused c.kind (wants_operand state) (is_inside state) refl refl refl e)
+      subst (IsRefusedAfter before c) (sym e) (kind-refused c.kind (wants_operand state) (is_inside state) refl refl refl e)
 
   -- the fault has the name that the definitions give
-  pub is-refused : IsRefusedBehind before c (fault_of state c)
+  pub is-refused : IsRefusedAfter before c (fault_of state c)
   is-refused = refused-by (accepts (parser_step of_any_count state c)) (accepts (parser_step of_any_items state c)) (accepts (parser_step at_any_depth state c)) refl refl refl
 
-  same-unexpected : (error : SyntaxError) → IsRefusedBehind before c error → ((e : SyntaxError) → ¬ IsNamedBehind before c e) → error ≡ Unexpected c.span.start
+  same-unexpected : (error : SyntaxError) → IsRefusedAfter before c error → ((e : SyntaxError) → ¬ IsNamedAfter before c e) → error ≡ Unexpected c.span.start
   same-unexpected error (refusal.named is) none = absurd (none error is)
   same-unexpected error (refusal.unexpected none') none = refl
 
   -- and no other
-  pub one-name : (error : SyntaxError) → IsRefusedBehind before c error → error ≡ fault_of state c
+  pub one-name : (error : SyntaxError) → IsRefusedAfter before c error → error ≡ fault_of state c
   one-name error (refusal.named is) = sym (named-is error is)
   one-name error (refusal.unexpected none) = sym (same-unexpected (fault_of state c) is-refused none)

@@ -3,8 +3,8 @@ use Rattle.std.proofs.Common.{◌≡◌, ℕ, Bool, true, false, List, [], ◌�
 use Rattle.std.specs.Prelude.{pred}
 use Rattle.ar_tree.specs.Expression.{Expression, LiteralAt}
 use Rattle.ar_syntax.specs.Grammar.{Rules, may_continue, may_open, takes_all, takes_more}
-use Rattle.ar_syntax.specs.Machine.{Frame, ParserState, Yes, Grouped, Listed, Indexed, Argued, Body, Braced, Want, Have, WantName, WantIndex, HaveText, WantIn, WantGroup, WantArgument, HaveArgument, in_call, openers_left}
-use Rattle.ar_syntax.specs.Roles.{Call, Ender, Follow, Start, Ends, Comma, Colon, EndGroup, EndBracket, EndBrace, Operator, NotOf, Choose, Select, Open, NoFollow, follows, is_body, is_brace, is_group, is_in, looseness, field_name_of, begun_by, literal_text}
+use Rattle.ar_syntax.specs.Machine.{Frame, ParserState, Then, Grouped, Listed, Indexed, Argued, Body, Braced, Want, Have, WantName, WantIndex, HaveText, WantIn, WantGroup, WantArgument, HaveArgument, in_predicate, openers_left}
+use Rattle.ar_syntax.specs.Roles.{Call, Ender, Follow, Start, Ends, Comma, Colon, EndGroup, EndBracket, EndBrace, Operator, NotOf, Choose, Select, Open, NoFollow, follows, is_body, is_brace, is_group, is_in, precedence, field_name_of, begun_by, literal_text}
 use Rattle.ar_syntax.specs.declared.token.Token.{Token}
 use Rattle.ar_tree.specs.declared.tree.Binary.{Binary}
 use Rattle.ar_tree.specs.declared.tree.Literal.TheVariants.{Text}
@@ -49,7 +49,7 @@ module _ (rules : Rules) where
   includes-begin stack at NoStart = tt
 
   includes-end : (ender : Ender) (state : ParserState) → Includes (end_with strict ender state) (end_with rules ender state)
-  includes-end Colon (Have (Yes at condition ∷ stack) tree) = refl
+  includes-end Colon (Have (Then at condition ∷ stack) tree) = refl
   includes-end EndGroup (Have (Grouped ∷ stack) tree) = refl
   includes-end EndBracket (Have (Indexed at whole ∷ stack) tree) = refl
   includes-end EndBracket (Have (Listed at so_far ∷ stack) tree) = refl
@@ -74,7 +74,7 @@ module _ (rules : Rules) where
   includes-choose at state = tt
 
   includes-follow : (stack : List Frame) (tree : Expression) (at : ℕ) (r : Follow) → Includes (followed_by strict stack tree at r) (followed_by rules stack tree at r)
-  includes-follow stack tree at (Operator operator) = includes-operate at operator (climbed (looseness operator) stack tree)
+  includes-follow stack tree at (Operator operator) = includes-operate at operator (climbed (precedence operator) stack tree)
   includes-follow stack tree at NotOf = includes-negate at (climbed 2 stack tree)
   includes-follow stack tree at Choose = includes-choose at (climbed 5 stack tree)
   includes-follow stack tree at Select = refl
@@ -88,14 +88,14 @@ module _ (rules : Rules) where
 
   includes-index : (stack : List Frame) (at : ℕ) (whole : Expression) (c : Token) (text : Option (List ℕ)) → Includes (open_index strict stack at whole c text) (open_index rules stack at whole c text)
   includes-index stack at whole c (Some text) = refl
-  includes-index stack at whole c None = includes-begin (Indexed at whole ∷ stack) c.span.start (begun_by (in_call stack) c)
+  includes-index stack at whole c None = includes-begin (Indexed at whole ∷ stack) c.span.start (begun_by (in_predicate stack) c)
 
   includes-text : (stack : List Frame) (at : ℕ) (whole : Expression) (text_at : ℕ) (text : List ℕ) (c : Token) (r : Follow) → Includes (close_text strict stack at whole text_at text c r) (close_text rules stack at whole text_at text c r)
   includes-text stack at whole text_at text c (Ends EndBracket) = refl
   includes-text stack at whole text_at text c r = includes-follow (Indexed at whole ∷ stack) (LiteralAt text_at (Text text)) c.span.start (follows c)
 
   includes-argue : (stack : List Frame) (at : ℕ) (function : Call) (so_far : List Expression) (c : Token) (body brace : Bool) → Includes (argue strict stack at function so_far c (start_by body brace)) (argue rules stack at function so_far c (start_by body brace))
-  includes-argue stack at function so_far c false brace = includes-begin (Argued at function so_far ∷ stack) c.span.start (begun_by (in_call stack) c)
+  includes-argue stack at function so_far c false brace = includes-begin (Argued at function so_far ∷ stack) c.span.start (begun_by (in_predicate stack) c)
   includes-argue stack at function so_far c true false = includes-begin (Body at function so_far ∷ stack) c.span.start (begun_by true c)
   includes-argue stack at function so_far c true true = includes-open stack (pred (openers_left stack)) _
 
@@ -110,7 +110,7 @@ module _ (rules : Rules) where
 
   includes-step : (state : ParserState) (c : Token) → Includes (parser_step strict state c) (parser_step rules state c)
   unfolding parser_step
-  includes-step (Want stack) c = includes-begin stack c.span.start (begun_by (in_call stack) c)
+  includes-step (Want stack) c = includes-begin stack c.span.start (begun_by (in_predicate stack) c)
   includes-step (Have stack tree) c = includes-follow stack tree c.span.start (follows c)
   includes-step (WantName stack at whole) c = includes-select stack at whole (field_name_of c)
   includes-step (WantIndex stack at whole) c = includes-index stack at whole c (literal_text c)

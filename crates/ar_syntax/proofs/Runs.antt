@@ -2,10 +2,10 @@
 use Rattle.std.proofs.Common.{◌≡◌, ◌≢◌, ℕ, ◌<◌, Bool, true, false, List, [], ◌∷◌, ◌++◌, length, refl, sym, subst, arith, Option, Some, None}
 use Rattle.std.specs.Prelude.{pred}
 use Rattle.ar_tree.specs.Expression.{Expression, LiteralAt, UnaryAt, BinaryAt, ChoiceAt}
-use Rattle.ar_syntax.specs.Grammar.{Arguments, ArgumentsBehind, Further, ListItems, ItemsBehind, Phrase, Primary, Rules, Selections, may_continue, may_open, most_openers, takes_all, takes_more, ternary}
+use Rattle.ar_syntax.specs.Grammar.{Arguments, ArgumentsAfter, Further, ListItems, ItemsAfter, Phrase, Primary, Rules, Selections, may_continue, may_open, most_openers, takes_all, takes_more, ternary}
 use Rattle.ar_syntax.specs.Grammar as grammar
-use Rattle.ar_syntax.specs.Machine.{Frame, ParserState, RightOf, Prefixed, Yes, No, Grouped, Listed, Indexed, Argued, Body, Braced, Want, Have, WantName, WantIndex, HaveText, WantIn, WantGroup, WantArgument, HaveArgument, in_call, openers_left, wanted}
-use Rattle.ar_syntax.specs.Roles.{Call, Ender, Follow, Start, Ends, Comma, Colon, EndGroup, EndBracket, EndBrace, Operator, NotOf, Choose, Select, Open, NoFollow, called, follows, is_body, is_brace, is_group, is_in, looseness, field_name_of, begun_by, literal_text}
+use Rattle.ar_syntax.specs.Machine.{Frame, ParserState, RightOf, Prefixed, Then, Else, Grouped, Listed, Indexed, Argued, Body, Braced, Want, Have, WantName, WantIndex, HaveText, WantIn, WantGroup, WantArgument, HaveArgument, in_predicate, openers_left, wanted}
+use Rattle.ar_syntax.specs.Roles.{Call, Ender, Follow, Start, Ends, Comma, Colon, EndGroup, EndBracket, EndBrace, Operator, NotOf, Choose, Select, Open, NoFollow, called, follows, is_body, is_brace, is_group, is_in, precedence, field_name_of, begun_by, literal_text}
 use Rattle.ar_syntax.specs.declared.token.Token.{Token}
 use Rattle.ar_syntax.specs.declared.token.Sign.{Sign}
 use Rattle.ar_syntax.specs.declared.token.Sign.TheVariants as signs
@@ -57,7 +57,7 @@ module _ (rules : Rules) where
   keeps-begin stack at ItemPoint is = is
   keeps-begin stack at NoStart is = tt
 
-  keeps-operate : (l at : ℕ) (operator : Binary) (state : ParserState) → looseness operator ≡ l → Climbed l state → IsStateFrom (operate rules at operator state)
+  keeps-operate : (l at : ℕ) (operator : Binary) (state : ParserState) → precedence operator ≡ l → Climbed l state → IsStateFrom (operate rules at operator state)
   keeps-operate l at operator (Have stack tree) same is = (omega (arith, same, is.0), is.1)
   keeps-operate l at operator state same is = absurd is
 
@@ -77,9 +77,9 @@ module _ (rules : Rules) where
   keeps-end [] tree EndBrace is = tt
   keeps-end (RightOf at operator first ∷ stack) tree ender is = keeps-end stack (BinaryAt at operator first tree) ender is.1
   keeps-end (Prefixed at operator ∷ stack) tree ender is = keeps-end stack (UnaryAt at operator tree) ender is
-  keeps-end (Yes at condition ∷ stack) tree Colon is = is
-  keeps-end (Yes at condition ∷ stack) tree ender is = tt
-  keeps-end (No at condition met ∷ stack) tree ender is = keeps-end stack (ChoiceAt at condition met tree) ender is.1
+  keeps-end (Then at condition ∷ stack) tree Colon is = is
+  keeps-end (Then at condition ∷ stack) tree ender is = tt
+  keeps-end (Else at condition then_branch ∷ stack) tree ender is = keeps-end stack (ChoiceAt at condition then_branch tree) ender is.1
   keeps-end (Grouped ∷ stack) tree EndGroup is = is
   keeps-end (Grouped ∷ stack) tree ender is = tt
   keeps-end (Listed at so_far ∷ stack) tree EndBracket is = is
@@ -97,7 +97,7 @@ module _ (rules : Rules) where
   keeps-end (Braced at function so_far ∷ stack) tree ender is = tt
 
   keeps-follow : (stack : List Frame) (tree : Expression) (at : ℕ) (r : Follow) → IsStack stack → IsStateFrom (followed_by rules stack tree at r)
-  keeps-follow stack tree at (Operator operator) is = keeps-operate (looseness operator) at operator (climbed (looseness operator) stack tree) refl (climbed-is (looseness operator) (low operator) stack tree is)
+  keeps-follow stack tree at (Operator operator) is = keeps-operate (precedence operator) at operator (climbed (precedence operator) stack tree) refl (climbed-is (precedence operator) (low operator) stack tree is)
   keeps-follow stack tree at NotOf is = keeps-negate at (climbed 2 stack tree) (climbed-is 2 (omega arith) stack tree is)
   keeps-follow stack tree at Choose is = keeps-choose at (climbed 5 stack tree) (climbed-is 5 (omega arith) stack tree is)
   keeps-follow stack tree at Select is = is
@@ -111,14 +111,14 @@ module _ (rules : Rules) where
 
   keeps-open : (stack : List Frame) (at : ℕ) (whole : Expression) (c : Token) (text : Option (List ℕ)) → IsStack stack → IsStateFrom (open_index rules stack at whole c text)
   keeps-open stack at whole c (Some text) is = is
-  keeps-open stack at whole c None is = keeps-begin (Indexed at whole ∷ stack) c.span.start (begun_by (in_call stack) c) is
+  keeps-open stack at whole c None is = keeps-begin (Indexed at whole ∷ stack) c.span.start (begun_by (in_predicate stack) c) is
 
   keeps-close_text : (stack : List Frame) (at : ℕ) (whole : Expression) (text_at : ℕ) (text : List ℕ) (c : Token) (r : Follow) → IsStack stack → IsStateFrom (close_text rules stack at whole text_at text c r)
   keeps-close_text stack at whole text_at text c (Ends EndBracket) is = is
   keeps-close_text stack at whole text_at text c r is = keeps-follow (Indexed at whole ∷ stack) (LiteralAt text_at (Text text)) c.span.start (follows c) is
 
   keeps-argue : (stack : List Frame) (at : ℕ) (function : Call) (so_far : List Expression) (c : Token) (body brace : Bool) → IsStack stack → IsStateFrom (argue rules stack at function so_far c (start_by body brace))
-  keeps-argue stack at function so_far c false brace is = keeps-begin (Argued at function so_far ∷ stack) c.span.start (begun_by (in_call stack) c) is
+  keeps-argue stack at function so_far c false brace is = keeps-begin (Argued at function so_far ∷ stack) c.span.start (begun_by (in_predicate stack) c) is
   keeps-argue stack at function so_far c true false is = keeps-begin (Body at function so_far ∷ stack) c.span.start (begun_by true c) is
   keeps-argue stack at function so_far c true true is = keeps-when (may_open rules (pred (openers_left stack))) _ is
 
@@ -133,7 +133,7 @@ module _ (rules : Rules) where
 
   pub keeps : (state : ParserState) (c : Token) → IsState state → IsStateFrom (parser_step rules state c)
   unfolding parser_step
-  keeps (Want stack) c is = keeps-begin stack c.span.start (begun_by (in_call stack) c) is
+  keeps (Want stack) c is = keeps-begin stack c.span.start (begun_by (in_predicate stack) c) is
   keeps (Have stack tree) c is = keeps-follow stack tree c.span.start (follows c) is
   keeps (WantName stack at whole) c is = keeps-select stack at whole (field_name_of c) is
   keeps (WantIndex stack at whole) c is = keeps-open stack at whole c (literal_text c) is
@@ -169,8 +169,8 @@ module _ (rules : Rules) where
     empty-to stack at function [] c tokens (Ends EndGroup) role leads = absurd (no_argument function leads)
       where
         no_argument : (function : Call) → ¬ LeadsFrom rules final (argue rules stack at function [] c (start_by (is_body function 0) (is_brace c))) tokens
-        no_argument (Over predicate) leads = subst (λ (s : Start). LeadsFrom rules final (begun_with rules (Argued at (Over predicate) [] ∷ stack) c.span.start s) tokens) (ender-start (in_call stack) c role) leads
-        no_argument other leads = subst (λ (s : Start). LeadsFrom rules final (begun_with rules (Argued at other [] ∷ stack) c.span.start s) tokens) (ender-start (in_call stack) c role) leads
+        no_argument (Over predicate) leads = subst (λ (s : Start). LeadsFrom rules final (begun_with rules (Argued at (Over predicate) [] ∷ stack) c.span.start s) tokens) (ender-start (in_predicate stack) c role) leads
+        no_argument other leads = subst (λ (s : Start). LeadsFrom rules final (begun_with rules (Argued at other [] ∷ stack) c.span.start s) tokens) (ender-start (in_predicate stack) c role) leads
     empty-to stack at function so_far c tokens r role leads = leads
 
     argue-at : (stack : List Frame) (at : ℕ) (function : Call) (so_far : List Expression) (c : Token) (tokens : List Token) (body brace : Bool) → is_body function (length so_far) ≡ body → is_brace c ≡ brace
@@ -185,36 +185,36 @@ module _ (rules : Rules) where
     unfolding is_brace begun_by
     brace-start b c is = kind_brace-start b c.span.start c.kind is
 
-    called-to : (stack : List Frame) (at : ℕ) (function : Call) (so_far arguments : List Expression) (c : Token) (tokens rest : List Token) → Arguments rules (in_call stack) (pred (openers_left stack)) function so_far (c ∷ tokens) arguments rest
+    called-to : (stack : List Frame) (at : ℕ) (function : Call) (so_far arguments : List Expression) (c : Token) (tokens rest : List Token) → Arguments rules (in_predicate stack) (pred (openers_left stack)) function so_far (c ∷ tokens) arguments rest
         → Had rules stack (After rules final stack) (called at function arguments) rest → LeadsFrom rules final (close_empty rules stack at function c so_far (follows c)) tokens
     called-to stack at function so_far arguments c tokens rest (grammar.no_argument role all) had =
         subst (λ (r : Follow). LeadsFrom rules final (close_empty rules stack at function c [] r) tokens) (sym role) (when-to rules final (takes_all rules function 0) _ tokens all had)
-    called-to stack at function so_far arguments c tokens rest (grammar.argument {mid = mid} {first = first} plain phrase behind) had =
+    called-to stack at function so_far arguments c tokens rest (grammar.argument {mid = mid} {first = first} plain phrase later) had =
         empty-to stack at function so_far c tokens (follows c) refl
-        (argue-at stack at function so_far c tokens false (is_brace c) plain refl (want-to rules final (Argued at function so_far ∷ stack) c tokens (first, mid, phrase, (arguments, rest, behind, had))))
-    called-to stack at function so_far arguments c tokens rest (grammar.body {mid = mid} {first = first} body phrase behind) had =
+        (argue-at stack at function so_far c tokens false (is_brace c) plain refl (want-to rules final (Argued at function so_far ∷ stack) c tokens (first, mid, phrase, (arguments, rest, later, had))))
+    called-to stack at function so_far arguments c tokens rest (grammar.body {mid = mid} {first = first} body phrase later) had =
         empty-to stack at function so_far c tokens (follows c) refl (braced (is_brace c) refl)
       where
         wants : LeadsFrom rules final (want rules (Body at function so_far ∷ stack) c) tokens
-        wants = want-to rules final (Body at function so_far ∷ stack) c tokens (first, mid, phrase, (arguments, rest, behind, had))
+        wants = want-to rules final (Body at function so_far ∷ stack) c tokens (first, mid, phrase, (arguments, rest, later, had))
 
         braced : (brace : Bool) → is_brace c ≡ brace → LeadsFrom rules final (argue rules stack at function so_far c (start_by (is_body function (length so_far)) (is_brace c))) tokens
         braced false is = argue-at stack at function so_far c tokens true false body is wants
         braced true is = absurd (subst (λ (s : Start). LeadsFrom rules final (begun_with rules (Body at function so_far ∷ stack) c.span.start s) tokens) (brace-start true c is) wants)
-    called-to stack at function so_far arguments c tokens rest (grammar.braced {close = close} {mid = mid} {first = first} body brace opens phrase closes behind) had =
+    called-to stack at function so_far arguments c tokens rest (grammar.braced {close = close} {mid = mid} {first = first} body brace opens phrase closes later) had =
         empty-to stack at function so_far c tokens (follows c) refl
-        (argue-at stack at function so_far c tokens true true body brace (when-to rules final (may_open rules (pred (openers_left stack))) _ tokens opens (first, close ∷ mid, phrase, (closes, (arguments, rest, behind, had)))))
+        (argue-at stack at function so_far c tokens true true body brace (when-to rules final (may_open rules (pred (openers_left stack))) _ tokens opens (first, close ∷ mid, phrase, (closes, (arguments, rest, later, had)))))
 
     argue-from : (stack : List Frame) (at : ℕ) (function : Call) (so_far : List Expression) (c : Token) (tokens : List Token) (body brace : Bool) → is_body function (length so_far) ≡ body → is_brace c ≡ brace
         → LeadsFrom rules final (argue rules stack at function so_far c (start_by body brace)) tokens → Called rules final stack at function so_far (c ∷ tokens)
     argue-from stack at function so_far c tokens false brace plain is leads =
         let wants = want-from rules final (Argued at function so_far ∷ stack) c tokens leads in
-        let behind = wants.3 in
-        (behind.0, behind.1, grammar.argument plain wants.2 behind.2, behind.3)
+        let later = wants.3 in
+        (later.0, later.1, grammar.argument plain wants.2 later.2, later.3)
     argue-from stack at function so_far c tokens true false body is leads =
         let wants = want-from rules final (Body at function so_far ∷ stack) c tokens leads in
-        let behind = wants.3 in
-        (behind.0, behind.1, grammar.body body wants.2 behind.2, behind.3)
+        let later = wants.3 in
+        (later.0, later.1, grammar.body body wants.2 later.2, later.3)
     argue-from stack at function so_far c tokens true true body is leads =
         let opened = when-from rules final (may_open rules (pred (openers_left stack))) _ tokens leads in
         ended opened.0 opened.1.0 opened.1.1 opened.1.2 opened.1.3
@@ -222,7 +222,7 @@ module _ (rules : Rules) where
         ended : may_open rules (pred (openers_left stack)) ≡ true → (first : Expression) (rest : List Token) → Phrase rules ternary true (pred (pred (openers_left stack))) tokens first rest
             → Ended rules EndBrace (λ body rest. Argument rules stack at function (so_far ++ body ∷ []) (After rules final stack) rest) first rest → Called rules final stack at function so_far (c ∷ tokens)
         ended opens first [] phrase leads = absurd leads
-        ended opens first (close ∷ mid) phrase leads = let behind = leads.1 in (behind.0, behind.1, grammar.braced body is opens phrase leads.0 behind.2, behind.3)
+        ended opens first (close ∷ mid) phrase leads = let later = leads.1 in (later.0, later.1, grammar.braced body is opens phrase leads.0 later.2, later.3)
 
     called-from : (stack : List Frame) (at : ℕ) (function : Call) (so_far : List Expression) (c : Token) (tokens : List Token) (r : Follow) → follows c ≡ r → LeadsFrom rules final (close_empty rules stack at function c so_far r) tokens → Called rules final stack at function so_far (c ∷ tokens)
     called-from stack at function [] c tokens (Ends EndGroup) role leads =

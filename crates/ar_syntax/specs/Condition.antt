@@ -30,7 +30,8 @@ abbrev mutual
   depth (trees.IndexAt at list index) = max (depth list) (depth index) + 1
   depth (trees.UnaryAt at operator operand) = depth operand + 1
   depth (trees.BinaryAt at operator left right) = max (depth left) (depth right) + 1
-  depth (trees.ChoiceAt at condition met unmet) = max (depth condition) (max (depth met) (depth unmet)) + 1
+  depth (trees.ChoiceAt at condition then_branch else_branch) =
+      max (depth condition) (max (depth then_branch) (depth else_branch)) + 1
   depth (trees.ListAt at items) = items_depth items + 1
   depth (trees.LenAt at list) = depth list + 1
   depth (trees.IsNilAt at operand) = depth operand + 1
@@ -50,7 +51,7 @@ most_depth = 64
 pub record SaysTree (text : Text) (tree : Expression) : Type 0 where
   pub tokens : List Token
   pub cut : tokens_of text ≡ Ok tokens
-  pub derived : Derives tokens tree
+  pub derived : DerivesBy strict tokens tree
   pub shallow : nat_le (depth tree) most_depth ≡ true
 
 -- all limits hold but one

@@ -1,7 +1,7 @@
 -- The name of a fault, found from the state that the machine reached.
 use Rattle.std.specs.Prelude.{Bool, true, false, ◌||◌, ◌&&◌, not, if◌then◌else◌, length, Option, Some, None}
 use Rattle.ar_value.specs.Terms.{Offset}
-use Rattle.ar_syntax.specs.Machine.{ParserState, Want, Have, WantName, WantIndex, HaveText, WantIn, WantGroup, WantArgument, HaveArgument, in_call, parser_step}
+use Rattle.ar_syntax.specs.Machine.{ParserState, Want, Have, WantName, WantIndex, HaveText, WantIn, WantGroup, WantArgument, HaveArgument, in_predicate, parser_step}
 use Rattle.ar_syntax.specs.Condition.{at_any_depth, of_any_count, of_any_items}
 use Rattle.ar_syntax.specs.Roles.{is_body}
 use Rattle.ar_syntax.specs.declared.error.SyntaxError.{SyntaxError}
@@ -24,15 +24,15 @@ wants_operand state = false
 
 -- what comes next is inside a predicate
 abbrev pub is_inside : ParserState → Bool
-is_inside (Want stack) = in_call stack
-is_inside (Have stack tree) = in_call stack
-is_inside (WantName stack at owner) = in_call stack
-is_inside (WantIndex stack at owner) = in_call stack
-is_inside (HaveText stack at owner text_at text) = in_call stack
-is_inside (WantIn stack at first) = in_call stack
-is_inside (WantGroup stack at function) = in_call stack
-is_inside (WantArgument stack at function so_far) = in_call stack || is_body function (length so_far)
-is_inside (HaveArgument stack at function arguments) = in_call stack
+is_inside (Want stack) = in_predicate stack
+is_inside (Have stack tree) = in_predicate stack
+is_inside (WantName stack at owner) = in_predicate stack
+is_inside (WantIndex stack at owner) = in_predicate stack
+is_inside (HaveText stack at owner text_at text) = in_predicate stack
+is_inside (WantIn stack at first) = in_predicate stack
+is_inside (WantGroup stack at function) = in_predicate stack
+is_inside (WantArgument stack at function so_far) = in_predicate stack || is_body function (length so_far)
+is_inside (HaveArgument stack at function arguments) = in_predicate stack
 
 -- the name of a token that no limit alone forbids
 abbrev pub kind_fault : Bool → Bool → TokenKind → Offset → SyntaxError

@@ -21,7 +21,7 @@ use Rattle.std.specs.Prelude.{◌≡◌, ℕ, zero, suc, Bool, true, false, ◌|
 use Rattle.ar_value.specs.Terms.{Text}
 use Rattle.ar_value.specs.Limits.{most_literal_items}
 use Rattle.ar_tree.specs.Expression.{Expression, FieldAt, IndexAt, ItemAt, UnaryAt, BinaryAt, ChoiceAt, ListAt, expressions}
-use Rattle.ar_syntax.specs.Roles.{Call, Follow, Ends, Comma, Colon, EndGroup, EndBracket, EndBrace, Operator, NotOf, Choose, Select, Open, Leaf, Prefix, Group, Bracket, Calls, ItemPoint, arity, called, follows, is_body, is_brace, is_group, is_in, looseness, field_name_of, begun_by, literal_text}
+use Rattle.ar_syntax.specs.Roles.{Call, Follow, Ends, Comma, Colon, EndGroup, EndBracket, EndBrace, Operator, NotOf, Choose, Select, Open, Leaf, Prefix, Group, Bracket, Calls, ItemPoint, arity, called, follows, is_body, is_brace, is_group, is_in, precedence, field_name_of, begun_by, literal_text}
 use Rattle.ar_syntax.specs.declared.token.Token.{Token}
 use Rattle.ar_tree.specs.declared.tree.Binary.{Binary}
 use Rattle.ar_tree.specs.declared.tree.Binary.TheVariants.{NotIn}
@@ -59,13 +59,13 @@ ends_bracket role = false
 
 -- one text between brackets is a field's name
 abbrev pub is_alone : Option Text → List Token → Bool
-is_alone None behind = false
+is_alone None later = false
 is_alone (Some text) [] = false
-is_alone (Some text) (close ∷ behind) = ends_bracket (follows close)
+is_alone (Some text) (close ∷ later) = ends_bracket (follows close)
 
 abbrev pub is_text_alone : List Token → Bool
 is_text_alone [] = false
-is_text_alone (text ∷ behind) = is_alone (literal_text text) behind
+is_text_alone (text ∷ later) = is_alone (literal_text text) later
 
 -- ---- levels: 0 is `una`, and further ones have one kind of operators more: `mul`, `add`, `cmp`, `and`, `or`, `tern`
 
@@ -85,11 +85,11 @@ module _ (rules : Rules) where
           → Phrase d inside left tokens first mid → Further d inside left first mid tree rest
           → Phrase (suc d) inside left tokens tree rest
       -- una = ("-" | "+" | "!" | "not") una
-      prefixed : {inside : Bool} {left : ℕ} {token : Token} {behind rest : List Token} {operator : Unary}
+      prefixed : {inside : Bool} {left : ℕ} {token : Token} {later rest : List Token} {operator : Unary}
           {operand : Expression}
           → begun_by inside token ≡ Prefix operator → may_open rules left ≡ true
-          → Phrase zero inside (pred left) behind operand rest
-          → Phrase zero inside left (token ∷ behind) (UnaryAt token.span.start operator operand) rest
+          → Phrase zero inside (pred left) later operand rest
+          → Phrase zero inside left (token ∷ later) (UnaryAt token.span.start operator operand) rest
       -- una = post = prim { .. }
       postfixed : {inside : Bool} {left : ℕ} {tokens mid rest : List Token} {first tree : Expression}
           → Primary inside left tokens first mid → Selections inside left first mid tree rest
@@ -100,48 +100,49 @@ module _ (rules : Rules) where
       nothing : {d : ℕ} {inside : Bool} {left : ℕ} {tree : Expression} {rest : List Token}
           → Further d inside left tree rest tree rest
       -- { operator level }
-      operator : {d : ℕ} {inside : Bool} {left : ℕ} {token : Token} {behind mid rest : List Token} {operator : Binary}
+      operator : {d : ℕ} {inside : Bool} {left : ℕ} {token : Token} {later mid rest : List Token} {operator : Binary}
           {first second tree : Expression}
-          → follows token ≡ Operator operator → looseness operator ≡ d → Phrase d inside left behind second mid
+          → follows token ≡ Operator operator → precedence operator ≡ d → Phrase d inside left later second mid
           → Further d inside left (BinaryAt token.span.start operator first second) mid tree rest
-          → Further d inside left first (token ∷ behind) tree rest
+          → Further d inside left first (token ∷ later) tree rest
       -- { "not" "in" add }
-      not_in : {d : ℕ} {inside : Bool} {left : ℕ} {not_token in_token : Token} {behind mid rest : List Token}
+      not_in : {d : ℕ} {inside : Bool} {left : ℕ} {not_token in_token : Token} {later mid rest : List Token}
           {first second tree : Expression}
-          → follows not_token ≡ NotOf → is_in in_token ≡ true → looseness NotIn ≡ d
-          → Phrase d inside left behind second mid
+          → follows not_token ≡ NotOf → is_in in_token ≡ true → precedence NotIn ≡ d
+          → Phrase d inside left later second mid
           → Further d inside left (BinaryAt not_token.span.start NotIn first second) mid tree rest
-          → Further d inside left first (not_token ∷ in_token ∷ behind) tree rest
+          → Further d inside left first (not_token ∷ in_token ∷ later) tree rest
       -- "?" tern ":" tern
-      choice : {d : ℕ} {inside : Bool} {left : ℕ} {question colon : Token} {behind after rest : List Token}
-          {condition yes no : Expression}
+      choice : {d : ℕ} {inside : Bool} {left : ℕ} {question colon : Token} {later after rest : List Token}
+          {condition then_branch else_branch : Expression}
           → follows question ≡ Choose → may_open rules left ≡ true → suc d ≡ ternary
-          → Phrase ternary inside (pred left) behind yes (colon ∷ after)
-          → follows colon ≡ Ends Colon → Phrase ternary inside (pred left) after no rest
-          → Further d inside left condition (question ∷ behind) (ChoiceAt question.span.start condition yes no) rest
+          → Phrase ternary inside (pred left) later then_branch (colon ∷ after)
+          → follows colon ≡ Ends Colon → Phrase ternary inside (pred left) after else_branch rest
+          → Further d inside left condition (question ∷ later)
+          (ChoiceAt question.span.start condition then_branch else_branch) rest
 
     -- { "." word | "[" text "]" | "[" tern "]" }
     pub data Selections : Bool → ℕ → Expression → List Token → Expression → List Token → Type 0 where
       nothing_more : {inside : Bool} {left : ℕ} {tree : Expression} {rest : List Token}
           → Selections inside left tree rest tree rest
-      field : {inside : Bool} {left : ℕ} {point name : Token} {behind rest : List Token} {word : Text}
+      field : {inside : Bool} {left : ℕ} {point name : Token} {later rest : List Token} {word : Text}
           {owner tree : Expression}
           → follows point ≡ Select → field_name_of name ≡ Some word
-          → Selections inside left (FieldAt point.span.start owner word) behind tree rest
-          → Selections inside left owner (point ∷ name ∷ behind) tree rest
-      text_field : {inside : Bool} {left : ℕ} {opener text close : Token} {behind rest : List Token} {word : Text}
+          → Selections inside left (FieldAt point.span.start owner word) later tree rest
+          → Selections inside left owner (point ∷ name ∷ later) tree rest
+      text_field : {inside : Bool} {left : ℕ} {opener text close : Token} {later rest : List Token} {word : Text}
           {owner tree : Expression}
           → follows opener ≡ Open → may_open rules left ≡ true → literal_text text ≡ Some word
           → follows close ≡ Ends EndBracket
-          → Selections inside left (FieldAt opener.span.start owner word) behind tree rest
-          → Selections inside left owner (opener ∷ text ∷ close ∷ behind) tree rest
-      index : {inside : Bool} {left : ℕ} {opener close : Token} {behind after rest : List Token}
+          → Selections inside left (FieldAt opener.span.start owner word) later tree rest
+          → Selections inside left owner (opener ∷ text ∷ close ∷ later) tree rest
+      index : {inside : Bool} {left : ℕ} {opener close : Token} {later after rest : List Token}
           {owner found tree : Expression}
-          → follows opener ≡ Open → may_open rules left ≡ true → is_text_alone behind ≡ false
-          → Phrase ternary inside (pred left) behind found (close ∷ after)
+          → follows opener ≡ Open → may_open rules left ≡ true → is_text_alone later ≡ false
+          → Phrase ternary inside (pred left) later found (close ∷ after)
           → follows close ≡ Ends EndBracket
           → Selections inside left (IndexAt opener.span.start owner found) after tree rest
-          → Selections inside left owner (opener ∷ behind) tree rest
+          → Selections inside left owner (opener ∷ later) tree rest
 
     pub data Primary : Bool → ℕ → List Token → Expression → List Token → Type 0 where
       -- number | text | "true" | "false" | "nil" | "result" | "#"
@@ -152,36 +153,36 @@ module _ (rules : Rules) where
           → begun_by inside point ≡ ItemPoint → field_name_of name ≡ Some word
           → Primary inside left (point ∷ name ∷ rest) (FieldAt point.span.start (ItemAt point.span.start) word) rest
       -- "(" tern ")"
-      group : {inside : Bool} {left : ℕ} {opener close : Token} {behind rest : List Token} {tree : Expression}
+      group : {inside : Bool} {left : ℕ} {opener close : Token} {later rest : List Token} {tree : Expression}
           → begun_by inside opener ≡ Group → may_open rules left ≡ true
-          → Phrase ternary inside (pred left) behind tree (close ∷ rest)
-          → follows close ≡ Ends EndGroup → Primary inside left (opener ∷ behind) tree rest
+          → Phrase ternary inside (pred left) later tree (close ∷ rest)
+          → follows close ≡ Ends EndGroup → Primary inside left (opener ∷ later) tree rest
       -- "[" tern { "," tern } "]"
-      list : {inside : Bool} {left : ℕ} {opener : Token} {behind rest : List Token} {items : List Expression}
+      list : {inside : Bool} {left : ℕ} {opener : Token} {later rest : List Token} {items : List Expression}
           → begun_by inside opener ≡ Bracket → may_open rules left ≡ true
-          → ListItems inside (pred left) [] behind items rest
-          → Primary inside left (opener ∷ behind) (ListAt opener.span.start (expressions items)) rest
+          → ListItems inside (pred left) [] later items rest
+          → Primary inside left (opener ∷ later) (ListAt opener.span.start (expressions items)) rest
       -- call
-      call : {inside : Bool} {left : ℕ} {name opener : Token} {behind rest : List Token} {function : Call}
+      call : {inside : Bool} {left : ℕ} {name opener : Token} {later rest : List Token} {function : Call}
           {arguments : List Expression}
           → begun_by inside name ≡ Calls function → may_open rules left ≡ true → is_group opener ≡ true
-          → Arguments inside (pred left) function [] behind arguments rest
-          → Primary inside left (name ∷ opener ∷ behind) (called name.span.start function arguments) rest
+          → Arguments inside (pred left) function [] later arguments rest
+          → Primary inside left (name ∷ opener ∷ later) (called name.span.start function arguments) rest
 
     -- a list's items after those so far, up to the bracket
     pub data ListItems : Bool → ℕ → List Expression → List Token → List Expression → List Token → Type 0 where
       item : {inside : Bool} {left : ℕ} {so_far items : List Expression} {tokens mid rest : List Token}
           {first : Expression}
-          → Phrase ternary inside left tokens first mid → ItemsBehind inside left (so_far ++ first ∷ []) mid items rest
+          → Phrase ternary inside left tokens first mid → ItemsAfter inside left (so_far ++ first ∷ []) mid items rest
           → ListItems inside left so_far tokens items rest
 
-    pub data ItemsBehind : Bool → ℕ → List Expression → List Token → List Expression → List Token → Type 0 where
+    pub data ItemsAfter : Bool → ℕ → List Expression → List Token → List Expression → List Token → Type 0 where
       last_item : {inside : Bool} {left : ℕ} {items : List Expression} {close : Token} {rest : List Token}
-          → follows close ≡ Ends EndBracket → ItemsBehind inside left items (close ∷ rest) items rest
+          → follows close ≡ Ends EndBracket → ItemsAfter inside left items (close ∷ rest) items rest
       comma_item : {inside : Bool} {left : ℕ} {so_far items : List Expression} {comma : Token}
-          {behind rest : List Token}
+          {later rest : List Token}
           → follows comma ≡ Ends Comma → may_continue rules (length so_far) ≡ true
-          → ListItems inside left so_far behind items rest → ItemsBehind inside left so_far (comma ∷ behind) items rest
+          → ListItems inside left so_far later items rest → ItemsAfter inside left so_far (comma ∷ later) items rest
 
     -- a call's arguments after those so far, up to the parenthesis
     pub data Arguments : Bool → ℕ → Call → List Expression → List Token → List Expression → List Token → Type 0 where
@@ -191,34 +192,34 @@ module _ (rules : Rules) where
       argument : {inside : Bool} {left : ℕ} {function : Call} {so_far arguments : List Expression}
           {tokens mid rest : List Token} {first : Expression}
           → is_body function (length so_far) ≡ false → Phrase ternary inside left tokens first mid
-          → ArgumentsBehind inside left function (so_far ++ first ∷ []) mid arguments rest
+          → ArgumentsAfter inside left function (so_far ++ first ∷ []) mid arguments rest
           → Arguments inside left function so_far tokens arguments rest
       -- pred = tern
       body : {inside : Bool} {left : ℕ} {function : Call} {so_far arguments : List Expression}
           {tokens mid rest : List Token} {first : Expression}
           → is_body function (length so_far) ≡ true → Phrase ternary true left tokens first mid
-          → ArgumentsBehind inside left function (so_far ++ first ∷ []) mid arguments rest
+          → ArgumentsAfter inside left function (so_far ++ first ∷ []) mid arguments rest
           → Arguments inside left function so_far tokens arguments rest
       -- pred = "{" tern "}"
       braced : {inside : Bool} {left : ℕ} {function : Call} {so_far arguments : List Expression} {opener close : Token}
-          {behind mid rest : List Token} {first : Expression}
+          {later mid rest : List Token} {first : Expression}
           → is_body function (length so_far) ≡ true → is_brace opener ≡ true → may_open rules left ≡ true
-          → Phrase ternary true (pred left) behind first (close ∷ mid)
+          → Phrase ternary true (pred left) later first (close ∷ mid)
           → follows close ≡ Ends EndBrace
-          → ArgumentsBehind inside left function (so_far ++ first ∷ []) mid arguments rest
-          → Arguments inside left function so_far (opener ∷ behind) arguments rest
+          → ArgumentsAfter inside left function (so_far ++ first ∷ []) mid arguments rest
+          → Arguments inside left function so_far (opener ∷ later) arguments rest
 
-    pub data ArgumentsBehind : Bool → ℕ → Call → List Expression → List Token → List Expression → List Token
+    pub data ArgumentsAfter : Bool → ℕ → Call → List Expression → List Token → List Expression → List Token
         → Type 0 where
       last_argument : {inside : Bool} {left : ℕ} {function : Call} {arguments : List Expression} {close : Token}
           {rest : List Token}
           → follows close ≡ Ends EndGroup → takes_all rules function (length arguments) ≡ true
-          → ArgumentsBehind inside left function arguments (close ∷ rest) arguments rest
+          → ArgumentsAfter inside left function arguments (close ∷ rest) arguments rest
       comma_argument : {inside : Bool} {left : ℕ} {function : Call} {so_far arguments : List Expression}
-          {comma : Token} {behind rest : List Token}
+          {comma : Token} {later rest : List Token}
           → follows comma ≡ Ends Comma → takes_more rules function (length so_far) ≡ true
-          → Arguments inside left function so_far behind arguments rest
-          → ArgumentsBehind inside left function so_far (comma ∷ behind) arguments rest
+          → Arguments inside left function so_far later arguments rest
+          → ArgumentsAfter inside left function so_far (comma ∷ later) arguments rest
 
 -- all of the tokens are a condition by these rules, which the tree says
 abbrev pub DerivesBy : Rules → List Token → Expression → Type 0

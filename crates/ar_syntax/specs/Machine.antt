@@ -3,7 +3,7 @@ use Rattle.std.specs.Prelude.{ℕ, Bool, true, false, nat_le, if◌then◌else�
 use Rattle.ar_value.specs.Terms.{Offset}
 use Rattle.ar_tree.specs.Expression.{Expression, FieldAt, IndexAt, ItemAt, LiteralAt, UnaryAt, BinaryAt, ChoiceAt, ListAt, expressions}
 use Rattle.ar_syntax.specs.Grammar.{Rules, may_continue, may_open, most_openers, takes_all, takes_more, ternary}
-use Rattle.ar_syntax.specs.Roles.{Call, Ender, Follow, Start, Ends, Comma, Colon, EndGroup, EndBracket, EndBrace, Operator, NotOf, Choose, Select, Open, NoFollow, Leaf, Prefix, Group, Bracket, Calls, ItemPoint, NoStart, called, follows, is_body, is_brace, is_group, is_in, looseness, field_name_of, begun_by, literal_text}
+use Rattle.ar_syntax.specs.Roles.{Call, Ender, Follow, Start, Ends, Comma, Colon, EndGroup, EndBracket, EndBrace, Operator, NotOf, Choose, Select, Open, NoFollow, Leaf, Prefix, Group, Bracket, Calls, ItemPoint, NoStart, called, follows, is_body, is_brace, is_group, is_in, precedence, field_name_of, begun_by, literal_text}
 use Rattle.ar_syntax.specs.declared.token.Token.{Token}
 use Rattle.ar_tree.specs.declared.tree.Binary.{Binary}
 use Rattle.ar_tree.specs.declared.tree.Binary.TheVariants.{NotIn}
@@ -17,8 +17,8 @@ pub data Frame : Type 0 where
   -- the operand of a sign before it
   Prefixed : (at : Offset) (operator : Unary) → Frame
   -- what comes after `?`, and after `:`
-  Yes : (at : Offset) (condition : Expression) → Frame
-  No : (at : Offset) (condition met : Expression) → Frame
+  Then : (at : Offset) (condition : Expression) → Frame
+  Else : (at : Offset) (condition then_branch : Expression) → Frame
   -- what is in `(`, in the `[` of a list and in that of an index
   Grouped : Frame
   Listed : (at : Offset) (so_far : List Expression) → Frame
@@ -47,16 +47,16 @@ pub data ParserState : Type 0 where
 
 -- the level of the operand that the newest frame expects
 abbrev pub wanted : List Frame → ℕ
-wanted (RightOf at operator first ∷ stack) = looseness operator
+wanted (RightOf at operator first ∷ stack) = precedence operator
 wanted (Prefixed at operator ∷ stack) = 0
 wanted stack = ternary
 
 -- one is inside a predicate
-abbrev pub in_call : List Frame → Bool
-in_call [] = false
-in_call (Body at function so_far ∷ stack) = true
-in_call (Braced at function so_far ∷ stack) = true
-in_call (frame ∷ stack) = in_call stack
+abbrev pub in_predicate : List Frame → Bool
+in_predicate [] = false
+in_predicate (Body at function so_far ∷ stack) = true
+in_predicate (Braced at function so_far ∷ stack) = true
+in_predicate (frame ∷ stack) = in_predicate stack
 
 -- how many openers may still be unfinished
 abbrev pub openers_left : List Frame → ℕ
@@ -70,7 +70,7 @@ openers_left (frame ∷ stack) = pred (openers_left stack)
 -- the phrases of levels up to this one end with an operand
 abbrev pub climbed : ℕ → List Frame → Expression → ParserState
 climbed level (RightOf at operator first ∷ stack) tree =
-    if nat_le (looseness operator) level then climbed level stack (BinaryAt at operator first tree)
+    if nat_le (precedence operator) level then climbed level stack (BinaryAt at operator first tree)
     else Have (RightOf at operator first ∷ stack) tree
 climbed level (Prefixed at operator ∷ stack) tree = climbed level stack (UnaryAt at operator tree)
 climbed level stack tree = Have stack tree
@@ -79,7 +79,7 @@ climbed level stack tree = Have stack tree
 abbrev pub unwound : List Frame → Expression → ParserState
 unwound (RightOf at operator first ∷ stack) tree = unwound stack (BinaryAt at operator first tree)
 unwound (Prefixed at operator ∷ stack) tree = unwound stack (UnaryAt at operator tree)
-unwound (No at condition met ∷ stack) tree = unwound stack (ChoiceAt at condition met tree)
+unwound (Else at condition then_branch ∷ stack) tree = unwound stack (ChoiceAt at condition then_branch tree)
 unwound stack tree = Have stack tree
 
 -- how an argument begins: it is a plain one, or a predicate, in braces or not
@@ -110,11 +110,11 @@ module _ (rules : Rules) where
   begun_with stack at NoStart = None
 
   abbrev pub want : List Frame → Token → Option ParserState
-  want stack token = begun_with stack token.span.start (begun_by (in_call stack) token)
+  want stack token = begun_with stack token.span.start (begun_by (in_predicate stack) token)
 
   -- after the operand that ends what is in brackets or before `:`
   abbrev pub end_with : Ender → ParserState → Option ParserState
-  end_with Colon (Have (Yes at condition ∷ stack) tree) = Some (Want (No at condition tree ∷ stack))
+  end_with Colon (Have (Then at condition ∷ stack) tree) = Some (Want (Else at condition tree ∷ stack))
   end_with EndGroup (Have (Grouped ∷ stack) tree) = Some (Have stack tree)
   end_with EndBracket (Have (Indexed at list ∷ stack) tree) = Some (Have stack (IndexAt at list tree))
   end_with EndBracket (Have (Listed at so_far ∷ stack) tree) =
@@ -147,13 +147,13 @@ module _ (rules : Rules) where
   negate at state = None
 
   abbrev pub choose : Offset → ParserState → Option ParserState
-  choose at (Have stack tree) = when (may_open rules (openers_left stack)) (Want (Yes at tree ∷ stack))
+  choose at (Have stack tree) = when (may_open rules (openers_left stack)) (Want (Then at tree ∷ stack))
   choose at state = None
 
   -- after an operand
   abbrev pub followed_by : List Frame → Expression → Offset → Follow → Option ParserState
-  followed_by stack tree at (Operator operator) = operate at operator (climbed (looseness operator) stack tree)
-  followed_by stack tree at NotOf = negate at (climbed (looseness NotIn) stack tree)
+  followed_by stack tree at (Operator operator) = operate at operator (climbed (precedence operator) stack tree)
+  followed_by stack tree at NotOf = negate at (climbed (precedence NotIn) stack tree)
   followed_by stack tree at Choose = choose at (climbed 5 stack tree)
   followed_by stack tree at Select = Some (WantName stack at tree)
   followed_by stack tree at Open = when (may_open rules (openers_left stack)) (WantIndex stack at tree)

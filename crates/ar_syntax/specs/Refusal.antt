@@ -41,27 +41,27 @@ IsInside before =
 -- ---- the name of a fault
 
 -- the refusal of a token that can't come after those before it, where it has a name of its own
-pub data IsNamedBehind (before : List Token) (token : Token) : SyntaxError → Type 0 where
+pub data IsNamedAfter (before : List Token) (token : Token) : SyntaxError → Type 0 where
   -- a word that the language doesn't name, where an operand is expected
   unknown_name : {name : Text} → token.kind ≡ kinds.Name name → WantsOperand before
-      → IsNamedBehind before token (UnknownName token.span.start)
+      → IsNamedAfter before token (UnknownName token.span.start)
   -- `#` outside predicates, and a point where an operand is expected there
   item_outside : token.kind ≡ kinds.Sign Hash → ¬ IsInside before
-      → IsNamedBehind before token (ItemOutside token.span.start)
+      → IsNamedAfter before token (ItemOutside token.span.start)
   item_field_outside : token.kind ≡ kinds.Sign Point → WantsOperand before → ¬ IsInside before
-      → IsNamedBehind before token (ItemOutside token.span.start)
+      → IsNamedAfter before token (ItemOutside token.span.start)
   -- a token that one limit alone forbids: it may come there where that limit is set aside
-  wrong_count : BeginsBy of_any_count (before ++ token ∷ []) → IsNamedBehind before token (WrongCount token.span.start)
+  wrong_count : BeginsBy of_any_count (before ++ token ∷ []) → IsNamedAfter before token (WrongCount token.span.start)
   too_many_items : ¬ BeginsBy of_any_count (before ++ token ∷ []) → BeginsBy of_any_items (before ++ token ∷ [])
-      → IsNamedBehind before token (TooManyItems token.span.start)
+      → IsNamedAfter before token (TooManyItems token.span.start)
   too_deep : ¬ BeginsBy of_any_count (before ++ token ∷ []) → ¬ BeginsBy of_any_items (before ++ token ∷ [])
-      → BeginsBy at_any_depth (before ++ token ∷ []) → IsNamedBehind before token (TooDeep token.span.start)
+      → BeginsBy at_any_depth (before ++ token ∷ []) → IsNamedAfter before token (TooDeep token.span.start)
 
 -- any other is unexpected
-pub data IsRefusedBehind (before : List Token) (token : Token) : SyntaxError → Type 0 where
-  named : {error : SyntaxError} → IsNamedBehind before token error → IsRefusedBehind before token error
-  unexpected : ((error : SyntaxError) → ¬ IsNamedBehind before token error)
-      → IsRefusedBehind before token (Unexpected token.span.start)
+pub data IsRefusedAfter (before : List Token) (token : Token) : SyntaxError → Type 0 where
+  named : {error : SyntaxError} → IsNamedAfter before token error → IsRefusedAfter before token error
+  unexpected : ((error : SyntaxError) → ¬ IsNamedAfter before token error)
+      → IsRefusedAfter before token (Unexpected token.span.start)
 
 -- ---- the refusal of tokens
 
@@ -70,7 +70,7 @@ pub data IsRefusedBehind (before : List Token) (token : Token) : SyntaxError →
 pub data AreRefused (end : ℕ) (tokens : List Token) : SyntaxError → Type 0 where
   at_token : (before : List Token) (token : Token) (rest : List Token) {error : SyntaxError}
       → tokens ≡ before ++ token ∷ rest
-      → BeginsCondition before → ¬ BeginsCondition (before ++ token ∷ []) → IsRefusedBehind before token error
+      → BeginsCondition before → ¬ BeginsCondition (before ++ token ∷ []) → IsRefusedAfter before token error
       → AreRefused end tokens error
   at_end : BeginsCondition tokens → ((tree : Expression) → ¬ Derives tokens tree)
       → AreRefused end tokens (Unexpected end)

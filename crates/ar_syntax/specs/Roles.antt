@@ -140,18 +140,18 @@ follows token = kind_follow token.kind
 
 -- how many levels of operators bind tighter than this one: 0 for `*`, 1 for `+`, 2 for `==`, `in` and `contains`, 3 for
 -- `and`, 4 for `or`
-abbrev pub looseness : Binary → ℕ
-looseness binaries.Or = 4
-looseness binaries.And = 3
-looseness (binaries.Comparison comparison) = 2
-looseness binaries.In = 2
-looseness binaries.NotIn = 2
-looseness (binaries.TextTest test) = 2
-looseness binaries.Add = 1
-looseness binaries.Subtract = 1
-looseness binaries.Multiply = 0
-looseness binaries.Divide = 0
-looseness binaries.Remainder = 0
+abbrev pub precedence : Binary → ℕ
+precedence binaries.Or = 4
+precedence binaries.And = 3
+precedence (binaries.Comparison comparison) = 2
+precedence binaries.In = 2
+precedence binaries.NotIn = 2
+precedence (binaries.TextTest test) = 2
+precedence binaries.Add = 1
+precedence binaries.Subtract = 1
+precedence binaries.Multiply = 0
+precedence binaries.Divide = 0
+precedence binaries.Remainder = 0
 
 -- ---- elsewhere
 

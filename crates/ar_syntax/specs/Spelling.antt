@@ -97,9 +97,9 @@ pub data IsGap : Text → Text → Type 0 where
 
 -- nothing but blanks and comments is between an offset and the tokens after it, and between and after these
 abbrev pub IsGapBetween : Text → Offset → List Token → Type 0
-IsGapBetween text place [] = IsGap (drop place text) []
-IsGapBetween text place (token ∷ tokens) =
-    IsGap (drop place text) (drop token.span.start text) × IsGapBetween text token.span.end tokens
+IsGapBetween text offset [] = IsGap (drop offset text) []
+IsGapBetween text offset (token ∷ tokens) =
+    IsGap (drop offset text) (drop token.span.start text) × IsGapBetween text token.span.end tokens
 
 -- what cutting a text into tokens returns
 pub record CutsTo (text : Text) (result : Result (Vec Token Global) SyntaxError) : Type 0 where

@@ -138,9 +138,9 @@ is_digit_in base byte = is_digit byte (radix base)
 abbrev pub is_quote : ℕ → Bool
 is_quote byte = byte == byte_of (codes "\"") || byte == byte_of (codes "'")
 
--- the offset of the quote that ends a text, of bytes that begin at an offset: a backslash takes the next byte's own
+-- how many bytes come before the quote that ends a text, counted on from `at`: a backslash takes the next byte's own
 -- meaning
-abbrev pub text_end : ℕ → Offset → Bool → Text → Option ℕ
+abbrev pub text_end : (quote at : ℕ) → Bool → Text → Option ℕ
 text_end quote at escaped [] = None
 text_end quote at true (byte ∷ bytes) = text_end quote (at + 1) false bytes
 text_end quote at false (byte ∷ bytes) =
@@ -157,11 +157,11 @@ escape_of byte =
 
 -- a byte in front of those that others represent
 abbrev pub with_byte : ℕ → Result Text SyntaxError → Result Text SyntaxError
-with_byte byte behind = behind >>= λ bytes. Ok (byte ∷ bytes)
+with_byte byte later = later >>= λ bytes. Ok (byte ∷ bytes)
 
 abbrev pub with_escape : Offset → Option ℕ → Result Text SyntaxError → Result Text SyntaxError
-with_escape at (Some byte) behind = with_byte byte behind
-with_escape at None behind = Err (BadEscape at)
+with_escape at (Some byte) later = with_byte byte later
+with_escape at None later = Err (BadEscape at)
 
 -- what the bytes of a text directly after an offset represent
 abbrev pub unescaped : Offset → Bool → Text → Result Text SyntaxError

@@ -73,12 +73,12 @@ abbrev pub digits_at : Text → Text
 digits_at bytes = take_while is_ascii_digit bytes
 
 -- the digits directly after a point at the front
-abbrev pub digits_behind_point : Text → Text
-digits_behind_point bytes = if slice_index bytes 0 == byte_of (codes ".") then digits_at (drop 1 bytes) else []
+abbrev pub digits_after_point : Text → Text
+digits_after_point bytes = if slice_index bytes 0 == byte_of (codes ".") then digits_at (drop 1 bytes) else []
 
 -- of the number at the front, the digits after its point: a point belongs to it where a digit follows
 abbrev pub fraction_at : Text → Text
-fraction_at bytes = digits_behind_point (drop (length (digits_at bytes)) bytes)
+fraction_at bytes = digits_after_point (drop (length (digits_at bytes)) bytes)
 
 -- a number's text: a point is in it only before digits
 abbrev pub number_text : Text → Text → Text
@@ -224,19 +224,19 @@ front_of at field bytes =
 
 -- a token, and those after it
 abbrev pub with_front : Offset → Piece → (ℕ → Bool → Result (List Token) SyntaxError) → Result (List Token) SyntaxError
-with_front at (Gap len) behind = behind (len - 1) false
-with_front at (Found token) behind =
-    behind (token.span.end - (at + 1)) (takes_field token.kind) >>= λ tokens. Ok (token ∷ tokens)
+with_front at (Gap len) later = later (len - 1) false
+with_front at (Found token) later =
+    later (token.span.end - (at + 1)) (takes_field token.kind) >>= λ tokens. Ok (token ∷ tokens)
 
 -- the tokens after the next `skip` bytes, of bytes that begin at an offset of the text; `field` says that a point here
 -- is a field's
-unfoldable pub tokens_behind : ℕ → Offset → Bool → Text → Result (List Token) SyntaxError
-tokens_behind skip at field [] = Ok []
-tokens_behind (suc skip) at field (byte ∷ bytes) = tokens_behind skip (at + 1) field bytes
-tokens_behind zero at field (byte ∷ bytes) =
+unfoldable pub tokens_after : ℕ → Offset → Bool → Text → Result (List Token) SyntaxError
+tokens_after skip at field [] = Ok []
+tokens_after (suc skip) at field (byte ∷ bytes) = tokens_after skip (at + 1) field bytes
+tokens_after zero at field (byte ∷ bytes) =
     front_of at field (byte ∷ bytes)
-    >>= λ front. with_front at front (λ skip field. tokens_behind skip (at + 1) field bytes)
+    >>= λ front. with_front at front (λ skip field. tokens_after skip (at + 1) field bytes)
 
 -- the tokens of a text that isn't too long, or its first fault
 unfoldable pub tokens_of : Text → Result (List Token) SyntaxError
-tokens_of text = if nat_lt most_text_bytes (length text) then Err TooLong else tokens_behind 0 0 false text
+tokens_of text = if nat_lt most_text_bytes (length text) then Err TooLong else tokens_after 0 0 false text

@@ -7,7 +7,7 @@ ghost use Rattle.ar_tree.specs.Views.{expression_of};
 
 use crate::build::boxed;
 use crate::machine::Frame;
-use crate::role::looseness;
+use crate::role::precedence;
 use ar_tree::tree::Tree;
 use std::alloc::{AllocError, Global};
 
@@ -71,7 +71,7 @@ fn ends(frame: &Frame, reach: Reach) -> bool
         Reach::Level(level) => ends_below(frame, level),
         Reach::Ender => matches!(
             frame,
-            Frame::RightOf { .. } | Frame::Prefixed { .. } | Frame::No { .. }
+            Frame::RightOf { .. } | Frame::Prefixed { .. } | Frame::Else { .. }
         ),
     }
 }
@@ -81,7 +81,7 @@ fn ends_below(frame: &Frame, level: usize) -> bool
     ensures { result ≡ ends_below level (frame_of frame.now) }
 {
     match frame {
-        Frame::RightOf { operator, .. } => looseness(*operator) <= level,
+        Frame::RightOf { operator, .. } => precedence(*operator) <= level,
         Frame::Prefixed { .. } => true,
         _ => false,
     }
@@ -108,11 +108,15 @@ fn close(alloc: Global, frame: Frame, tree: Box<Tree>) -> Result<Box<Tree>, Allo
             operator,
             operand: tree,
         },
-        Frame::No { at, condition, met } => Tree::Choice {
+        Frame::Else {
             at,
             condition,
-            yes: met,
-            no: tree,
+            then_branch,
+        } => Tree::Choice {
+            at,
+            condition,
+            then_branch,
+            else_branch: tree,
         },
         _ => return Ok(tree),
     };

@@ -25,10 +25,10 @@ pub(crate) fn fits(tree: &Tree, levels: usize) -> bool
         Tree::Binary { left, right, .. } => fits(left, inner) && fits(right, inner),
         Tree::Choice {
             condition,
-            yes,
-            no,
+            then_branch,
+            else_branch,
             ..
-        } => fits(condition, inner) && (fits(yes, inner) && fits(no, inner)),
+        } => fits(condition, inner) && (fits(then_branch, inner) && fits(else_branch, inner)),
         Tree::List { items, .. } => all_fit(&items.items, inner),
         Tree::Len { list, .. } => fits(list, inner),
         Tree::IsNil { operand, .. } => fits(operand, inner),

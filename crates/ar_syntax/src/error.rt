@@ -46,7 +46,7 @@ pub enum SyntaxError {
 
 impl SyntaxError {
     /// The byte at which the text stops being a condition.
-    pub fn place(self) -> Option<usize>
+    pub fn offset(self) -> Option<usize>
         ensures { result ≡ syntax_refused_at self }
     {
         match self {
@@ -82,8 +82,8 @@ impl SyntaxError {
             SyntaxError::NumberTooLarge(_) =>
                 "NumberTooLarge: expected at most 9223372036854775807, or 9223372036854.775807 with a point",
             SyntaxError::Unexpected(_) =>
-                "Unexpected: no condition goes on so, as `result >= 0.95` does; a {{args.name}} \
-                 gives way to its value before a condition is read",
+                "Unexpected: no condition continues so, as `result >= 0.95` does; a {{args.name}} \
+                 is replaced by its value before a condition is read",
             SyntaxError::UnknownName(_) => "UnknownName: no word of the language",
             SyntaxError::WrongCount(_) =>
                 "WrongCount: len and isNil take one argument, default and calls with predicates two",
@@ -99,7 +99,7 @@ impl SyntaxError {
 
 impl fmt::Display for SyntaxError {
     fn fmt<W: fmt::Write>(&self, f: &mut fmt::Formatter<W>) -> fmt::Result {
-        match self.place() {
+        match self.offset() {
             Some(at) => write!(f, "byte {at}: {}", self.words()),
             None => f.write_str(self.words()),
         }

@@ -18,15 +18,15 @@ pub(crate) enum Frame {
         operator: Unary,
     },
     /// What comes after `?`.
-    Yes {
+    Then {
         at: usize,
         condition: Box<Tree>,
     },
     /// What comes after `:`.
-    No {
+    Else {
         at: usize,
         condition: Box<Tree>,
-        met: Box<Tree>,
+        then_branch: Box<Tree>,
     },
     /// What is in parentheses.
     Grouped,

@@ -8,7 +8,7 @@ ghost use Rattle.std.specs.Str.Parse.{digits_value};
 ghost use Rattle.ar_value.specs.Decimal.{is_i64};
 ghost use Rattle.ar_value.specs.Digits.{magnitude_of};
 ghost use Rattle.ar_syntax.specs.Token.{continues_word, is_digit_in, radix};
-ghost use Rattle.ar_syntax.specs.Tokens.{base_digits, base_named, base_of, begins_number, digits_at, digits_behind_point, number_ended, number_at_front, number_text, plain_number, prefixed_number, number_token_kind};
+ghost use Rattle.ar_syntax.specs.Tokens.{base_digits, base_named, base_of, begins_number, digits_at, digits_after_point, number_ended, number_at_front, number_text, plain_number, prefixed_number, number_token_kind};
 
 use crate::error::SyntaxError;
 use crate::token::{Base, Token, TokenKind, continues_word, placed};
@@ -79,7 +79,7 @@ fn prefixed_number(bytes: &[u8], at: usize, base: Base) -> Result<Token, SyntaxE
     requires base { base_of bytes.now ≡ Some base }
     ensures { result ≡ prefixed_number at bytes.now base }
 {
-    let digits = base_digits(behind_prefix(bytes), base);
+    let digits = base_digits(after_prefix(bytes), base);
     let value = prefixed_value(digits, base).ok_or(SyntaxError::NumberTooLarge(at))?;
     ended(
         bytes,
@@ -90,7 +90,7 @@ fn prefixed_number(bytes: &[u8], at: usize, base: Base) -> Result<Token, SyntaxE
 }
 
 /// The bytes after the prefix of a base.
-fn behind_prefix(bytes: &[u8]) -> &[u8]
+fn after_prefix(bytes: &[u8]) -> &[u8]
     ensures { result.now ≡ drop 2 bytes.now }
 {
     match bytes {
@@ -158,7 +158,7 @@ fn plain_number(bytes: &[u8], at: usize) -> Result<Token, SyntaxError>
     ensures { result ≡ plain_number at bytes.now }
 {
     let whole = digits(bytes);
-    let fraction = digits_behind_point(&bytes[whole.len()..]);
+    let fraction = digits_after_point(&bytes[whole.len()..]);
     let kind = value(whole, fraction, at)?;
     ended(bytes, at, number_len(whole, fraction), kind)
 }
@@ -195,8 +195,8 @@ fn digits_len(bytes: &[u8]) -> usize
 }
 
 /// The digits directly after a point at the front.
-fn digits_behind_point(bytes: &[u8]) -> &[u8]
-    ensures front { result.now ≡ digits_behind_point bytes.now }
+fn digits_after_point(bytes: &[u8]) -> &[u8]
+    ensures front { result.now ≡ digits_after_point bytes.now }
     ensures digits { list_all is_ascii_digit result.now ≡ true }
 {
     match bytes {

@@ -1,7 +1,7 @@
 //! What a token can be after an operand, and what calls take.
 
 ghost use Rattle.std.specs.Prelude.{◌≡◌};
-ghost use Rattle.ar_syntax.specs.Roles.{arity, follows, is_body, is_brace, is_group, is_in, looseness, sign_follow, word_follow};
+ghost use Rattle.ar_syntax.specs.Roles.{arity, follows, is_body, is_brace, is_group, is_in, precedence, sign_follow, word_follow};
 
 use crate::token::{Sign, Token, TokenKind, Word};
 use ar_tree::tree::Binary;
@@ -62,8 +62,8 @@ impl Call {
 }
 
 /// How many levels of operators bind tighter.
-pub(crate) fn looseness(operator: Binary) -> usize
-    ensures { result ≡ looseness operator }
+pub(crate) fn precedence(operator: Binary) -> usize
+    ensures { result ≡ precedence operator }
 {
     match operator {
         Binary::Or => 4,

@@ -4,7 +4,7 @@ ghost use Rattle.std.specs.Prelude.{◌≡◌, ◌+◌, ◌^◌, ◌<◌, ◌≤
 ghost use Rattle.ar_value.specs.Answer.{Gives};
 ghost use Rattle.ar_value.specs.Limits.{most_text_bytes};
 ghost use Rattle.ar_syntax.specs.Spelling.{is_syntax_memory, CutsTo};
-ghost use Rattle.ar_syntax.specs.Tokens.{begins_block_comment, begins_line_comment, block_comment, comment_end, front_of, is_blank, line_comment, sign_at, sign_of, is_coalescing, token_of, tokens_behind, tokens_of, word_at, word_token};
+ghost use Rattle.ar_syntax.specs.Tokens.{begins_block_comment, begins_line_comment, block_comment, comment_end, front_of, is_blank, line_comment, sign_at, sign_of, is_coalescing, token_of, tokens_after, tokens_of, word_at, word_token};
 ghost use Rattle.ar_syntax.specs.declared.error.SyntaxError.TheVariants.{TooLong};
 ghost use Rattle.ar_syntax.specs.Token.{word_or_name, word_of};
 
@@ -85,7 +85,7 @@ fn limited_tokens(alloc: Global, text: &str) -> Result<Vec<Token>, SyntaxError>
 
 /// The tokens of a whole text.
 fn scan(alloc: Global, text: &str) -> Result<Vec<Token>, SyntaxError>
-    ensures { Gives is_syntax_memory (λ tokens. tokens.items) result (tokens_behind 0 0 false text.now) }
+    ensures { Gives is_syntax_memory (λ tokens. tokens.items) result (tokens_after 0 0 false text.now) }
 {
     let mut tokens = Vec::new(alloc);
     let mut field = false;

@@ -1,7 +1,7 @@
 //! What the frames that are begun say of the next token.
 
 ghost use Rattle.std.specs.Prelude.{◌≡◌};
-ghost use Rattle.ar_syntax.specs.Machine.{in_call, openers_left};
+ghost use Rattle.ar_syntax.specs.Machine.{in_predicate, openers_left};
 ghost use Rattle.ar_syntax.specs.Private.Frames.{frame_of, frames_of, is_predicate, openers};
 
 use crate::machine::Frame;
@@ -12,7 +12,7 @@ const MOST_OPENERS: usize = 64;
 /// Whether one is inside a predicate.
 #[tactic(auto, using(crate::proofs::Stacks::stacks))]
 pub(crate) fn inside(stack: &[Frame]) -> bool
-    ensures { result ≡ in_call (frames_of stack.now) }
+    ensures { result ≡ in_predicate (frames_of stack.now) }
 {
     let mut inside = false;
     for frame in stack {

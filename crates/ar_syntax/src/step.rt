@@ -3,8 +3,8 @@
 ghost use Rattle.std.specs.Prelude.{◌≡◌, ◌∷◌, ◌++◌, [], length, map, pred, Some, IfOk};
 ghost use Rattle.ar_tree.specs.Expression.{LiteralAt};
 ghost use Rattle.ar_syntax.specs.Grammar.{ends_bracket, may_continue, may_open};
-ghost use Rattle.ar_syntax.specs.Machine.{Argued, Body, Braced, Frame, Grouped, Have, Indexed, Listed, RightOf, Yes, Want, WantArgument, argue, argument_start, begun_with, choose, climbed, close_empty, close_text, end_with, have, openers_left, open_index, operate, negate, select, parser_step, unwound, want, when};
-ghost use Rattle.ar_syntax.specs.Roles.{follows, is_body, is_brace, is_in, looseness, field_name_of, literal_text};
+ghost use Rattle.ar_syntax.specs.Machine.{Argued, Body, Braced, Frame, Grouped, Have, Indexed, Listed, RightOf, Then, Want, WantArgument, argue, argument_start, begun_with, choose, climbed, close_empty, close_text, end_with, have, openers_left, open_index, operate, negate, select, parser_step, unwound, want, when};
+ghost use Rattle.ar_syntax.specs.Roles.{follows, is_body, is_brace, is_in, precedence, field_name_of, literal_text};
 ghost use Rattle.ar_tree.specs.declared.tree.Binary.TheVariants.{NotIn};
 ghost use Rattle.ar_tree.specs.declared.tree.Literal.TheVariants.{Text as TextLiteral};
 ghost use Rattle.ar_syntax.specs.Private.Steps.{Steps, StepsFreely, is_empty_call, start_of, state_of};
@@ -15,7 +15,7 @@ use crate::build::{boxed, operand};
 use crate::call::{end_call, have_argument, next_argument, want_group};
 use crate::climb::{Reach, climb};
 use crate::machine::Frame;
-use crate::role::{Call, Ender, Follow, follow_of, is_brace, is_in, looseness};
+use crate::role::{Call, Ender, Follow, follow_of, is_brace, is_in, precedence};
 use crate::stack::{inside, left};
 use crate::start::{Begin, begin_of};
 use crate::state::{Refusal, State};
@@ -163,10 +163,10 @@ fn operate(
 ) -> Result<State, Refusal>
     ensures { Steps
         (λ rules. operate rules at operator
-        (climbed (looseness operator) (frames_of stack.old.items) (expression_of tree.value)))
+        (climbed (precedence operator) (frames_of stack.old.items) (expression_of tree.value)))
         (frames_of stack.new.items) result }
 {
-    let first = climb(alloc, stack, Reach::Level(looseness(operator)), tree)?;
+    let first = climb(alloc, stack, Reach::Level(precedence(operator)), tree)?;
     wait(
         stack,
         Frame::RightOf {
@@ -185,10 +185,10 @@ fn negate(
     at: usize,
 ) -> Result<State, Refusal>
     ensures { Steps
-        (λ rules. negate rules at (climbed (looseness NotIn) (frames_of stack.old.items) (expression_of tree.value)))
+        (λ rules. negate rules at (climbed (precedence NotIn) (frames_of stack.old.items) (expression_of tree.value)))
         (frames_of stack.new.items) result }
 {
-    let first = climb(alloc, stack, Reach::Level(looseness(Binary::NotIn)), tree)?;
+    let first = climb(alloc, stack, Reach::Level(precedence(Binary::NotIn)), tree)?;
     Ok(State::WantIn { at, first })
 }
 
@@ -204,7 +204,7 @@ fn choose(
         (frames_of stack.new.items) result }
 {
     let condition = climb(alloc, stack, Reach::Level(CONDITION_LEVEL), tree)?;
-    open(stack, Frame::Yes { at, condition })
+    open(stack, Frame::Then { at, condition })
 }
 
 /// A closing sign, a comma or a colon after the operand that it ends.
@@ -253,7 +253,7 @@ fn end_frame(
         (frames_of stack.new.items) result }
 {
     match frame {
-        Frame::Yes { at, condition } => end_yes(stack, at, condition, tree, ender),
+        Frame::Then { at, condition } => end_then(stack, at, condition, tree, ender),
         Frame::Grouped => end_group(tree, ender),
         Frame::Indexed { at, list } => end_index(alloc, at, list, tree, ender),
         Frame::Listed { at, so_far } => end_item(alloc, stack, at, so_far, tree, ender),
@@ -274,7 +274,7 @@ fn end_frame(
         } => end_braces(at, function, so_far, tree, ender),
         Frame::RightOf { .. } => Err(Refusal::Other),
         Frame::Prefixed { .. } => Err(Refusal::Other),
-        Frame::No { .. } => Err(Refusal::Other),
+        Frame::Else { .. } => Err(Refusal::Other),
     }
 }
 
@@ -341,20 +341,27 @@ fn end_braces(
 
 /// What comes after `?` ends.
 #[tactic(auto, using(crate::proofs::Climbs::pops))]
-fn end_yes(
+fn end_then(
     stack: &mut Vec<Frame>,
     at: usize,
     condition: Box<Tree>,
-    met: Box<Tree>,
+    then_branch: Box<Tree>,
     ender: Ender,
 ) -> Result<State, Refusal>
     ensures { Steps
         (λ rules. end_with rules ender
-        (Have (Yes at (expression_of condition.value) ∷ frames_of stack.old.items) (expression_of met.value)))
+        (Have (Then at (expression_of condition.value) ∷ frames_of stack.old.items) (expression_of then_branch.value)))
         (frames_of stack.new.items) result }
 {
     match ender {
-        Ender::Colon => wait(stack, Frame::No { at, condition, met }),
+        Ender::Colon => wait(
+            stack,
+            Frame::Else {
+                at,
+                condition,
+                then_branch,
+            },
+        ),
         _ => Err(Refusal::Other),
     }
 }
@@ -496,7 +503,7 @@ fn closes_bracket(token: &Token) -> bool
 }
 
 /// After a text that comes after such a `[`.
-#[tactic(auto, using(crate::proofs::Climbs::pops, crate::proofs::Openers::text_goes_on, crate::proofs::Openers::text_is_name))]
+#[tactic(auto, using(crate::proofs::Climbs::pops, crate::proofs::Openers::text_continues, crate::proofs::Openers::text_is_name))]
 fn close_text(
     alloc: Global,
     stack: &mut Vec<Frame>,

@@ -12,12 +12,12 @@ use Rattle.ar_tested.specs.declared.outcome.Ended.TheVariants.{Done, Stuck, Spen
 
 abbrev ending : Ended → Ending
 ending (Done outcome) = answered outcome.answer outcome.cost
-ending (Stuck place) = halted place
+ending (Stuck index) = halted index
 ending Spent = spent
 
 ends_by : (code : Code) (value : Value) (fuel : ℕ) (ended : Ended) → EndsAs code value fuel ended → EndsBy code value fuel (ending ended)
 ends_by code value fuel (Done outcome) is = is
-ends_by code value fuel (Stuck place) is = is
+ends_by code value fuel (Stuck index) is = is
 ends_by code value fuel Spent is = is
 
 same_answer : (a b : Result Bool Fault) (m n : ℕ) → answered a m ≡ answered b n → (a ≡ b) × (m ≡ n)
@@ -31,13 +31,13 @@ same_place m n e = cc
 
 same : (first second : Ended) → ending first ≡ ending second → first ≡ second
 same (Done o) (Done p) e = same_outcome o p (same_answer o.answer p.answer o.cost p.cost e)
-same (Done o) (Stuck place) e = absurd cc
+same (Done o) (Stuck index) e = absurd cc
 same (Done o) Spent e = absurd cc
-same (Stuck place) (Done p) e = absurd cc
-same (Stuck m) (Stuck n) e = ap (λ place. Stuck place) (same_place m n e)
-same (Stuck place) Spent e = absurd cc
+same (Stuck index) (Done p) e = absurd cc
+same (Stuck m) (Stuck n) e = ap (λ index. Stuck index) (same_place m n e)
+same (Stuck index) Spent e = absurd cc
 same Spent (Done p) e = absurd cc
-same Spent (Stuck place) e = absurd cc
+same Spent (Stuck index) e = absurd cc
 same Spent Spent e = refl
 
 pub one_end : (code : Code) (value : Value) (fuel : ℕ) (first second : Ended) → EndsAs code value fuel first → EndsAs code value fuel second → first ≡ second

@@ -8,5 +8,5 @@ use Rattle.ar_tested.specs.declared.outcome.Ended.TheVariants.{Done, Stuck, Spen
 
 abbrev pub EndsAs : Code → Value → (fuel : ℕ) → Ended → Type 0
 EndsAs code value fuel (Done outcome) = IsDone code value fuel outcome.answer outcome.cost
-EndsAs code value fuel (Stuck place) = IsStuck code value fuel place
+EndsAs code value fuel (Stuck index) = IsStuck code value fuel index
 EndsAs code value fuel Spent = IsSpent code value fuel

@@ -23,22 +23,22 @@ pub fn run_tested(alloc: Global, code: &Code, value: &Value, fuel: u64) -> Resul
     ensures { IfOk result (EndsAs code.now (value_view value.now) fuel) }
 {
     let mut state = State::new(alloc);
-    while let Some(op) = op_at(code, state.place) {
+    while let Some(op) = op_at(code, state.index) {
         let cost = cost_of(op, &state.operands);
         if cost > fuel - state.cost {
             return Ok(Ended::Spent);
         }
         state.cost += cost;
         match act(alloc, code, value, op, &mut state)? {
-            Next::Goes => {}
+            Next::Proceeds => {}
             Next::Ends(answer) => {
                 return Ok(Ended::Done(Outcome {
                     answer,
                     cost: state.cost,
                 }));
             }
-            Next::Stuck => return Ok(Ended::Stuck(state.place)),
+            Next::Stuck => return Ok(Ended::Stuck(state.index)),
         }
     }
-    Ok(Ended::Stuck(state.place))
+    Ok(Ended::Stuck(state.index))
 }

@@ -7,7 +7,7 @@ use Rattle.ar_value.specs.declared.operator.Predicate.{Predicate}
 use Rattle.ar_tree.specs.declared.tree.Unary.{Unary}
 
 mutual
-  -- a node with its place (byte offset) and its children
+  -- a node with its offset in bytes and its children
   pub data Expression : Type 0 where
     ResultAt : (at : Offset) → Expression
     ItemAt : (at : Offset) → Expression
@@ -16,7 +16,7 @@ mutual
     IndexAt : (at : Offset) (list index : Expression) → Expression
     UnaryAt : (at : Offset) (operator : Unary) (operand : Expression) → Expression
     BinaryAt : (at : Offset) (operator : Binary) (left right : Expression) → Expression
-    ChoiceAt : (at : Offset) (condition yes no : Expression) → Expression
+    ChoiceAt : (at : Offset) (condition then_branch else_branch : Expression) → Expression
     ListAt : (at : Offset) (items : Expressions) → Expression
     LenAt : (at : Offset) (list : Expression) → Expression
     IsNilAt : (at : Offset) (operand : Expression) → Expression
@@ -36,18 +36,18 @@ abbrev pub expression_count : Expressions → ℕ
 expression_count none = 0
 expression_count (more first others) = suc (expression_count others)
 
--- the place of a tree: that of its operator, else of its own token
-abbrev pub place_of : Expression → Offset
-place_of (ResultAt at) = at
-place_of (ItemAt at) = at
-place_of (LiteralAt at literal) = at
-place_of (FieldAt at owner name) = at
-place_of (IndexAt at list index) = at
-place_of (UnaryAt at operator operand) = at
-place_of (BinaryAt at operator left right) = at
-place_of (ChoiceAt at condition met unmet) = at
-place_of (ListAt at items) = at
-place_of (LenAt at list) = at
-place_of (IsNilAt at operand) = at
-place_of (DefaultAt at operand otherwise) = at
-place_of (PredicateAt at predicate list body) = at
+-- the offset of a tree: that of its operator, else of its own token
+abbrev pub offset_of : Expression → Offset
+offset_of (ResultAt at) = at
+offset_of (ItemAt at) = at
+offset_of (LiteralAt at literal) = at
+offset_of (FieldAt at owner name) = at
+offset_of (IndexAt at list index) = at
+offset_of (UnaryAt at operator operand) = at
+offset_of (BinaryAt at operator left right) = at
+offset_of (ChoiceAt at condition then_branch else_branch) = at
+offset_of (ListAt at items) = at
+offset_of (LenAt at list) = at
+offset_of (IsNilAt at operand) = at
+offset_of (DefaultAt at operand otherwise) = at
+offset_of (PredicateAt at predicate list body) = at

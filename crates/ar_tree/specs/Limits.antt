@@ -25,8 +25,8 @@ abbrev mutual
   WrittenInLimits (trees.IndexAt at list position) = WrittenInLimits list × WrittenInLimits position
   WrittenInLimits (trees.UnaryAt at operator operand) = WrittenInLimits operand
   WrittenInLimits (trees.BinaryAt at operator left right) = WrittenInLimits left × WrittenInLimits right
-  WrittenInLimits (trees.ChoiceAt at condition met unmet) =
-      WrittenInLimits condition × WrittenInLimits met × WrittenInLimits unmet
+  WrittenInLimits (trees.ChoiceAt at condition then_branch else_branch) =
+      WrittenInLimits condition × WrittenInLimits then_branch × WrittenInLimits else_branch
   WrittenInLimits (trees.ListAt at items) = AllWrittenInLimits items × (expression_count items ≤ most_literal_items)
   WrittenInLimits (trees.LenAt at list) = WrittenInLimits list
   WrittenInLimits (trees.IsNilAt at operand) = WrittenInLimits operand
@@ -48,7 +48,8 @@ abbrev mutual
   InLimits (typed.binary operator left right) = InLimits left × InLimits right
   InLimits (typed.both left right) = InLimits left × InLimits right
   InLimits (typed.either left right) = InLimits left × InLimits right
-  InLimits (typed.choice condition met unmet) = InLimits condition × InLimits met × InLimits unmet
+  InLimits (typed.choice condition then_branch else_branch) =
+      InLimits condition × InLimits then_branch × InLimits else_branch
   InLimits (typed.listed scalar items) = AllInLimits items × (how_many items ≤ most_literal_items)
   InLimits (typed.predicate predicate list body) = InLimits list × InLimits body
 

@@ -2,7 +2,7 @@
 -- or neither where operands are of wrong kinds.
 use Rattle.std.specs.Prelude.{◌==◌, pos, Bool, true, false, if◌then◌else◌, Option, Some, None, Result, Ok, Err, ◌≡◌, [], ◌∷◌, refl, ℤ}
 use Rattle.ar_value.specs.Answer.{◌>>=◌}
-use Rattle.ar_value.specs.Operators.{Failure, Meaning, faulted, field_in, ill_kinded, items_in, unary_meaning, scalar_item, there, truth, binary_meaning}
+use Rattle.ar_value.specs.Operators.{Failure, Meaning, faulted, field_in, ill_kinded, items_in, unary_meaning, scalar_item, there, boolean, binary_meaning}
 use Rattle.ar_value.specs.Value.{Value, Items, nil, bool, whole, decimal, text, list, no_items, item, count}
 use Rattle.ar_value.specs.declared.fault.Fault.{Fault}
 use Rattle.ar_tree.specs.declared.tree.Literal.{Literal}
@@ -21,7 +21,7 @@ use Rattle.ar_value.specs.declared.operator.Order.TheVariants.{Less}
 
 abbrev pub literal_value : Literal → Value
 literal_value literals.Nil = nil
-literal_value (literals.Bool truth) = bool truth
+literal_value (literals.Bool boolean) = bool boolean
 literal_value (literals.Whole value) = whole value
 literal_value (literals.Decimal millionths) = decimal millionths
 literal_value (literals.Text letters) = text letters
@@ -74,22 +74,22 @@ abbrev mutual
   -- the right side only where the left one doesn't decide
   mean result here (typed.both left right) = do
     first ← mean result here left
-    holds ← truth first
+    holds ← boolean first
     if holds then mean result here right else Ok (bool false)
   mean result here (typed.either left right) = do
     first ← mean result here left
-    holds ← truth first
+    holds ← boolean first
     if holds then Ok (bool true) else mean result here right
   -- one branch
-  mean result here (typed.choice condition met unmet) = do
+  mean result here (typed.choice condition then_branch else_branch) = do
     condition ← mean result here condition
-    holds ← truth condition
-    if holds then mean result here met else mean result here unmet
+    holds ← boolean condition
+    if holds then mean result here then_branch else mean result here else_branch
   mean result here (typed.listed scalar items) = items_mean result here items >>= λ items. Ok (list items)
   mean result here (typed.predicate predicate many body) = do
     among ← mean result here many
     items ← items_in among
-    over predicate (λ value. mean result (Some value) body >>= truth) items
+    over predicate (λ value. mean result (Some value) body >>= boolean) items
 
   pub items_mean : Value → Option Value → Typeds → Result Items Failure
   items_mean result here typed.none = Ok no_items
@@ -100,9 +100,9 @@ abbrev mutual
     Ok (item scalar items)
 
 -- what a condition may evaluate to: true, false or a fault, and nothing else
-pub data IsTruthOrFault : Meaning → Type 0 where
-  is_truth : (holds : Bool) → IsTruthOrFault (Ok (bool holds))
-  is_fault : (fault : Fault) → IsTruthOrFault (Err (faulted fault))
+pub data IsBooleanOrFault : Meaning → Type 0 where
+  is_boolean : (holds : Bool) → IsBooleanOrFault (Ok (bool holds))
+  is_fault : (fault : Fault) → IsBooleanOrFault (Err (faulted fault))
 
 -- What a condition returns: true or false, or the fault that it meets. Any other meaning is no answer; a checked
 -- condition has no such meaning.

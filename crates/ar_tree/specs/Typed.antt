@@ -20,7 +20,7 @@ mutual
     binary : BinaryOperator → (left right : Typed) → Typed
     both : (left right : Typed) → Typed
     either : (left right : Typed) → Typed
-    choice : (condition met unmet : Typed) → Typed
+    choice : (condition then_branch else_branch : Typed) → Typed
     listed : Scalar → (items : Typeds) → Typed
     predicate : Predicate → (list body : Typed) → Typed
 

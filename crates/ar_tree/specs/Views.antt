@@ -19,7 +19,8 @@ node_view (Tree-F.Field at owner name) = FieldAt at owner.value name
 node_view (Tree-F.Index at list index) = IndexAt at list.value index.value
 node_view (Tree-F.Unary at operator operand) = UnaryAt at operator operand.value
 node_view (Tree-F.Binary at operator left right) = BinaryAt at operator left.value right.value
-node_view (Tree-F.Choice at condition met unmet) = ChoiceAt at condition.value met.value unmet.value
+node_view (Tree-F.Choice at condition then_branch else_branch) =
+    ChoiceAt at condition.value then_branch.value else_branch.value
 node_view (Tree-F.List at items) = ListAt at items
 node_view (Tree-F.Len at list) = LenAt at list.value
 node_view (Tree-F.IsNil at operand) = IsNilAt at operand.value
@@ -45,7 +46,8 @@ typed_step (Typed-F.Unary operator operand) = typed.unary operator operand.value
 typed_step (Typed-F.Binary operator left right) = typed.binary operator left.value right.value
 typed_step (Typed-F.And left right) = typed.both left.value right.value
 typed_step (Typed-F.Or left right) = typed.either left.value right.value
-typed_step (Typed-F.Choice condition met unmet) = typed.choice condition.value met.value unmet.value
+typed_step (Typed-F.Choice condition then_branch else_branch) =
+    typed.choice condition.value then_branch.value else_branch.value
 typed_step (Typed-F.List scalar items) = typed.listed scalar items
 typed_step (Typed-F.Predicate predicate list body) = typed.predicate predicate list.value body.value
 

@@ -1,7 +1,7 @@
 //! Trees: what a condition says.
 
 ghost use Rattle.std.specs.Prelude.{◌≡◌};
-ghost use Rattle.ar_tree.specs.Expression.{place_of};
+ghost use Rattle.ar_tree.specs.Expression.{offset_of};
 ghost use Rattle.ar_tree.specs.Views.{expression_of};
 
 use ar_value::decimal::Decimal;
@@ -98,8 +98,8 @@ pub enum Tree {
     Choice {
         at: usize,
         condition: Box<Tree>,
-        yes: Box<Tree>,
-        no: Box<Tree>,
+        then_branch: Box<Tree>,
+        else_branch: Box<Tree>,
     },
     /// `[item, item]`
     List {
@@ -139,9 +139,9 @@ pub struct Trees {
 }
 
 impl Tree {
-    /// The place (byte offset) of the tree: that of its operator, else of its own token.
-    pub fn place(&self) -> usize
-        ensures { result ≡ place_of (expression_of self.now) }
+    /// The offset in bytes of the tree: that of its operator, else of its own token.
+    pub fn offset(&self) -> usize
+        ensures { result ≡ offset_of (expression_of self.now) }
     {
         match self {
             Tree::Result { at }

@@ -40,8 +40,8 @@ pub enum Typed {
     },
     Choice {
         condition: Box<Typed>,
-        yes: Box<Typed>,
-        no: Box<Typed>,
+        then_branch: Box<Typed>,
+        else_branch: Box<Typed>,
     },
     /// A list of items of one kind.
     List {

@@ -101,26 +101,26 @@ shortened n raised lowered short =
     let power : 10 ^ lowered ≡ 10 ^ (lowered - raised) * 10 ^ raised = ap (λ e. 10 ^ e) parts ∙ pow-add 10 (lowered - raised) raised in
     ap (λ w. n * 10 ^ raised / w) power ∙ mul-div-mul_right n (10 ^ (lowered - raised)) (ten_pow_pos raised)
 
-below_power : (digits : List ℕ) (count behind : ℕ) → count ≡ 0 → length digits ≤ behind → list_all is_ascii_digit digits ≡ true → digits_value 10 digits < 10 ^ behind
-below_power digits count behind none past are_digits =
+below_power : (digits : List ℕ) (count later : ℕ) → count ≡ 0 → length digits ≤ later → list_all is_ascii_digit digits ≡ true → digits_value 10 digits < 10 ^ later
+below_power digits count later none past are_digits =
     omega (arith, digits_value-lt 10 digits (AllDigits-from_list_all digits are_digits), pow-le-pow_right {n = 10} (lit< tt) past)
 
 -- of digits, those before the last ones count
-front_digits : (digits : List ℕ) (count behind : ℕ) → list_all is_ascii_digit digits ≡ true → count ≡ length digits - behind
-    → digits_value 10 digits / 10 ^ behind ≡ digits_value 10 (take count digits)
-front_digits digits count behind are_digits is_count =
+front_digits : (digits : List ℕ) (count later : ℕ) → list_all is_ascii_digit digits ≡ true → count ≡ length digits - later
+    → digits_value 10 digits / 10 ^ later ≡ digits_value 10 (take count digits)
+front_digits digits count later are_digits is_count =
     let rest : list_all is_ascii_digit (drop count digits) ≡ true = list_all-drop digits count are_digits in
     let small : digits_value 10 (drop count digits) < 10 ^ length (drop count digits) = digits_value-lt 10 (drop count digits) (AllDigits-from_list_all (drop count digits) rest) in
     let all : digits_value 10 digits ≡ digits_value 10 (take count digits) * 10 ^ length (drop count digits) + digits_value 10 (drop count digits) =
     ap (digits_value 10) (sym (take-append-drop count digits)) ∙ digits_value_after-append 0 (take count digits) (drop count digits) ∙ digits_value_after-split (digits_value 10 (take count digits)) (drop count digits) in
-    elim (eq-zero-or-pos (behind - length digits)) [
+    elim (eq-zero-or-pos (later - length digits)) [
       | inl within ↦
-          let len : length (drop count digits) ≡ behind = omega (arith, length-drop {A = ℕ}) in
-          rw (all, len) (div-mul-add (digits_value 10 (take count digits)) (10 ^ behind) (digits_value 10 (drop count digits)) (rw (← len) small))
+          let len : length (drop count digits) ≡ later = omega (arith, length-drop {A = ℕ}) in
+          rw (all, len) (div-mul-add (digits_value 10 (take count digits)) (10 ^ later) (digits_value 10 (drop count digits)) (rw (← len) small))
       | inr past ↦
           let none : count ≡ 0 = omega arith in
-          let all_behind : length (drop count digits) ≤ behind = omega (arith, length-drop {A = ℕ}) in
-          let below : digits_value 10 digits < 10 ^ behind = below_power digits count behind none (omega arith) are_digits in
+          let all_after : length (drop count digits) ≤ later = omega (arith, length-drop {A = ℕ}) in
+          let below : digits_value 10 digits < 10 ^ later = below_power digits count later none (omega arith) are_digits in
           rw none (div-eq_of_lt below)
     ]
 

@@ -92,14 +92,14 @@ onto_take (name ∷ names) (shape ∷ shapes) = ap (field name shape) (onto_take
 
 -- ---- names with values
 
-values_front : (names others : List (List ℕ)) (places : List ℕ) (vs : List Value) (i : ℕ) (name : List ℕ) → names ≡ name ∷ others
-    → fields_from i names places vs ≡ values.field name (value_at i places vs) (fields_from (suc i) others places vs)
-values_front names others places vs i name is = rw is refl
+values_front : (names others : List (List ℕ)) (indices : List ℕ) (vs : List Value) (i : ℕ) (name : List ℕ) → names ≡ name ∷ others
+    → fields_from i names indices vs ≡ values.field name (value_at i indices vs) (fields_from (suc i) others indices vs)
+values_front names others indices vs i name is = rw is refl
 
 -- the field at i, and those after it
-pub value_field_at : (names : List (List ℕ)) (places : List ℕ) (vs : List Value) (i : ℕ) (name : List ℕ) → i < length names → name ≡ slice_index_or names i name
-    → fields_from i (drop i names) places vs ≡ values.field name (value_at i places vs) (fields_from (i + 1) (drop (i + 1) names) places vs)
-value_field_at names places vs i name inside is = rw add-one (values_front (drop i names) (drop (suc i) names) places vs i name (drop-cons names i name inside ∙ ap (λ x. x ∷ drop (suc i) names) (sym is)))
+pub value_field_at : (names : List (List ℕ)) (indices : List ℕ) (vs : List Value) (i : ℕ) (name : List ℕ) → i < length names → name ≡ slice_index_or names i name
+    → fields_from i (drop i names) indices vs ≡ values.field name (value_at i indices vs) (fields_from (i + 1) (drop (i + 1) names) indices vs)
+value_field_at names indices vs i name inside is = rw add-one (values_front (drop i names) (drop (suc i) names) indices vs i name (drop-cons names i name inside ∙ ap (λ x. x ∷ drop (suc i) names) (sym is)))
 
 at_next : (is : Bool) (v : ValueCode) (vs : List ValueCode) (found : Option ℕ) (later : Value) → later ≡ unwrap_or (option_map value_view (option_and_then (slice_get vs) found)) nil
     → (if is then value_view v else later) ≡ unwrap_or (option_map value_view (option_and_then (slice_get (v ∷ vs)) (if is then Some 0 else option_map suc found))) nil
@@ -112,30 +112,30 @@ at_none true found = refl
 at_none false None = refl
 at_none false (Some i) = refl
 
--- the value at `place` has the index of that place
-pub value_by_index : (place : ℕ) (places : List ℕ) (vs : List ValueCode) → value_at place places (map value_view vs) ≡ unwrap_or (option_map value_view (option_and_then (slice_get vs) (index_of place places))) nil
-value_by_index place [] vs = refl
-value_by_index place (first ∷ places) [] = at_none (first == place) (index_of place places)
-value_by_index place (first ∷ places) (v ∷ vs) = at_next (first == place) v vs (index_of place places) (value_at place places (map value_view vs)) (value_by_index place places vs)
+-- the value of an index, by where that is in the list
+pub value_by_index : (index : ℕ) (indices : List ℕ) (vs : List ValueCode) → value_at index indices (map value_view vs) ≡ unwrap_or (option_map value_view (option_and_then (slice_get vs) (index_of index indices))) nil
+value_by_index index [] vs = refl
+value_by_index index (first ∷ indices) [] = at_none (first == index) (index_of index indices)
+value_by_index index (first ∷ indices) (v ∷ vs) = at_next (first == index) v vs (index_of index indices) (value_at index indices (map value_view vs)) (value_by_index index indices vs)
 
-later_index : (is : Bool) (from : ℕ) (places : List ℕ) (vs : List Value) (found : Option ℕ) (later : Option Value) → later ≡ option_map (λ i. value_at (suc from + i) places vs) found
-    → (if is then Some (value_at from places vs) else later) ≡ option_map (λ i. value_at (from + i) places vs) (if is then Some 0 else option_map suc found)
-later_index true from places vs found later is = ap (λ n. Some (value_at n places vs)) (omega arith)
-later_index false from places vs None later is = is
-later_index false from places vs (Some i) later is = is ∙ ap (λ n. Some (value_at n places vs)) (omega arith)
+later_index : (is : Bool) (from : ℕ) (indices : List ℕ) (vs : List Value) (found : Option ℕ) (later : Option Value) → later ≡ option_map (λ i. value_at (suc from + i) indices vs) found
+    → (if is then Some (value_at from indices vs) else later) ≡ option_map (λ i. value_at (from + i) indices vs) (if is then Some 0 else option_map suc found)
+later_index true from indices vs found later is = ap (λ n. Some (value_at n indices vs)) (omega arith)
+later_index false from indices vs None later is = is
+later_index false from indices vs (Some i) later is = is ∙ ap (λ n. Some (value_at n indices vs)) (omega arith)
 
-from_index : (name : List ℕ) (from : ℕ) (names : List (List ℕ)) (places : List ℕ) (vs : List Value) → value_named name (fields_from from names places vs) ≡ option_map (λ i. value_at (from + i) places vs) (index_named name names)
-from_index name from [] places vs = refl
-from_index name from (of ∷ names) places vs =
-    later_index (bytes_eq of name) from places vs (index_named name names) (value_named name (fields_from (suc from) names places vs)) (from_index name (suc from) names places vs)
+from_index : (name : List ℕ) (from : ℕ) (names : List (List ℕ)) (indices : List ℕ) (vs : List Value) → value_named name (fields_from from names indices vs) ≡ option_map (λ i. value_at (from + i) indices vs) (index_named name names)
+from_index name from [] indices vs = refl
+from_index name from (of ∷ names) indices vs =
+    later_index (bytes_eq of name) from indices vs (index_named name names) (value_named name (fields_from (suc from) names indices vs)) (from_index name (suc from) names indices vs)
 
--- the value of a name has the index of the name as its place
-pub value_of_name : (name : List ℕ) (names : List (List ℕ)) (places : List ℕ) (vs : List Value) → value_named name (fields_from 0 names places vs) ≡ option_map (λ i. value_at i places vs) (index_named name names)
-value_of_name name names places vs = from_index name 0 names places vs ∙ from_front (index_named name names)
+-- the value of a name has the index of the name as its index
+pub value_of_name : (name : List ℕ) (names : List (List ℕ)) (indices : List ℕ) (vs : List Value) → value_named name (fields_from 0 names indices vs) ≡ option_map (λ i. value_at i indices vs) (index_named name names)
+value_of_name name names indices vs = from_index name 0 names indices vs ∙ from_front (index_named name names)
   where
-    from_front : (found : Option ℕ) → option_map (λ i. value_at (0 + i) places vs) found ≡ option_map (λ i. value_at i places vs) found
+    from_front : (found : Option ℕ) → option_map (λ i. value_at (0 + i) indices vs) found ≡ option_map (λ i. value_at i indices vs) found
     from_front None = refl
-    from_front (Some i) = ap (λ n. Some (value_at n places vs)) (omega arith)
+    from_front (Some i) = ap (λ n. Some (value_at n indices vs)) (omega arith)
 
 -- ---- what is borrowed from a list
 
@@ -163,22 +163,22 @@ shape_got fields name i found at is =
 pub no_shape_got : (fields : FieldShapesCode) (name : List ℕ) → None ≡ index_named name (out-FieldShapes fields).names → None ≡ shape_named name (field_shapes_view fields)
 no_shape_got fields name at = sym (ap (shape_named name) (field_shapes_view-of fields) ∙ shape_by_index name (out-FieldShapes fields).names (out-FieldShapes fields).shapes.items ∙ rw (← at) refl)
 
-pub value_got : (place : ℕ) (places : List ℕ) (vs : List ValueCode) (i : ℕ) (found : Option (Bor ValueCode)) → Some i ≡ index_of place places → IsItemAt vs i found
-    → unwrap_or (option_map (λ value. value_view value.now) found) nil ≡ value_at place places (map value_view vs)
-value_got place places vs i found at is =
-    ap (λ value. unwrap_or value nil) (value_of_ref found ∙ ap (option_map value_view) (item_got vs i found is)) ∙ sym (value_by_index place places vs ∙ rw (← at) refl)
+pub value_got : (index : ℕ) (indices : List ℕ) (vs : List ValueCode) (i : ℕ) (found : Option (Bor ValueCode)) → Some i ≡ index_of index indices → IsItemAt vs i found
+    → unwrap_or (option_map (λ value. value_view value.now) found) nil ≡ value_at index indices (map value_view vs)
+value_got index indices vs i found at is =
+    ap (λ value. unwrap_or value nil) (value_of_ref found ∙ ap (option_map value_view) (item_got vs i found is)) ∙ sym (value_by_index index indices vs ∙ rw (← at) refl)
 
-pub no_value_got : (place : ℕ) (places : List ℕ) (vs : List ValueCode) → None ≡ index_of place places → nil ≡ value_at place places (map value_view vs)
-no_value_got place places vs at = sym (value_by_index place places vs ∙ rw (← at) refl)
+pub no_value_got : (index : ℕ) (indices : List ℕ) (vs : List ValueCode) → None ≡ index_of index indices → nil ≡ value_at index indices (map value_view vs)
+no_value_got index indices vs at = sym (value_by_index index indices vs ∙ rw (← at) refl)
 
-pub field_got : (fields : FieldsCode) (name : List ℕ) (i : ℕ) (value : Value) → Some i ≡ index_named name (out-Fields fields).names → value ≡ value_at i (out-Fields fields).places (map value_view (out-Fields fields).values.items)
+pub field_got : (fields : FieldsCode) (name : List ℕ) (i : ℕ) (value : Value) → Some i ≡ index_named name (out-Fields fields).names → value ≡ value_at i (out-Fields fields).indices (map value_view (out-Fields fields).values.items)
     → Some value ≡ value_named name (fields_view fields)
 field_got fields name i value at is =
-    sym (ap (value_named name) (fields_view-from fields) ∙ value_of_name name (out-Fields fields).names (out-Fields fields).places (map value_view (out-Fields fields).values.items) ∙ rw (← at, ← is) refl)
+    sym (ap (value_named name) (fields_view-from fields) ∙ value_of_name name (out-Fields fields).names (out-Fields fields).indices (map value_view (out-Fields fields).values.items) ∙ rw (← at, ← is) refl)
 
 pub no_field_got : (fields : FieldsCode) (name : List ℕ) → None ≡ index_named name (out-Fields fields).names → None ≡ value_named name (fields_view fields)
 no_field_got fields name at =
-    sym (ap (value_named name) (fields_view-from fields) ∙ value_of_name name (out-Fields fields).names (out-Fields fields).places (map value_view (out-Fields fields).values.items) ∙ rw (← at) refl)
+    sym (ap (value_named name) (fields_view-from fields) ∙ value_of_name name (out-Fields fields).names (out-Fields fields).indices (map value_view (out-Fields fields).values.items) ∙ rw (← at) refl)
 
 -- what a test of two names that differ says of their being the same
 pub unlike : (differ same : Bool) → differ ≡ not same → differ ≡ true → same ≡ false

@@ -17,41 +17,41 @@ use Rattle.ar_value.specs.declared.shape.FieldShapes.{FieldShapes, out-FieldShap
 use Rattle.ar_value.proofs.FieldLists.{Of, field_at, no_field_at, value_field_at}
 use Rattle.ar_value.proofs.Views.{value_view-list, value_view-object, fields_view-from, shape_view-list, shape_view-object, field_shapes_view-of, count-items_of}
 
--- whether names with values fit names with shapes, from a place on, as the code's types have them
+-- whether names with values fit names with shapes, from an index on, as the code's types have them
 abbrev pub Fit : ℕ → List (List ℕ) → List ℕ → List Value → List (List ℕ) → List Shape → Bool
-Fit place names places vs of shapes = fields_fit (fields_from place names places (map value_view vs)) (Of of shapes)
+Fit index names indices vs of shapes = fields_fit (fields_from index names indices (map value_view vs)) (Of of shapes)
 
 abbrev pub FieldFits : ℕ → List ℕ → List ℕ → List Value → List ℕ → Shape → Bool
-FieldFits place name places vs of shape = bytes_eq name of && fits (value_at place places (map value_view vs)) (shape_view shape)
+FieldFits index name indices vs of shape = bytes_eq name of && fits (value_at index indices (map value_view vs)) (shape_view shape)
 
 neither : (a b : Bool) → false ≡ b → false ≡ (a && b)
 neither true b h = h
 neither false b h = refl
 
-pub lengths_differ : (place : ℕ) (names : List (List ℕ)) (places : List ℕ) (vs : List Value) (of : List (List ℕ)) (shapes : List Shape)
-    → (length names ≡ min (length of) (length shapes) → ⊥) → false ≡ Fit place names places vs of shapes
-lengths_differ place [] places vs [] shapes h = absurd (h (omega arith))
-lengths_differ place [] places vs (o ∷ of) [] h = absurd (h (omega arith))
-lengths_differ place [] places vs (o ∷ of) (s ∷ shapes) h = refl
-lengths_differ place (n ∷ names) places vs [] shapes h = refl
-lengths_differ place (n ∷ names) places vs (o ∷ of) [] h = refl
-lengths_differ place (n ∷ names) places vs (o ∷ of) (s ∷ shapes) h =
-    neither (FieldFits place n places vs o s) (Fit (suc place) names places vs of shapes) (lengths_differ (suc place) names places vs of shapes (λ e. h (omega (arith, e))))
+pub lengths_differ : (index : ℕ) (names : List (List ℕ)) (indices : List ℕ) (vs : List Value) (of : List (List ℕ)) (shapes : List Shape)
+    → (length names ≡ min (length of) (length shapes) → ⊥) → false ≡ Fit index names indices vs of shapes
+lengths_differ index [] indices vs [] shapes h = absurd (h (omega arith))
+lengths_differ index [] indices vs (o ∷ of) [] h = absurd (h (omega arith))
+lengths_differ index [] indices vs (o ∷ of) (s ∷ shapes) h = refl
+lengths_differ index (n ∷ names) indices vs [] shapes h = refl
+lengths_differ index (n ∷ names) indices vs (o ∷ of) [] h = refl
+lengths_differ index (n ∷ names) indices vs (o ∷ of) (s ∷ shapes) h =
+    neither (FieldFits index n indices vs o s) (Fit (suc index) names indices vs of shapes) (lengths_differ (suc index) names indices vs of shapes (λ e. h (omega (arith, e))))
 
-pub next : (i : ℕ) (names : List (List ℕ)) (places : List ℕ) (vs : List Value) (of : List (List ℕ)) (shapes : List Shape) (name other : List ℕ) (shape : Shape)
+pub next : (i : ℕ) (names : List (List ℕ)) (indices : List ℕ) (vs : List Value) (of : List (List ℕ)) (shapes : List Shape) (name other : List ℕ) (shape : Shape)
     → i < length names → i < length of → i < length shapes
     → name ≡ slice_index_or names i name → other ≡ slice_index_or of i other → shape ≡ slice_index_or shapes i shape
-    → Fit i (drop i names) places vs (drop i of) (drop i shapes) ≡ (FieldFits i name places vs other shape && Fit (i + 1) (drop (i + 1) names) places vs (drop (i + 1) of) (drop (i + 1) shapes))
-next i names places vs of shapes name other shape in_names in_of in_shapes is_name is_other is_shape =
-    rw (value_field_at names places (map value_view vs) i name in_names is_name, field_at of shapes i other shape in_of in_shapes is_other is_shape) refl
+    → Fit i (drop i names) indices vs (drop i of) (drop i shapes) ≡ (FieldFits i name indices vs other shape && Fit (i + 1) (drop (i + 1) names) indices vs (drop (i + 1) of) (drop (i + 1) shapes))
+next i names indices vs of shapes name other shape in_names in_of in_shapes is_name is_other is_shape =
+    rw (value_field_at names indices (map value_view vs) i name in_names is_name, field_at of shapes i other shape in_of in_shapes is_other is_shape) refl
 
 pub both_hold : {a b : Bool} → a ≡ true → b ≡ true → (a && b) ≡ true
 both_hold a b = rw (a, b) refl
 
 -- nothing is left
-pub none_left : (i : ℕ) (names : List (List ℕ)) (places : List ℕ) (vs : List Value) (of : List (List ℕ)) (shapes : List Shape)
-    → length names ≡ min (length of) (length shapes) → length names ≤ i → true ≡ Fit i (drop i names) places vs (drop i of) (drop i shapes)
-none_left i names places vs of shapes same past =
+pub none_left : (i : ℕ) (names : List (List ℕ)) (indices : List ℕ) (vs : List Value) (of : List (List ℕ)) (shapes : List Shape)
+    → length names ≡ min (length of) (length shapes) → length names ≤ i → true ≡ Fit i (drop i names) indices vs (drop i of) (drop i shapes)
+none_left i names indices vs of shapes same past =
     rw (drop_of_length-le names {i = i} past, no_field_at of shapes i (omega (arith, same, past))) refl
 
 -- nil fits what is optional
@@ -66,7 +66,7 @@ nil_fits (specs.optional shape) = refl
 
 -- a record fits where its fields do
 pub record_fits : (fields : Box Fields Global) (of : FieldShapes) → fits (value_view (ObjectValue fields)) (shape_view (ObjectShape of))
-    ≡ fields_fit (fields_from 0 (out-Fields fields.value).names (out-Fields fields.value).places (map value_view (out-Fields fields.value).values.items)) (Of (out-FieldShapes of).names (out-FieldShapes of).shapes.items)
+    ≡ fields_fit (fields_from 0 (out-Fields fields.value).names (out-Fields fields.value).indices (map value_view (out-Fields fields.value).values.items)) (Of (out-FieldShapes of).names (out-FieldShapes of).shapes.items)
 record_fits fields of = rw (value_view-object fields, fields_view-from fields.value, shape_view-object of, field_shapes_view-of of) refl
 
 pub list_fits : (list : Values) (item : Box Shape Global) (max : ℕ)

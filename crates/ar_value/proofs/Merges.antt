@@ -5,7 +5,7 @@ use Rattle.std.specs.Str.{bytes_eq}
 use Rattle.std.proofs.lemmas.Bool.Decides.{nat_tests}
 use Rattle.std.proofs.lemmas.Slice.Eq.{bytes_eq-Decides}
 use Rattle.ar_value.specs.Fits.{all_items, fields_fit, fits}
-use Rattle.ar_value.specs.Kind.{Kind, common, fits_kind, is_optional, joined_field, merge, merge_shapes, or_nil, plain, turned_beside, widest, widest_fields}
+use Rattle.ar_value.specs.Kind.{Kind, common, fits_kind, is_optional, joined_field, merge, merge_shapes, or_nil, plain, converted_next_to, widest, widest_fields}
 use Rattle.ar_value.specs.Kind as kinds
 use Rattle.ar_value.specs.Shape.{Shape, FieldShapes, bool, whole, decimal, text, list, object, optional, no_fields, field}
 use Rattle.ar_value.specs.Value.{Value, Items, Fields, count}
@@ -45,8 +45,8 @@ merge_with_itself (kinds.shaped (object fields)) = rw (fields_self fields) refl
 merge_with_itself (kinds.shaped (optional shape)) = rw (widest_self shape) refl
 
 -- the kind that two shapes have in common, by the shapes that each is converted to next to the other
-pub common_of_shapes : (left right one other : Shape) → kinds.shaped one ≡ turned_beside (kinds.shaped right) (kinds.shaped left)
-    → kinds.shaped other ≡ turned_beside (kinds.shaped left) (kinds.shaped right)
+pub common_of_shapes : (left right one other : Shape) → kinds.shaped one ≡ converted_next_to (kinds.shaped right) (kinds.shaped left)
+    → kinds.shaped other ≡ converted_next_to (kinds.shaped left) (kinds.shaped right)
     → option_map kinds.shaped (merge_shapes one other) ≡ common (kinds.shaped left) (kinds.shaped right)
 common_of_shapes left right one other first second = ap₂ merge first second
 

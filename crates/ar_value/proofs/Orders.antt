@@ -1,4 +1,4 @@
--- Names and places in order, and where one is among them.
+-- Names and indices in order, and where one is among them.
 use Rattle.std.proofs.Common.{◌≡◌, ℕ, zero, suc, ◌+◌, ◌<◌, ◌≤◌, Bool, true, false, List, [], ◌∷◌, ◌++◌, length, take, drop, get_or, Option, Some, None, option_map, Result, Ok, Err, ⊎_elim, refl, sym, ◌∙◌, ap, arith, nat_cmp}
 use Rattle.std.specs.Prelude.{All, MatchResult, ◌==◌, if◌then◌else◌}
 use Rattle.std.specs.Cmp.Lexicographic.{slice_cmp}

@@ -64,10 +64,10 @@ contains_decides : (whole part : List ℕ) → Decides (contains whole part) (Pa
 contains_decides [] part = of_nothing part
 contains_decides (byte ∷ rest) part = one_more byte rest part (contains_decides rest part)
 
-pub stands : (test : TextTest) (whole part : List ℕ) (r : Bool) → r ≡ passes test whole part → Decides r (Passes test whole part)
-stands Contains whole part r e = subst (λ b. Decides b (Passes Contains whole part)) (sym e) (contains_decides whole part)
-stands StartsWith whole part r e = subst (λ b. Decides b (Passes StartsWith whole part)) (sym e) (starts_decides whole part)
-stands EndsWith whole part r e = subst (λ b. Decides b (Passes EndsWith whole part)) (sym e) (ends_decides whole part)
+pub is_there : (test : TextTest) (whole part : List ℕ) (r : Bool) → r ≡ passes test whole part → Decides r (Passes test whole part)
+is_there Contains whole part r e = subst (λ b. Decides b (Passes Contains whole part)) (sym e) (contains_decides whole part)
+is_there StartsWith whole part r e = subst (λ b. Decides b (Passes StartsWith whole part)) (sym e) (starts_decides whole part)
+is_there EndsWith whole part r e = subst (λ b. Decides b (Passes EndsWith whole part)) (sym e) (ends_decides whole part)
 
 -- ---- what std says
 

@@ -17,7 +17,7 @@ value_view-list list = search (rules, the_lemmas)
 pub value_view-object : (fields : Box Fields Global) → value_view (ObjectValue fields) ≡ values.object (fields_view fields.value)
 value_view-object fields = search (rules, the_lemmas)
 
-pub fields_view-from : (fields : Fields) → fields_view fields ≡ fields_from 0 (out-Fields fields).names (out-Fields fields).places (map value_view (out-Fields fields).values.items)
+pub fields_view-from : (fields : Fields) → fields_view fields ≡ fields_from 0 (out-Fields fields).names (out-Fields fields).indices (map value_view (out-Fields fields).values.items)
 fields_view-from fields = search (rules, the_lemmas)
 
 pub shape_view-list : (item : Box Shape Global) (max : ℕ) → shape_view (ListShape item max) ≡ shapes.list (shape_view item.value) max
@@ -33,7 +33,7 @@ pub count-items_of : (vs : List Value) → count (items_of (map value_view vs)) 
 count-items_of [] = refl
 count-items_of (v ∷ vs) = ap suc (count-items_of vs)
 
--- a shape by its name, and a value by its place, where they are borrowed
+-- a shape by its name, and a value by its index, where they are borrowed
 
 pub shape_of_ref : (found : Option (Bor Shape)) → option_map (λ shape. shape_view shape.now) found ≡ option_map shape_view (option_map (λ shape. shape.now) found)
 shape_of_ref None = refl

@@ -18,9 +18,9 @@ holds_or refusal true = Ok tt
 holds_or refusal false = Err refusal
 
 -- what a step makes of each of some items, one after another, each after those that it made before
-unfoldable pub each_behind : {A B E : Type 0} → (List B → A → Result B E) → List B → List A → Result (List B) E
-each_behind step earlier [] = Ok earlier
-each_behind step earlier (item ∷ items) = step earlier item >>= λ made. each_behind step (earlier ++ made ∷ []) items
+unfoldable pub each_after : {A B E : Type 0} → (List B → A → Result B E) → List B → List A → Result (List B) E
+each_after step earlier [] = Ok earlier
+each_after step earlier (item ∷ items) = step earlier item >>= λ made. each_after step (earlier ++ made ∷ []) items
 
 -- both are there and related, or neither is there
 abbrev pub BothOrNeither : {A B : Type 0} → (A → B → Type 0) → Option A → Option B → Type 0

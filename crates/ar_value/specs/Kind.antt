@@ -15,8 +15,8 @@ pub data Kind : Type 0 where
   shaped : Shape → Kind
 
 -- the kind of booleans
-abbrev pub truth_kind : Kind
-truth_kind = shaped bool
+abbrev pub boolean_kind : Kind
+boolean_kind = shaped bool
 
 -- the shape of a scalar
 abbrev pub scalar_shape : Scalar → Shape
@@ -92,13 +92,14 @@ is_decimal (optional decimal) = true
 is_decimal shape = false
 
 -- a kind next to another: a whole, also an optional one, is converted to decimal where the other is a decimal
-abbrev pub turned_beside : Kind → Kind → Kind
-turned_beside (shaped other) (shaped shape) = if is_decimal other then shaped (whole_as_decimal shape) else shaped shape
-turned_beside other kind = kind
+abbrev pub converted_next_to : Kind → Kind → Kind
+converted_next_to (shaped other) (shaped shape) =
+    if is_decimal other then shaped (whole_as_decimal shape) else shaped shape
+converted_next_to other kind = kind
 
 -- the kind that two have in common, once a whole next to a decimal was converted
 abbrev pub common : Kind → Kind → Option Kind
-common left right = merge (turned_beside right left) (turned_beside left right)
+common left right = merge (converted_next_to right left) (converted_next_to left right)
 
 -- ---- worked rows
 

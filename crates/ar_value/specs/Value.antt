@@ -32,16 +32,16 @@ abbrev pub items_of : List Value → Items
 items_of [] = no_items
 items_of (value ∷ values) = item value (items_of values)
 
--- the value at a place, where `places` has the place of each value; nil where none is at it
+-- the value with an index, where `indices` has the index of each value; nil where none has it
 abbrev pub value_at : ℕ → List ℕ → List Value → Value
-value_at place (first ∷ places) (value ∷ values) = if first == place then value else value_at place places values
-value_at place places values = nil
+value_at index (first ∷ indices) (value ∷ values) = if first == index then value else value_at index indices values
+value_at index indices values = nil
 
--- a field for each name, the first at `place` and each other one at the next, with the value that is there
+-- a field for each name, the first at `index` and each other one at the next, with the value that is there
 abbrev pub fields_from : ℕ → List Text → List ℕ → List Value → Fields
-fields_from place [] places values = no_fields
-fields_from place (name ∷ names) places values =
-    field name (value_at place places values) (fields_from (suc place) names places values)
+fields_from index [] indices values = no_fields
+fields_from index (name ∷ names) indices values =
+    field name (value_at index indices values) (fields_from (suc index) names indices values)
 
 -- the value of the first field of a name
 abbrev pub value_named : Text → Fields → Option Value

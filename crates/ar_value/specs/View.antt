@@ -28,7 +28,7 @@ value_step (Value-F.List items) = values.list items
 value_step (Value-F.Object fields) = values.object fields.value
 
 abbrev pub fields_step : Fields-F Value Fields Items → Fields
-fields_step f = fields_from 0 f.names f.places f.values.items
+fields_step f = fields_from 0 f.names f.indices f.values.items
 
 abbrev pub values_step : Values-F Value Fields Items → Items
 values_step v = items_of v.items.items

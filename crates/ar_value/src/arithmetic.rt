@@ -60,6 +60,7 @@ fn exact_quotient(dividend: i64, divisor: i64) -> i128
 /// `Overflow` where the millionths of a result don't fit a signed 64-bit number, and
 /// `DivisionByZero`.
 impl Decimal {
+    /// The sum, or `Overflow`.
     pub fn add(self, other: Decimal) -> Result<Decimal, Fault>
         ensures { result ≡ sum self other }
     {

@@ -91,14 +91,14 @@ fn scale_of(text: &[u8]) -> Option<Scale>
 {
     let at = first_mark(text);
     if at < text.len() {
-        exponent(behind(text, at))
+        exponent(later(text, at))
     } else {
         Some(Scale { up: 0, down: 0 })
     }
 }
 
 /// What comes after a byte.
-fn behind(text: &[u8], at: usize) -> &[u8]
+fn later(text: &[u8], at: usize) -> &[u8]
     requires { at < length text.now }
     ensures { result.now ≡ drop (at + 1) text.now }
 {
@@ -166,7 +166,7 @@ fn split_sign(text: &[u8]) -> (bool, &[u8])
 /// What comes before the first point, and what comes after it.
 fn split_point(mantissa: &[u8]) -> (&[u8], &[u8])
     ensures before { result.0.now ≡ before_first is_point mantissa.now }
-    ensures behind { result.1.now ≡ after_first is_point mantissa.now }
+    ensures later { result.1.now ≡ after_first is_point mantissa.now }
 {
     let at = first_point(mantissa);
     if at < mantissa.len() {

@@ -6,8 +6,8 @@ ghost use Rattle.ar_value.specs.Shape.{field_shapes_of};
 ghost use Rattle.ar_value.specs.Value.{fields_from, items_of, nil};
 ghost use Rattle.ar_value.specs.View.{shape_view, value_view};
 
+use crate::indices::Indices;
 use crate::kind::is_optional;
-use crate::places::Places;
 use crate::shape::Shape;
 use crate::text::Text;
 use crate::value::{Value, value_at};
@@ -41,7 +41,7 @@ fn is_fit(shape: &Shape, value: &Value) -> bool
                 &of.shapes,
                 of.names.as_slice(),
                 fields.names.as_slice(),
-                &fields.places,
+                &fields.indices,
                 &fields.values,
             ),
             _ => false,
@@ -62,27 +62,27 @@ fn are_all_fit(shape: &Shape, items: &[Value]) -> bool
     true
 }
 
-/// Whether the names are those of the shapes, and the value at the place of each fits its shape.
+/// Whether the names are those of the shapes, and the value at the index of each fits its shape.
 #[cycle(is_fit)]
 #[tactic(auto, using(crate::proofs::FitLemmas::lengths_differ, crate::proofs::FitLemmas::next, crate::proofs::FitLemmas::none_left))]
 fn are_fields_fit(
     shapes: &[Shape],
     of: &[Text],
     names: &[Text],
-    places: &Places,
+    indices: &Indices,
     values: &[Value],
 ) -> bool
-    ensures { result ≡ fields_fit (fields_from 0 names.now places.now (map value_view values.now))
+    ensures { result ≡ fields_fit (fields_from 0 names.now indices.now (map value_view values.now))
         (field_shapes_of of.now (map shape_view shapes.now)) }
 {
     if names.len() != of.len().min(shapes.len()) {
         return false;
     }
-    for place in 0..names.len() {
-        if names[place] != of[place] {
+    for index in 0..names.len() {
+        if names[index] != of[index] {
             return false;
         }
-        if !is_field_fit(&shapes[place], value_at(places, values, place)) {
+        if !is_field_fit(&shapes[index], value_at(indices, values, index)) {
             return false;
         }
     }

@@ -1,7 +1,7 @@
 //! Kinds of expressions, and the kind that two of them have in common.
 
 ghost use Rattle.std.specs.Prelude.{◌≡◌, IfOk, option_map, unwrap_or};
-ghost use Rattle.ar_value.specs.Kind.{common, is_decimal, is_optional, merge, merge_shapes, or_nil, plain, shaped, turned_beside, whole_as_decimal};
+ghost use Rattle.ar_value.specs.Kind.{common, is_decimal, is_optional, merge, merge_shapes, or_nil, plain, shaped, converted_next_to, whole_as_decimal};
 ghost use Rattle.ar_value.specs.View.{kind_view, shape_view};
 
 use crate::shape::Shape;
@@ -58,29 +58,33 @@ pub fn common_shapes(
     ensures { IfOk result (λ shape. option_map (λ shape. shaped (shape_view shape)) shape
         ≡ common (shaped (shape_view left.now)) (shaped (shape_view right.now))) }
 {
-    let turned_left = turned_beside(alloc, right, left)?;
-    let turned_right = turned_beside(alloc, left, right)?;
+    let converted_left = converted_next_to(alloc, right, left)?;
+    let converted_right = converted_next_to(alloc, left, right)?;
     merge_shapes(
         alloc,
-        turned_or(&turned_left, left),
-        turned_or(&turned_right, right),
+        converted_or(&converted_left, left),
+        converted_or(&converted_right, right),
     )
 }
 
-fn turned_or<'shape>(turned: &'shape Option<Shape>, shape: &'shape Shape) -> &'shape Shape
-    ensures { shape_view result.now ≡ unwrap_or (option_map shape_view turned.now) (shape_view shape.now) }
+fn converted_or<'shape>(converted: &'shape Option<Shape>, shape: &'shape Shape) -> &'shape Shape
+    ensures { shape_view result.now ≡ unwrap_or (option_map shape_view converted.now) (shape_view shape.now) }
 {
-    match turned {
-        Some(turned) => turned,
+    match converted {
+        Some(converted) => converted,
         None => shape,
     }
 }
 
 /// What a shape is converted to next to another, where it is converted: a whole, also an optional one,
 /// to decimal next to a decimal.
-fn turned_beside(alloc: Global, other: &Shape, shape: &Shape) -> Result<Option<Shape>, AllocError>
-    ensures { IfOk result (λ turned. shaped (unwrap_or (option_map shape_view turned) (shape_view shape.now))
-        ≡ turned_beside (shaped (shape_view other.now)) (shaped (shape_view shape.now))) }
+fn converted_next_to(
+    alloc: Global,
+    other: &Shape,
+    shape: &Shape,
+) -> Result<Option<Shape>, AllocError>
+    ensures { IfOk result (λ converted. shaped (unwrap_or (option_map shape_view converted) (shape_view shape.now))
+        ≡ converted_next_to (shaped (shape_view other.now)) (shaped (shape_view shape.now))) }
 {
     if is_decimal(other) {
         whole_as_decimal(alloc, shape)

@@ -18,7 +18,7 @@
 //!   `specs/Operators` defines on values, `specs/TextTests` on texts and `specs/Predicates` for loops
 //! - [`text`], [`value`], [`shape`]: texts, values and shapes, which contracts see by `specs/View`; a record
 //!   takes no memory for optional fields that are absent
-//! - [`names`], [`places`]: names of a record's fields, which its shape and its values share, and which of
+//! - [`names`], [`indices`]: names of a record's fields, which its shape and its values share, and which of
 //!   them have a value; both are found by binary search
 //! - [`fitting`]: which values fit
 //! - [`kind`]: kinds of expressions; `widening` joins shapes; [`sameness`]: which are the same;
@@ -35,12 +35,12 @@ pub mod digits;
 pub mod fault;
 pub mod fitting;
 pub mod holding;
+pub mod indices;
 pub mod kind;
 pub mod laws;
 pub mod limits;
 pub mod names;
 pub mod operator;
-pub mod places;
 pub mod sameness;
 pub mod shape;
 pub mod shared_shape;
@@ -52,9 +52,9 @@ mod widening;
 pub use decimal::{Decimal, Number, NumberFault, compare};
 pub use fault::Fault;
 pub use fitting::fits;
+pub use indices::Indices;
 pub use kind::{Kind, common, merge};
 pub use names::Names;
-pub use places::Places;
 pub use shape::{FieldShapes, Shape};
 pub use shared_shape::SharedShape;
 pub use text::Text;

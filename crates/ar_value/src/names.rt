@@ -53,7 +53,8 @@ impl Names {
         })
     }
 
-    /// The same names for another owner. It is refused as `first` is.
+    /// The same names for another owner, which takes no memory: it is refused only where there are more owners than can
+    /// be counted.
     pub fn share(&self) -> Result<Names, AllocError>
         ensures { IfOk result (λ shared. shared ≡ self.now) }
     {

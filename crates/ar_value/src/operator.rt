@@ -24,7 +24,7 @@ pub enum Numbers {
 /// Scalars that can be equal.
 #[derive(Clone, Copy)]
 pub enum Family {
-    Truth,
+    Boolean,
     Number,
     Text,
 }
@@ -114,10 +114,10 @@ pub enum TextTest {
 impl TextTest {
     /// Whether the whole has the part, at its start or end where the test requires it there. Every
     /// whole has the empty part.
-    #[tactic(auto, using(crate::proofs::TextTests::contained, crate::proofs::TextTests::started, crate::proofs::TextTests::ended, crate::proofs::TextTests::stands))]
+    #[tactic(auto, using(crate::proofs::TextTests::contained, crate::proofs::TextTests::started, crate::proofs::TextTests::ended, crate::proofs::TextTests::is_there))]
     pub fn passes(self, whole: &str, part: &str) -> bool
         ensures exact { result ≡ passes self whole.now part.now }
-        ensures stands { Decides result (Passes self whole.now part.now) }
+        ensures is_there { Decides result (Passes self whole.now part.now) }
     {
         match self {
             TextTest::Contains => whole.contains(part),

@@ -9,6 +9,7 @@ ghost use Rattle.ar_value.specs.Private.Same.{same_fields, same_shape};
 use crate::shape::Shape;
 use crate::text::Text;
 
+/// Whether two shapes are the same, with fields of the same names in the same order.
 pub fn are_same_shapes(left: &Shape, right: &Shape) -> bool
     ensures { Decides result (shape_view left.now ≡ shape_view right.now) }
 {
@@ -74,11 +75,11 @@ fn are_fields_same(shapes: &[Shape], names: &[Text], others: &[Shape], of: &[Tex
     if count != of.len().min(others.len()) {
         return false;
     }
-    for place in 0..count {
-        if names[place] != of[place] {
+    for index in 0..count {
+        if names[index] != of[index] {
             return false;
         }
-        if !is_same(&shapes[place], &others[place]) {
+        if !is_same(&shapes[index], &others[index]) {
             return false;
         }
     }

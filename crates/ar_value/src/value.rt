@@ -5,8 +5,8 @@ ghost use Rattle.ar_value.specs.Value.{nil, value_at, value_named};
 ghost use Rattle.ar_value.specs.View.{fields_view, value_view};
 
 use crate::decimal::Decimal;
+use crate::indices::Indices;
 use crate::names::Names;
-use crate::places::Places;
 use crate::text::Text;
 
 /// A value of a measurement. Contracts see it by `value_view` of `specs/View`.
@@ -34,8 +34,8 @@ pub struct Values {
 #[derive(Drop)]
 pub struct Fields {
     pub names: Names,
-    /// The places, among the names, of the fields that have a value.
-    pub places: Places,
+    /// The indices, among the names, of the fields that have a value.
+    pub indices: Indices,
     /// Their values.
     pub values: Vec<Value>,
 }
@@ -46,19 +46,19 @@ impl Fields {
         ensures { option_map (λ found. unwrap_or (option_map (λ value. value_view value.now) found) nil) result
             ≡ value_named name.now (fields_view self.now) }
     {
-        let place = self.names.index_of(name)?;
-        Some(value_at(&self.places, &self.values, place))
+        let index = self.names.index_of(name)?;
+        Some(value_at(&self.indices, &self.values, index))
     }
 }
 
-/// The value with a place, of values with a place each. `None` is nil.
+/// The value with an index, of values with an index each. `None` is nil.
 pub fn value_at<'values>(
-    places: &Places,
+    indices: &Indices,
     values: &'values [Value],
-    place: usize,
+    index: usize,
 ) -> Option<&'values Value>
     ensures { unwrap_or (option_map (λ value. value_view value.now) result) nil
-        ≡ value_at place places.now (map value_view values.now) }
+        ≡ value_at index indices.now (map value_view values.now) }
 {
-    values.get(places.index_of(place)?)
+    values.get(indices.index_of(index)?)
 }

@@ -7,6 +7,7 @@ ghost use Rattle.ar_value.specs.Arithmetic.{difference, negation, product, remai
 use crate::arithmetic::within;
 use crate::fault::Fault;
 
+/// The sum, or `Overflow`.
 pub fn add(left: i64, right: i64) -> Result<i64, Fault>
     ensures { result ≡ sum left right }
 {

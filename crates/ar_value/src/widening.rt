@@ -130,11 +130,11 @@ fn widest_fields(
         return Ok(None);
     }
     let mut shapes = Vec::with_capacity(alloc, count)?;
-    for place in 0..count {
-        if names[place] != of[place] {
+    for index in 0..count {
+        if names[index] != of[index] {
             return Ok(None);
         }
-        match widest(alloc, &left[place], &right[place])? {
+        match widest(alloc, &left[index], &right[index])? {
             Some(widest) => shapes.push(widest)?,
             None => return Ok(None),
         }

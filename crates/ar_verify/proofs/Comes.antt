@@ -11,14 +11,14 @@ use Rattle.ar_value.specs.Shape.{Shape}
 use Rattle.ar_op.specs.Code.{Code}
 use Rattle.ar_op.specs.declared.op.Op.{Op}
 use Rattle.ar_op.specs.Machine.{nth}
-use Rattle.ar_safety.specs.Arrivals.{Around, Operands, Sent, all_sent, arrival, arrived, at_place, deepest, merged_all, merged, of_loops, operands, sends, sent, sent_on, sent_to}
+use Rattle.ar_safety.specs.Arrivals.{Around, Operands, Sent, all_sent, arrival, arrived, at_index, deepest, merged_all, merged, of_loops, operands, sends, sent, sent_on, sent_to}
 use Rattle.ar_safety.specs.Budget.{most_items, most_on_top}
 use Rattle.ar_safety.specs.Memory.{is_memory}
-use Rattle.ar_safety.specs.Places.{all_pass, names_well}
+use Rattle.ar_safety.specs.Indices.{all_pass, names_well}
 use Rattle.ar_verify.specs.Private.Failures.{Meets, cause_at}
 use Rattle.ar_verify.specs.Private.Held.{arrival_view}
 use Rattle.ar_verify.specs.Private.Sending.{sends_by}
-use Rattle.ar_verify.specs.Private.Table.{ComesTo, Shows, Sweep, StaysWithin, Table, entry, place_added, most_each, one_more, summary, summed_up, table_view, visited, with_all, with_one, without}
+use Rattle.ar_verify.specs.Private.Table.{ComesTo, Shows, Sweep, StaysWithin, Table, entry, index_added, most_each, one_more, summary, summed_up, table_view, visited, with_all, with_one, without}
 use Rattle.ar_safety.specs.declared.error.Cause.{Cause}
 use Rattle.ar_safety.specs.declared.error.Cause.TheVariants.{Fault}
 use Rattle.ar_safety.specs.declared.error.Reason.{Reason}
@@ -68,9 +68,9 @@ arrived_one (first ∷ others) next = joined_one (Ok first) others next tt
 
 -- ---- the table
 
-module _ (place : ℕ) where
-  sent_one : (table : Table) (sents : List Sent) (one : Sent) (further : ℕ) (is_there : Bool) → (one.target == further) ≡ is_there → one.target < length table → place ≤ further → further < length table
-      → Shows place table sents → entry (with_one table one) further ≡ arrived (sent_to further sents ++ (if is_there then one.operands ∷ [] else []))
+module _ (index : ℕ) where
+  sent_one : (table : Table) (sents : List Sent) (one : Sent) (further : ℕ) (is_there : Bool) → (one.target == further) ≡ is_there → one.target < length table → index ≤ further → further < length table
+      → Shows index table sents → entry (with_one table one) further ≡ arrived (sent_to further sents ++ (if is_there then one.operands ∷ [] else []))
   sent_one table sents one further true is within from inside shows =
       let there : one.target ≡ further = grind (arith, nat_tests) in
       let here : entry table one.target ≡ arrived (sent_to further sents) = rw there (shows further from inside) in
@@ -79,22 +79,22 @@ module _ (place : ℕ) where
       let away : further ≢ one.target = grind (arith, nat_tests) in
       get_or-set_other table one.target further (one_more (entry table one.target) one.operands) (Err Unreachable) away ∙ shows further from inside ∙ ap arrived (sym (append-nil (sent_to further sents)))
 
-  pub shows_one : (table : Table) (sents : List Sent) (one : Sent) → one.target < length table → Shows place table sents → Shows place (with_one table one) (sents ++ one ∷ [])
+  pub shows_one : (table : Table) (sents : List Sent) (one : Sent) → one.target < length table → Shows index table sents → Shows index (with_one table one) (sents ++ one ∷ [])
   shows_one table sents one within shows further from inside =
       sent_one table sents one further (one.target == further) refl within from (rw length-set at inside) shows ∙ ap arrived (sym (sent_to_both further sents (one ∷ [])))
 
   all_within : (table : Table) (sents : List Sent) (one : Sent) → AllByRecursion (λ one. one.target < length table) sents → AllByRecursion (λ other. other.target < length (with_one table one)) sents
   all_within table sents one all = all_more (λ one. one.target < length table) (λ other. other.target < length (with_one table one)) sents (λ other h. rw length-set h) all
 
-  pub shows_all : (table : Table) (sents more : List Sent) → AllByRecursion (λ one. one.target < length table) more → Shows place table sents → Shows place (with_all table more) (sents ++ more)
+  pub shows_all : (table : Table) (sents more : List Sent) → AllByRecursion (λ one. one.target < length table) more → Shows index table sents → Shows index (with_all table more) (sents ++ more)
   shows_all table sents [] within shows = rw (append-nil sents) shows
   shows_all table sents (one ∷ more) within shows =
       rw (← append_assoc sents (one ∷ []) more) (shows_all (with_one table one) (sents ++ one ∷ []) more (all_within table more one within.1) (shows_one table sents one within.0 shows))
 
-  shows_without : (table : Table) (sents : List Sent) → Shows place table sents → Shows (suc place) (without table place) sents
+  shows_without : (table : Table) (sents : List Sent) → Shows index table sents → Shows (suc index) (without table index) sents
   shows_without table sents shows further from inside =
-      let away : further ≢ place = omega arith in
-      get_or-set_other table place further (Err Unreachable) (Err Unreachable) away ∙ shows further (omega arith) (rw length-set at inside)
+      let away : further ≢ index = omega arith in
+      get_or-set_other table index further (Err Unreachable) (Err Unreachable) away ∙ shows further (omega arith) (rw length-set at inside)
 
 long_with : (table : Table) (more : List Sent) → length (with_all table more) ≡ length table
 long_with table [] = refl
@@ -107,15 +107,15 @@ deepest_both [] more = omega arith
 deepest_both (one ∷ before) more = let rest = deepest_both before more in rw rest (omega arith)
 
 -- what is sent further on leaves what arrives at indexes before
-arrives_alike : (place before : ℕ) (sents more : List Sent) → before ≤ place → AllByRecursion (Ahead place) more → arrival before (sents ++ more) ≡ arrival before sents
-arrives_alike place before sents more further ahead =
-    ap arrived (sent_to_both before sents more ∙ ap (λ later. sent_to before sents ++ later) (elsewhere before more (all_more (Ahead place) (λ one. one.target ≡ before → ⊥) more (λ one h same. omega arith) ahead))
+arrives_alike : (index before : ℕ) (sents more : List Sent) → before ≤ index → AllByRecursion (Ahead index) more → arrival before (sents ++ more) ≡ arrival before sents
+arrives_alike index before sents more further ahead =
+    ap arrived (sent_to_both before sents more ∙ ap (λ later. sent_to before sents ++ later) (elsewhere before more (all_more (Ahead index) (λ one. one.target ≡ before → ⊥) more (λ one h same. omega arith) ahead))
     ∙ append-nil (sent_to before sents))
 
-most_alike : (place places : ℕ) (sents more : List Sent) → places ≤ suc place → AllByRecursion (Ahead place) more → most_each places (sents ++ more) ≡ most_each places sents
-most_alike place zero sents more few ahead = refl
-most_alike place (suc places) sents more few ahead =
-    rw (most_alike place places sents more (omega arith) ahead, arrives_alike place places sents more (omega arith) ahead) refl
+most_alike : (index indices : ℕ) (sents more : List Sent) → indices ≤ suc index → AllByRecursion (Ahead index) more → most_each indices (sents ++ more) ≡ most_each indices sents
+most_alike index zero sents more few ahead = refl
+most_alike index (suc indices) sents more few ahead =
+    rw (most_alike index indices sents more (omega arith) ahead, arrives_alike index indices sents more (omega arith) ahead) refl
 
 -- ---- from one index to the next
 
@@ -152,82 +152,82 @@ refused : {A B C E : Type 0} (m : Result A E) (f : A → Result B E) (g : A → 
 refused (Ok x) f g e is = refused_then (f x) (g x) e is
 refused (Err reason) f g e is = cc
 
-module _ (code : Code) (shape : Shape) (named : all_pass (names_well code.ops) 0 code.ops ≡ Ok tt) (place : ℕ) (s : Sweep) (comes : ComesTo code shape place s) where
-  -- the operation at `place`
-  module _ (op default : Op) (within : place < length code.ops) (is : op ≡ slice_index_or code.ops place default) where
+module _ (code : Code) (shape : Shape) (named : all_pass (names_well code.ops) 0 code.ops ≡ Ok tt) (index : ℕ) (s : Sweep) (comes : ComesTo code shape index s) where
+  -- the operation at `index`
+  module _ (op default : Op) (within : index < length code.ops) (is : op ≡ slice_index_or code.ops index default) where
     abbrev rest : List Op
-    rest = drop (suc place) code.ops
+    rest = drop (suc index) code.ops
 
-    there : nth code.ops place ≡ Some op
-    there = nth_at code.ops place default within ∙ ap Some (sym is)
+    there : nth code.ops index ≡ Some op
+    there = nth_at code.ops index default within ∙ ap Some (sym is)
 
-    first_left : drop place code.ops ≡ op ∷ rest
-    first_left = drop-cons code.ops place default within ∙ ap (λ first. first ∷ rest) (sym is)
+    first_left : drop index code.ops ≡ op ∷ rest
+    first_left = drop-cons code.ops index default within ∙ ap (λ first. first ∷ rest) (sym is)
 
-    here : entry s.table place ≡ arrived (sent_to place comes.sents)
-    here = comes.shows place (omega arith) (rw comes.long (omega arith))
+    here : entry s.table index ≡ arrived (sent_to index comes.sents)
+    here = comes.shows index (omega arith) (rw comes.long (omega arith))
 
     -- what the operation sends on
     abbrev now : Result (List Sent) Reason
-    now = arrived (sent_to place comes.sents) >>= sends code shape place op
+    now = arrived (sent_to index comes.sents) >>= sends code shape index op
 
-    left_now : all_sent code shape ≡ (at_place place now >>= λ more. sent_on code shape (suc place) rest (comes.sents ++ more))
-    left_now = comes.left ∙ ap (λ left. sent_on code shape place left comes.sents) first_left
+    left_now : all_sent code shape ≡ (at_index index now >>= λ more. sent_on code shape (suc index) rest (comes.sents ++ more))
+    left_now = comes.left ∙ ap (λ left. sent_on code shape index left comes.sents) first_left
 
-    same_sends : (m : Result Operands Reason) → (m >>= sends_by code shape (place + 1) op) ≡ (m >>= sends code shape place op)
-    same_sends (Ok had) = sym (sends_as code shape place op had)
+    same_sends : (m : Result Operands Reason) → (m >>= sends_by code shape (index + 1) op) ≡ (m >>= sends code shape index op)
+    same_sends (Ok had) = sym (sends_as code shape index op had)
     same_sends (Err reason) = refl
 
-    pub stops : (reason : Reason) → place_added code shape place op s ≡ Err reason → all_sent code shape ≡ Err (Fault place reason)
+    pub stops : (reason : Reason) → index_added code shape index op s ≡ Err reason → all_sent code shape ≡ Err (Fault index reason)
     stops reason refuses =
-        let none = refused (entry s.table place) (sends_by code shape (place + 1) op) (visited place s) reason refuses in
-        let same : now ≡ Err reason = ap (λ m. m >>= sends code shape place op) (sym here) ∙ sym (same_sends (entry s.table place)) ∙ none in
-        left_now ∙ ap (λ now. at_place place now >>= λ more. sent_on code shape (suc place) rest (comes.sents ++ more)) same
+        let none = refused (entry s.table index) (sends_by code shape (index + 1) op) (visited index s) reason refuses in
+        let same : now ≡ Err reason = ap (λ m. m >>= sends code shape index op) (sym here) ∙ sym (same_sends (entry s.table index)) ∙ none in
+        left_now ∙ ap (λ now. at_index index now >>= λ more. sent_on code shape (suc index) rest (comes.sents ++ more)) same
 
-    module _ (had : Operands) (more : List Sent) (arrives : entry s.table place ≡ Ok had) (sent : sends_by code shape (place + 1) op had ≡ Ok more) where
-      arrives_here : arrived (sent_to place comes.sents) ≡ Ok had
+    module _ (had : Operands) (more : List Sent) (arrives : entry s.table index ≡ Ok had) (sent : sends_by code shape (index + 1) op had ≡ Ok more) where
+      arrives_here : arrived (sent_to index comes.sents) ≡ Ok had
       arrives_here = sym here ∙ arrives
 
-      sends_here : sends code shape place op had ≡ Ok more
-      sends_here = sends_as code shape place op had ∙ sent
+      sends_here : sends code shape index op had ≡ Ok more
+      sends_here = sends_as code shape index op had ∙ sent
 
-      ahead : AllByRecursion (Ahead place) more
-      ahead = passed_ahead code shape code.ops place op had.kinds had.loops more (passes_each (names_well code.ops) code.ops named place op there) (sends_on code shape place op had more sends_here).passed
+      ahead : AllByRecursion (Ahead index) more
+      ahead = passed_ahead code shape code.ops index op had.kinds had.loops more (passes_each (names_well code.ops) code.ops named index op there) (sends_on code shape index op had more sends_here).passed
 
-      within_table : AllByRecursion (λ one. one.target < length (without s.table place)) more
+      within_table : AllByRecursion (λ one. one.target < length (without s.table index)) more
       within_table =
-          rw length-set (rw comes.long (sends_within (suc (length code.ops)) code shape (place + 1) (omega arith) op had more
-          (stays_within code.ops place op (passes_each (names_well code.ops) code.ops named place op there)) sent))
+          rw length-set (rw comes.long (sends_within (suc (length code.ops)) code shape (index + 1) (omega arith) op had more
+          (stays_within code.ops index op (passes_each (names_well code.ops) code.ops named index op there)) sent))
 
-      comes_next : ComesTo code shape (place + 1) (visited place s had more)
-      comes_next = rw (add-one place) (record {
+      comes_next : ComesTo code shape (index + 1) (visited index s had more)
+      comes_next = rw (add-one index) (record {
         sents = comes.sents ++ more;
-        left = left_now ∙ ap (λ m. at_place place (m >>= sends code shape place op) >>= λ more. sent_on code shape (suc place) rest (comes.sents ++ more)) arrives_here
-            ∙ ap (λ m. at_place place m >>= λ more. sent_on code shape (suc place) rest (comes.sents ++ more)) sends_here;
+        left = left_now ∙ ap (λ m. at_index index (m >>= sends code shape index op) >>= λ more. sent_on code shape (suc index) rest (comes.sents ++ more)) arrives_here
+            ∙ ap (λ m. at_index index m >>= λ more. sent_on code shape (suc index) rest (comes.sents ++ more)) sends_here;
         inside = omega arith;
-        long = long_with (without s.table place) more ∙ length-set s.table place (Err Unreachable) ∙ comes.long;
-        shows = shows_all (suc place) (without s.table place) comes.sents more within_table (shows_without place s.table comes.sents comes.shows);
+        long = long_with (without s.table index) more ∙ length-set s.table index (Err Unreachable) ∙ comes.long;
+        shows = shows_all (suc index) (without s.table index) comes.sents more within_table (shows_without index s.table comes.sents comes.shows);
         depth = ap (λ depth. max depth (deepest more)) comes.depth ∙ sym (deepest_both comes.sents more);
-        most_items = ap (λ before. before ++ most_on_top had.kinds ∷ []) (comes.most_items ∙ sym (most_alike place place comes.sents more (omega arith) ahead))
-            ∙ ap (λ last. most_each place (comes.sents ++ more) ++ most_items last ∷ []) (sym (arrives_alike place place comes.sents more (omega arith) ahead ∙ arrives_here));
+        most_items = ap (λ before. before ++ most_on_top had.kinds ∷ []) (comes.most_items ∙ sym (most_alike index index comes.sents more (omega arith) ahead))
+            ∙ ap (λ last. most_each index (comes.sents ++ more) ++ most_items last ∷ []) (sym (arrives_alike index index comes.sents more (omega arith) ahead ∙ arrives_here));
       })
 
-    pub goes_on : (next : Sweep) → place_added code shape place op s ≡ Ok next → ComesTo code shape (place + 1) next
-    goes_on next finds =
-        let both = found_both (entry s.table place) (sends_by code shape (place + 1) op) (visited place s) next finds in
-        subst (ComesTo code shape (place + 1)) both.made (comes_next both.x both.y both.first both.second)
+    pub continues : (next : Sweep) → index_added code shape index op s ≡ Ok next → ComesTo code shape (index + 1) next
+    continues next finds =
+        let both = found_both (entry s.table index) (sends_by code shape (index + 1) op) (visited index s) next finds in
+        subst (ComesTo code shape (index + 1)) both.made (comes_next both.x both.y both.first both.second)
 
     -- likewise by why the code stops
-    pub stopped : (failure : Failure) (cause : Cause) (next : Sweep) → cause ≡ cause_at place failure → Meets {X = Unit {0}} (λ _. next) (Err failure) (place_added code shape place op s)
+    pub stopped : (failure : Failure) (cause : Cause) (next : Sweep) → cause ≡ cause_at index failure → Meets {X = Unit {0}} (λ _. next) (Err failure) (index_added code shape index op s)
         → Unless (is_memory cause) (summed_up code shape ≡ Err cause)
     stopped (failures.Fault reason) cause next is refuses = rw is (ap (λ all. all >>= λ sents. Ok (summary (length code.ops) sents)) (stops reason refuses))
     stopped failures.OutOfMemory cause next is refuses = rw is tt
 
-  pub inside_table : {M : Type 0} {name : ShapeName.Ghosts M} (op default : Op) (arrived : List (Result (held.Operands M name) Reason)) → table_view arrived ≡ s.table → place < length code.ops → op ≡ slice_index_or code.ops place default
+  pub inside_table : {M : Type 0} {name : ShapeName.Ghosts M} (op default : Op) (arrived : List (Result (held.Operands M name) Reason)) → table_view arrived ≡ s.table → index < length code.ops → op ≡ slice_index_or code.ops index default
       → StaysWithin (length arrived) op
   inside_table op default arrived is within at =
       let long : length arrived ≡ suc (length code.ops) = sym (length-map arrived arrival_view) ∙ ap length is ∙ comes.long in
-      rw long (stays_within code.ops place op (passes_each (names_well code.ops) code.ops named place op (there op default within at)))
+      rw long (stays_within code.ops index op (passes_each (names_well code.ops) code.ops named index op (there op default within at)))
 
 -- ---- where the pass begins
 
@@ -254,10 +254,10 @@ begins code shape s table depth most = record {
 
 -- ---- where no operation is left
 
-pub all_seen : (code : Code) (shape : Shape) (place : ℕ) (s : Sweep) → ComesTo code shape place s → length code.ops ≤ place → summed_up code shape ≡ Ok s.found
-all_seen code shape place s comes past =
+pub all_seen : (code : Code) (shape : Shape) (index : ℕ) (s : Sweep) → ComesTo code shape index s → length code.ops ≤ index → summed_up code shape ≡ Ok s.found
+all_seen code shape index s comes past =
     let inside = comes.inside in
-    let all : length code.ops ≡ place = omega (arith, inside, past) in
-    ap (λ all. all >>= λ sents. Ok (summary (length code.ops) sents)) (comes.left ∙ ap (λ rest. sent_on code shape place rest comes.sents) (drop_of_length-le code.ops past))
+    let all : length code.ops ≡ index = omega (arith, inside, past) in
+    ap (λ all. all >>= λ sents. Ok (summary (length code.ops) sents)) (comes.left ∙ ap (λ rest. sent_on code shape index rest comes.sents) (drop_of_length-le code.ops past))
     ∙ ap (λ depth. Ok (record { depth = depth; most_items = most_each (length code.ops) comes.sents })) (sym comes.depth)
     ∙ ap (λ items. Ok (record { depth = s.found.depth; most_items = items })) (ap (λ n. most_each n comes.sents) all ∙ sym comes.most_items)

@@ -11,24 +11,24 @@ use Rattle.ar_value.specs.declared.operator.Predicate.{Predicate}
 use Rattle.ar_op.specs.Machine.{nth}
 use Rattle.ar_op.specs.declared.op.Op.{Op}
 use Rattle.ar_op.specs.declared.op.Op.TheVariants.{Jump, Enter, Step, Return}
-use Rattle.ar_verify.specs.Private.Depths.{depth_at, depth_behind, depths, is_inside, last_of, nests_by, open_behind, stays_by, step_of, open_steps, IsNested, JumpsInside}
+use Rattle.ar_verify.specs.Private.Depths.{depth_at, depth_after, depths, is_inside, last_of, nests_by, open_after, stays_by, step_of, open_steps, IsNested, JumpsInside}
 use Rattle.ar_safety.specs.declared.error.Cause.TheVariants.{Fault}
-use Rattle.ar_safety.specs.Places.{all_pass, loops_around, loops_among, in_innermost, names_well, nests_well, loop_reaches, same_loops, stays, unless}
+use Rattle.ar_safety.specs.Indices.{all_pass, loops_around, loops_among, in_innermost, names_well, nests_well, loop_reaches, same_loops, stays, unless}
 use Rattle.ar_safety.specs.declared.error.Reason.{Reason}
 use Rattle.ar_safety.specs.declared.error.Reason.TheVariants.{CrossesLoop}
 use Rattle.ar_safety.proofs.Entries.{nth_at}
-use Rattle.ar_verify.proofs.Passes.{finds, goes_on}
-use Rattle.ar_safety.proofs.Nesting.{passes_each, alike, begins, behind_step, both, held_further, holding_alike, inner_first, innermost_at_step, is_ahead, lies_within, reaches_less, reaching, stays_around, step_pairs, the_same_loops}
+use Rattle.ar_verify.proofs.Passes.{finds, continues}
+use Rattle.ar_safety.proofs.Nesting.{passes_each, alike, begins, after_step, both, held_further, holding_alike, inner_first, innermost_at_step, is_ahead, lies_within, reaches_less, reaching, stays_around, step_pairs, the_same_loops}
 
 -- ---- the numbers of loops, one after the other
 
-one_deeper : (op : Op) (depth : ℕ) → depth_behind op depth ≤ depth + 1
+one_deeper : (op : Op) (depth : ℕ) → depth_after op depth ≤ depth + 1
 one_deeper (Enter predicate step) depth = omega arith
 one_deeper (Step predicate enter) depth = omega arith
 one_deeper op depth = omega arith
 
 module _ (ops : List Op) (before whole : List ℕ) where
-  pub counts_further : (i : ℕ) (op : Op) (depth deeper : ℕ) (after : List ℕ) → i < length ops → deeper ≡ depth_behind (slice_index_or ops i op) depth → after ≡ before ++ depth ∷ []
+  pub counts_further : (i : ℕ) (op : Op) (depth deeper : ℕ) (after : List ℕ) → i < length ops → deeper ≡ depth_after (slice_index_or ops i op) depth → after ≡ before ++ depth ∷ []
       → (depth ≤ i) × (before ++ depths depth (drop i ops) ≡ whole) → (deeper ≤ i + 1) × (after ++ depths deeper (drop (i + 1) ops) ≡ whole)
   counts_further i op depth deeper after within is longer h =
       let first : drop i ops ≡ slice_index_or ops i op ∷ drop (suc i) ops = drop-cons ops i op within in
@@ -70,49 +70,49 @@ none_by_number [] = refl
 none_by_number (enter ∷ enters) = grind (arith, nat_tests)
 
 module _ (ops : List Op) where
-  first_reaches : (place k enter : ℕ) (outer : List ℕ) → loops_among ops place k ≡ enter ∷ outer → loop_reaches (nth ops enter) place ≡ true
-  first_reaches place zero enter outer is = absurd cc
-  first_reaches place (suc k) enter outer is = by_test (loop_reaches (nth ops k) place) refl (λ same. first_reaches place k enter outer same)
+  first_reaches : (index k enter : ℕ) (outer : List ℕ) → loops_among ops index k ≡ enter ∷ outer → loop_reaches (nth ops enter) index ≡ true
+  first_reaches index zero enter outer is = absurd cc
+  first_reaches index (suc k) enter outer is = by_test (loop_reaches (nth ops k) index) refl (λ same. first_reaches index k enter outer same)
     where
-      by_test : (test : Bool) → loop_reaches (nth ops k) place ≡ test → (loops_among ops place k ≡ enter ∷ outer → loop_reaches (nth ops enter) place ≡ true) → loop_reaches (nth ops enter) place ≡ true
+      by_test : (test : Bool) → loop_reaches (nth ops k) index ≡ test → (loops_among ops index k ≡ enter ∷ outer → loop_reaches (nth ops enter) index ≡ true) → loop_reaches (nth ops enter) index ≡ true
       by_test true holds others =
-          let here : k ∷ loops_among ops place k ≡ enter ∷ outer = rw holds at is in let same : k ≡ enter = cc in subst (λ e. loop_reaches (nth ops e) place ≡ true) same holds
+          let here : k ∷ loops_among ops index k ≡ enter ∷ outer = rw holds at is in let same : k ≡ enter = cc in subst (λ e. loop_reaches (nth ops e) index ≡ true) same holds
       by_test false holds others = others (rw holds at is)
 
   -- whether the innermost loop reaches an index is known from its Step
-  innermost_reaches : (place target : ℕ) (enters : List ℕ) → loops_around ops place ≡ enters → in_innermost ops enters target ≡ is_inside (last_of (open_steps ops enters)) target
-  innermost_reaches place target [] is = refl
-  innermost_reaches place target (enter ∷ outer) is =
-      let r = reaching (nth ops enter) place (first_reaches place place enter outer is) in
+  innermost_reaches : (index target : ℕ) (enters : List ℕ) → loops_around ops index ≡ enters → in_innermost ops enters target ≡ is_inside (last_of (open_steps ops enters)) target
+  innermost_reaches index target [] is = refl
+  innermost_reaches index target (enter ∷ outer) is =
+      let r = reaching (nth ops enter) index (first_reaches index index enter outer is) in
       let there = r.2 in
       rw (last_is (open_steps ops outer) (step_of (nth ops enter)), there) refl
 
   -- ---- the same loops, by their number
 
-  own_reaches : (place k : ℕ) → in_innermost ops (loops_among ops place k) place ≡ true
-  own_reaches place zero = refl
-  own_reaches place (suc k) = by_test (loop_reaches (nth ops k) place) refl (own_reaches place k)
+  own_reaches : (index k : ℕ) → in_innermost ops (loops_among ops index k) index ≡ true
+  own_reaches index zero = refl
+  own_reaches index (suc k) = by_test (loop_reaches (nth ops k) index) refl (own_reaches index k)
     where
-      by_test : (test : Bool) → loop_reaches (nth ops k) place ≡ test → in_innermost ops (loops_among ops place k) place ≡ true → in_innermost ops (loops_among ops place (suc k)) place ≡ true
+      by_test : (test : Bool) → loop_reaches (nth ops k) index ≡ test → in_innermost ops (loops_among ops index k) index ≡ true → in_innermost ops (loops_among ops index (suc k)) index ≡ true
       by_test true holds others = rw holds holds
       by_test false holds others = rw holds others
 
-  as_many_or_more : (place from k : ℕ) → from ≤ k → (loops_among ops place k ≡ loops_among ops place from) ⊎ (length (loops_among ops place from) < length (loops_among ops place k))
-  as_many_or_more place from zero le = let same : from ≡ 0 = omega arith in rw same (inl refl)
-  as_many_or_more place from (suc k) le =
+  as_many_or_more : (index from k : ℕ) → from ≤ k → (loops_among ops index k ≡ loops_among ops index from) ⊎ (length (loops_among ops index from) < length (loops_among ops index k))
+  as_many_or_more index from zero le = let same : from ≡ 0 = omega arith in rw same (inl refl)
+  as_many_or_more index from (suc k) le =
       elim (leb_tells from k) [
-        | inl w ↦ one_more (loop_reaches (nth ops k) place) k (loops_among ops place k) (loops_among ops place from) (as_many_or_more place from k w.1)
+        | inl w ↦ one_more (loop_reaches (nth ops k) index) k (loops_among ops index k) (loops_among ops index from) (as_many_or_more index from k w.1)
         | inr w ↦ let same : from ≡ suc k = omega (arith, w.1) in rw same (inl refl)
       ]
 
 -- ---- where pass 2 found nothing
 
-module _ (ops : List Op) (paired : (place : ℕ) (op : Op) → nth ops place ≡ Some op → names_well ops place op ≡ None) where
+module _ (ops : List Op) (paired : (index : ℕ) (op : Op) → nth ops index ≡ Some op → names_well ops index op ≡ None) where
   -- one loop fewer is around the index after a Step, whichever loops cross each other
   fewer_by_one : (predicate : Predicate) (step enter k : ℕ) → nth ops step ≡ Some (Step predicate enter) → suc enter ≤ k → k ≤ step
       → length (loops_among ops step k) ≡ suc (length (loops_among ops (suc step) k))
-  fewer_by_one predicate step enter zero there behind le = absurd (omega arith)
-  fewer_by_one predicate step enter (suc k) there behind le =
+  fewer_by_one predicate step enter zero there later le = absurd (omega arith)
+  fewer_by_one predicate step enter (suc k) there later le =
       let itself = step_pairs ops paired predicate step enter there in
       let ahead = itself.0 in
       let other : (outer : ℕ) → (outer ≡ enter → ⊥) → loop_reaches (nth ops outer) (suc step) ≡ loop_reaches (nth ops outer) step = λ outer differs. held_further ops paired step outer (λ family is. differs (let same : outer ≡ enter = cc in same)) in
@@ -129,15 +129,15 @@ module _ (ops : List Op) (paired : (place : ℕ) (op : Op) → nth ops place ≡
             rw (same, own, ended, around) refl
       ]
 
-  moves : (place : ℕ) (op : Op) → nth ops place ≡ Some op → depth_behind op (length (loops_around ops place)) ≡ length (loops_around ops (suc place))
-  moves place (Enter predicate step) there = let begun = begins ops paired predicate place step there in rw begun (add-one (length (loops_around ops place)))
-  moves place (Step predicate enter) there =
-      let itself = step_pairs ops paired predicate place enter there in
+  moves : (index : ℕ) (op : Op) → nth ops index ≡ Some op → depth_after op (length (loops_around ops index)) ≡ length (loops_around ops (suc index))
+  moves index (Enter predicate step) there = let begun = begins ops paired predicate index step there in rw begun (add-one (length (loops_around ops index)))
+  moves index (Step predicate enter) there =
+      let itself = step_pairs ops paired predicate index enter there in
       let ahead = itself.0 in
-      let fewer = fewer_by_one predicate place enter place there (omega arith) (omega arith) in
-      let not_begun : loop_reaches (nth ops place) (suc place) ≡ false = rw there refl in
+      let fewer = fewer_by_one predicate index enter index there (omega arith) (omega arith) in
+      let not_begun : loop_reaches (nth ops index) (suc index) ≡ false = rw there refl in
       rw not_begun (omega (arith, fewer))
-  moves place op there = ap length (sym (stays_around ops paired place op there tt))
+  moves index op there = ap length (sym (stays_around ops paired index op there tt))
 
   -- as many loops hold an operation as are counted there
   held_from : (from : ℕ) (rest : List Op) → ((n : ℕ) (op : Op) → nth rest n ≡ Some op → nth ops (from + n) ≡ Some op) → (n : ℕ) → n < length rest → depth_at (depths (length (loops_around ops from)) rest) n ≡ length (loops_around ops (from + n))
@@ -149,101 +149,101 @@ module _ (ops : List Op) (paired : (place : ℕ) (op : Op) → nth ops place ≡
       let further : from + suc n ≡ suc from + n = omega arith in
       rw (moves from op there, further) (held_from (suc from) rest (λ m other is. let next : suc from + m ≡ from + suc m = omega arith in rw next (part (suc m) other is)) n (omega arith))
 
-  pub depth_is : (place : ℕ) → place < length ops → depth_at (depths 0 ops) place ≡ length (loops_around ops place)
-  depth_is place within = held_from 0 ops (λ n op is. let start : 0 + n ≡ n = omega arith in rw start is) place within ∙ ap (λ p. length (loops_around ops p)) (let start : 0 + place ≡ place = omega arith in start)
+  pub depth_is : (index : ℕ) → index < length ops → depth_at (depths 0 ops) index ≡ length (loops_around ops index)
+  depth_is index within = held_from 0 ops (λ n op is. let start : 0 + n ≡ n = omega arith in rw start is) index within ∙ ap (λ p. length (loops_around ops p)) (let start : 0 + index ≡ index = omega arith in start)
 
   -- ---- where pass 3 found nothing at the first indexes
 
-  module _ (n : ℕ) (nested : (place : ℕ) (op : Op) → place < n → nth ops place ≡ Some op → nests_well ops place op ≡ None) where
+  module _ (n : ℕ) (nested : (index : ℕ) (op : Op) → index < n → nth ops index ≡ Some op → nests_well ops index op ≡ None) where
     enters : (enter step : ℕ) (predicate : Predicate) → enter < n → nth ops enter ≡ Some (Enter predicate step) → nests_well ops enter (Enter predicate step) ≡ None
     enters enter step predicate below there = nested enter (Enter predicate step) below there
 
-    same_by_number : (place target : ℕ) → place ≤ n → place ≤ target → same_loops (loops_around ops place) (loops_around ops target) ≡ (in_innermost ops (loops_around ops place) target && length (loops_around ops place) == length (loops_around ops target))
-    same_by_number place target le ahead =
-        alike (same_loops (loops_around ops place) (loops_around ops target)) (in_innermost ops (loops_around ops place) target && length (loops_around ops place) == length (loops_around ops target))
-        (λ h. let same = the_same_loops (loops_around ops place) (loops_around ops target) h in rw (same, own_reaches ops target target) (grind (arith, nat_tests)))
+    same_by_number : (index target : ℕ) → index ≤ n → index ≤ target → same_loops (loops_around ops index) (loops_around ops target) ≡ (in_innermost ops (loops_around ops index) target && length (loops_around ops index) == length (loops_around ops target))
+    same_by_number index target le ahead =
+        alike (same_loops (loops_around ops index) (loops_around ops target)) (in_innermost ops (loops_around ops index) target && length (loops_around ops index) == length (loops_around ops target))
+        (λ h. let same = the_same_loops (loops_around ops index) (loops_around ops target) h in rw (same, own_reaches ops target target) (grind (arith, nat_tests)))
         (λ h.
-        let tests = both (in_innermost ops (loops_around ops place) target) (length (loops_around ops place) == length (loops_around ops target)) h in
-        let as_many : length (loops_around ops place) ≡ length (loops_around ops target) = eqb-true (length (loops_around ops place)) (length (loops_around ops target)) tests.1 in
-        let reach : (outer : ℕ) → outer < place → loop_reaches (nth ops outer) target ≡ loop_reaches (nth ops outer) place = λ outer below.
-        alike (loop_reaches (nth ops outer) target) (loop_reaches (nth ops outer) place)
-        (λ holds. reaches_less (nth ops outer) target place ahead holds)
-        (λ holds. inner_first ops paired place target (λ inner less predicate end is. lies_within ops paired n enters predicate inner end (omega arith) is) place (omega arith) tests.0 outer below holds) in
-        let around : loops_among ops target place ≡ loops_among ops place place = holding_alike ops target place place reach in
+        let tests = both (in_innermost ops (loops_around ops index) target) (length (loops_around ops index) == length (loops_around ops target)) h in
+        let as_many : length (loops_around ops index) ≡ length (loops_around ops target) = eqb-true (length (loops_around ops index)) (length (loops_around ops target)) tests.1 in
+        let reach : (outer : ℕ) → outer < index → loop_reaches (nth ops outer) target ≡ loop_reaches (nth ops outer) index = λ outer below.
+        alike (loop_reaches (nth ops outer) target) (loop_reaches (nth ops outer) index)
+        (λ holds. reaches_less (nth ops outer) target index ahead holds)
+        (λ holds. inner_first ops paired index target (λ inner less predicate end is. lies_within ops paired n enters predicate inner end (omega arith) is) index (omega arith) tests.0 outer below holds) in
+        let around : loops_among ops target index ≡ loops_among ops index index = holding_alike ops target index index reach in
         let fewer = ap length around in
-        elim (as_many_or_more ops target place target ahead) [
-          | inl same ↦ let all : loops_around ops target ≡ loops_around ops place = same ∙ around in rw all (same_as_itself (loops_around ops place))
+        elim (as_many_or_more ops target index target ahead) [
+          | inl same ↦ let all : loops_around ops target ≡ loops_around ops index = same ∙ around in rw all (same_as_itself (loops_around ops index))
           | inr more ↦ absurd (omega arith)
         ])
 
-    stays_is : (place target : ℕ) → place < length ops → place ≤ n → (place < target) × (target < length ops) → stays_by (depths 0 ops) (last_of (open_steps ops (loops_around ops place))) place target ≡ stays ops place target
-    stays_is place target within le ahead =
-        let further : place ≤ target = omega (arith, ahead.0) in
-        let here = depth_is place within in
+    stays_is : (index target : ℕ) → index < length ops → index ≤ n → (index < target) × (target < length ops) → stays_by (depths 0 ops) (last_of (open_steps ops (loops_around ops index))) index target ≡ stays ops index target
+    stays_is index target within le ahead =
+        let further : index ≤ target = omega (arith, ahead.0) in
+        let here = depth_is index within in
         let there = depth_is target ahead.1 in
-        let inside = innermost_reaches ops place target (loops_around ops place) refl in
-        let same = same_by_number place target le further in
+        let inside = innermost_reaches ops index target (loops_around ops index) refl in
+        let same = same_by_number index target le further in
         rw (here, there, ← inside, ← same) refl
 
     -- what the code tests is pass 3
-    pub nests_is : (place : ℕ) (op : Op) → place < length ops → place ≤ n → nth ops place ≡ Some op → nests_by (depths 0 ops) (last_of (open_steps ops (loops_around ops place))) place op ≡ nests_well ops place op
-    nests_is place (Jump jump target) within le there = stays_is place target within le (is_ahead ops place target (paired place (Jump jump target) there))
-    nests_is place (Enter predicate step) within le there =
-        let here = depth_is place within in
-        let begun = begins ops paired predicate place step there in
-        let inside = innermost_reaches ops place step (loops_around ops place) refl in
+    pub nests_is : (index : ℕ) (op : Op) → index < length ops → index ≤ n → nth ops index ≡ Some op → nests_by (depths 0 ops) (last_of (open_steps ops (loops_around ops index))) index op ≡ nests_well ops index op
+    nests_is index (Jump jump target) within le there = stays_is index target within le (is_ahead ops index target (paired index (Jump jump target) there))
+    nests_is index (Enter predicate step) within le there =
+        let here = depth_is index within in
+        let begun = begins ops paired predicate index step there in
+        let inside = innermost_reaches ops index step (loops_around ops index) refl in
         rw (here, begun, ← inside) refl
-    nests_is place Return within le there =
-        let here = depth_is place within in
-        rw here (ap (λ holds. unless holds CrossesLoop) (none_by_number (loops_around ops place)))
-    nests_is place op within le there = refl
+    nests_is index Return within le there =
+        let here = depth_is index within in
+        rw here (ap (λ holds. unless holds CrossesLoop) (none_by_number (loops_around ops index)))
+    nests_is index op within le there = refl
 
-    pub opened_is : (place : ℕ) (op : Op) → place ≤ n → nth ops place ≡ Some op → open_behind op (open_steps ops (loops_around ops place)) ≡ open_steps ops (loops_around ops (suc place))
-    opened_is place (Enter predicate step) le there =
-        let begun = begins ops paired predicate place step there in
+    pub opened_is : (index : ℕ) (op : Op) → index ≤ n → nth ops index ≡ Some op → open_after op (open_steps ops (loops_around ops index)) ≡ open_steps ops (loops_around ops (suc index))
+    opened_is index (Enter predicate step) le there =
+        let begun = begins ops paired predicate index step there in
         rw (begun, there) refl
-    opened_is place (Step predicate enter) le there =
-        let inner = innermost_at_step ops paired n enters predicate place enter there le in
-        let outer = behind_step ops paired n enters predicate place enter there le in
+    opened_is index (Step predicate enter) le there =
+        let inner = innermost_at_step ops paired n enters predicate index enter there le in
+        let outer = after_step ops paired n enters predicate index enter there le in
         rw (inner, outer) (without_last (open_steps ops (loops_around ops enter)) (step_of (nth ops enter)))
-    opened_is place op le there = ap (open_steps ops) (sym (stays_around ops paired place op there tt))
+    opened_is index op le there = ap (open_steps ops) (sym (stays_around ops paired index op there tt))
 
 -- ---- the loop over the operations
 
 as_many_as_operations : (depth : ℕ) (ops : List Op) → length (depths depth ops) ≡ length ops
 as_many_as_operations depth [] = refl
-as_many_as_operations depth (op ∷ ops) = ap suc (as_many_as_operations (depth_behind op depth) ops)
+as_many_as_operations depth (op ∷ ops) = ap suc (as_many_as_operations (depth_after op depth) ops)
 
 module _ (ops : List Op) (passed : all_pass (names_well ops) 0 ops ≡ Ok tt) (around : List ℕ) (counted : around ≡ depths 0 ops) where
-  pub is_counted : (place : ℕ) → place < length ops → place < length around
-  is_counted place within = let as_many = ap length counted ∙ as_many_as_operations 0 ops in omega (arith, as_many)
+  pub is_counted : (index : ℕ) → index < length ops → index < length around
+  is_counted index within = let as_many = ap length counted ∙ as_many_as_operations 0 ops in omega (arith, as_many)
 
-  pub jumps_inside : (place : ℕ) (op : Op) → nth ops place ≡ Some op → JumpsInside (length around) op
-  jumps_inside place (Jump jump target) there = is_counted target (is_ahead ops place target (passes_each (names_well ops) ops passed place (Jump jump target) there)).1
-  jumps_inside place op there = tt
+  pub jumps_inside : (index : ℕ) (op : Op) → nth ops index ≡ Some op → JumpsInside (length around) op
+  jumps_inside index (Jump jump target) there = is_counted target (is_ahead ops index target (passes_each (names_well ops) ops passed index (Jump jump target) there)).1
+  jumps_inside index op there = tt
 
-  module _ (place : ℕ) (steps : List ℕ) (within : place < length ops) (so_far : IsNested ops place steps) (innermost : Option ℕ) (last : innermost ≡ last_of steps) (d : Op) where
-    pub tests_the_pass : nests_by around innermost place (slice_index_or ops place d) ≡ nests_well ops place (slice_index_or ops place d)
+  module _ (index : ℕ) (steps : List ℕ) (within : index < length ops) (so_far : IsNested ops index steps) (innermost : Option ℕ) (last : innermost ≡ last_of steps) (d : Op) where
+    pub tests_the_pass : nests_by around innermost index (slice_index_or ops index d) ≡ nests_well ops index (slice_index_or ops index d)
     tests_the_pass =
-        let by_steps : innermost ≡ last_of (open_steps ops (loops_around ops place)) = last ∙ ap last_of so_far.0 in
-        rw (counted, by_steps) (nests_is ops (passes_each (names_well ops) ops passed) place so_far.1 place (slice_index_or ops place d) within (omega arith) (nth_at ops place d within))
+        let by_steps : innermost ≡ last_of (open_steps ops (loops_around ops index)) = last ∙ ap last_of so_far.0 in
+        rw (counted, by_steps) (nests_is ops (passes_each (names_well ops) ops passed) index so_far.1 index (slice_index_or ops index d) within (omega arith) (nth_at ops index d within))
 
-    itself : slice_index_or ops place d ≡ slice_index_or ops place (slice_index_or ops place d)
-    itself = get_or_default ops place d (slice_index_or ops place d) within
+    itself : slice_index_or ops index d ≡ slice_index_or ops index (slice_index_or ops index d)
+    itself = get_or_default ops index d (slice_index_or ops index d) within
 
-    pub finds_here : (reason : Reason) → nests_by around innermost place (slice_index_or ops place d) ≡ Some reason → all_pass (nests_well ops) 0 ops ≡ Err (Fault place reason)
-    finds_here reason is = sym (finds (nests_well ops) ops (all_pass (nests_well ops) 0 ops) place (slice_index_or ops place d) reason within itself (sym is ∙ tests_the_pass) so_far.2)
+    pub finds_here : (reason : Reason) → nests_by around innermost index (slice_index_or ops index d) ≡ Some reason → all_pass (nests_well ops) 0 ops ≡ Err (Fault index reason)
+    finds_here reason is = sym (finds (nests_well ops) ops (all_pass (nests_well ops) 0 ops) index (slice_index_or ops index d) reason within itself (sym is ∙ tests_the_pass) so_far.2)
 
-    pub nested_further : (more : List ℕ) → nests_by around innermost place (slice_index_or ops place d) ≡ None → more ≡ open_behind (slice_index_or ops place d) steps → IsNested ops (place + 1) more
+    pub nested_further : (more : List ℕ) → nests_by around innermost index (slice_index_or ops index d) ≡ None → more ≡ open_after (slice_index_or ops index d) steps → IsNested ops (index + 1) more
     nested_further more is opened =
-        let there : nth ops place ≡ Some (slice_index_or ops place d) = nth_at ops place d within in
-        let none : nests_well ops place (slice_index_or ops place d) ≡ None = sym tests_the_pass ∙ is in
-        let open_now : open_behind (slice_index_or ops place d) (open_steps ops (loops_around ops place)) ≡ open_steps ops (loops_around ops (suc place)) =
-        opened_is ops (passes_each (names_well ops) ops passed) place so_far.1 place (slice_index_or ops place d) (omega arith) there in (
-          rw (add-one place) (opened ∙ ap (open_behind (slice_index_or ops place d)) so_far.0 ∙ open_now),
-          λ before op below at. elim (leb_tells place before) [
-            | inl w ↦ let same : before ≡ place = omega (arith, w.1) in let here : slice_index_or ops place d ≡ op = (let both_at : nth ops before ≡ Some (slice_index_or ops place d) = ap (nth ops) same ∙ there in cc) in rw (same, ← here) none
+        let there : nth ops index ≡ Some (slice_index_or ops index d) = nth_at ops index d within in
+        let none : nests_well ops index (slice_index_or ops index d) ≡ None = sym tests_the_pass ∙ is in
+        let open_now : open_after (slice_index_or ops index d) (open_steps ops (loops_around ops index)) ≡ open_steps ops (loops_around ops (suc index)) =
+        opened_is ops (passes_each (names_well ops) ops passed) index so_far.1 index (slice_index_or ops index d) (omega arith) there in (
+          rw (add-one index) (opened ∙ ap (open_after (slice_index_or ops index d)) so_far.0 ∙ open_now),
+          λ before op below at. elim (leb_tells index before) [
+            | inl w ↦ let same : before ≡ index = omega (arith, w.1) in let here : slice_index_or ops index d ≡ op = (let both_at : nth ops before ≡ Some (slice_index_or ops index d) = ap (nth ops) same ∙ there in cc) in rw (same, ← here) none
             | inr w ↦ so_far.1 before op w.1 at
           ],
-          goes_on (nests_well ops) ops (all_pass (nests_well ops) 0 ops) place (slice_index_or ops place d) within itself (sym none) so_far.2,
+          continues (nests_well ops) ops (all_pass (nests_well ops) 0 ops) index (slice_index_or ops index d) within itself (sym none) so_far.2,
         )

@@ -1,7 +1,7 @@
 -- What operators give, by the parts of a list's kind.
 use Rattle.std.proofs.Common.{◌≡◌, ℕ, Bool, true, false, Option, Some, None, option_map, refl}
 use Rattle.std.specs.Prelude.{◌||◌, if◌then◌else◌, option_and_then}
-use Rattle.ar_value.specs.Kind.{Kind, nil, shaped, plain, truth_kind}
+use Rattle.ar_value.specs.Kind.{Kind, nil, shaped, plain, boolean_kind}
 use Rattle.ar_value.specs.Shape.{Shape, bool, whole, decimal, text, list, object, optional}
 use Rattle.ar_value.specs.declared.operator.Scalar.TheVariants as scalars
 use Rattle.ar_safety.specs.Effects.{family_in, family_of, is_number, is_scalar_kind, item_kind, length_kind, member_kind, are_one_family, where_taken}
@@ -67,7 +67,7 @@ pub length_of_list : (of : Kind) (parts : Option (Shape × ℕ)) → parts ≡ l
 length_of_list of parts is = rw is (length_is of)
 
 member_is : (operand of : Kind)
-    → member_kind operand of ≡ option_and_then (λ parts. where_taken (are_one_family (family_in operand) (family_of (plain parts.0))) truth_kind) (list_in of)
+    → member_kind operand of ≡ option_and_then (λ parts. where_taken (are_one_family (family_in operand) (family_of (plain parts.0))) boolean_kind) (list_in of)
 member_is operand nil = refl
 member_is operand (shaped bool) = refl
 member_is operand (shaped whole) = refl
@@ -78,7 +78,7 @@ member_is operand (shaped (object inside)) = refl
 member_is operand (shaped (optional shape)) = refl
 
 pub member_of_list : (operand of : Kind) (parts : Option (Shape × ℕ)) → parts ≡ list_in of
-    → member_kind operand of ≡ option_and_then (λ parts. where_taken (are_one_family (family_in operand) (family_of (plain parts.0))) truth_kind) parts
+    → member_kind operand of ≡ option_and_then (λ parts. where_taken (are_one_family (family_in operand) (family_of (plain parts.0))) boolean_kind) parts
 member_of_list operand of parts is = rw is (member_is operand of)
 
 number_is : (kind : Kind) → is_number kind ≡ (is_scalar_kind scalars.Whole kind || is_scalar_kind scalars.Decimal kind)

@@ -116,8 +116,8 @@ plain_merge left right h = rw h refl
 pub optional_merge : (left right : Shape) → (is_optional left || is_optional right) ≡ true → option_map shaped (option_map optional (widest (plain left) (plain right))) ≡ merge (shaped left) (shaped right)
 optional_merge left right h = rw h refl
 
-pub nil_beside : (of shape : Shape) → option_map shaped (option_map optional (widest of (plain shape))) ≡ merge (shaped shape) (shaped (optional of))
-nil_beside of shape = merge_either_way (shaped (optional of)) (shaped shape)
+pub nil_next_to : (of shape : Shape) → option_map shaped (option_map optional (widest of (plain shape))) ≡ merge (shaped shape) (shaped (optional of))
+nil_next_to of shape = merge_either_way (shaped (optional of)) (shaped shape)
 
 -- ---- the parts of two shapes together
 

@@ -17,25 +17,25 @@ use Rattle.ar_verify.specs.declared.whole.ShapeName as ShapeName
 
 -- ---- in memory
 
-module _ {M : Type 0} {name : ShapeName.Ghosts M} (arrived : List (Result (held.Operands M name) Reason)) (place : ℕ) where
-  pub entry_is : (taken : Result (held.Operands M name) Reason) → place < length arrived → taken ≡ slice_index_or arrived place taken → entry (table_view arrived) place ≡ arrival_view taken
-  entry_is taken within is = get_or-map arrival_view arrived place taken (Err Unreachable) within ∙ ap arrival_view (sym is)
+module _ {M : Type 0} {name : ShapeName.Ghosts M} (arrived : List (Result (held.Operands M name) Reason)) (index : ℕ) where
+  pub entry_is : (taken : Result (held.Operands M name) Reason) → index < length arrived → taken ≡ slice_index_or arrived index taken → entry (table_view arrived) index ≡ arrival_view taken
+  entry_is taken within is = get_or-map arrival_view arrived index taken (Err Unreachable) within ∙ ap arrival_view (sym is)
 
-  pub taken_away : without (table_view arrived) place ≡ table_view (slice_set arrived place (Err Unreachable))
-  taken_away = sym (map-set arrival_view arrived place (Err Unreachable))
+  pub taken_away : without (table_view arrived) index ≡ table_view (slice_set arrived index (Err Unreachable))
+  taken_away = sym (map-set arrival_view arrived index (Err Unreachable))
 
-  pub put_there : (left : List (Result (held.Operands M name) Reason)) (put : Result (held.Operands M name) Reason) → table_view left ≡ without (table_view arrived) place
-      → table_view (slice_set left place put) ≡ slice_set (table_view arrived) place (arrival_view put)
-  put_there left put is = map-set arrival_view left place put ∙ ap (λ table. slice_set table place (arrival_view put)) is ∙ set-set (table_view arrived) place (Err Unreachable) (arrival_view put)
+  pub put_there : (left : List (Result (held.Operands M name) Reason)) (put : Result (held.Operands M name) Reason) → table_view left ≡ without (table_view arrived) index
+      → table_view (slice_set left index put) ≡ slice_set (table_view arrived) index (arrival_view put)
+  put_there left put is = map-set arrival_view left index put ∙ ap (λ table. slice_set table index (arrival_view put)) is ∙ set-set (table_view arrived) index (Err Unreachable) (arrival_view put)
 
 -- a table of n indexes, made index by index
 module _ {M : Type 0} {name : ShapeName.Ghosts M} (arrived after : List (Result (held.Operands M name) Reason)) where
-  pub one_place : (had : held.Operands M name) → arrived ≡ [] → after ≡ arrived ++ Ok had ∷ [] → operands_view had ≡ operands [] [] → table_view after ≡ Ok (operands [] []) ∷ replicate 0 (Err Unreachable)
-  one_place had none longer is = rw (longer, none) (ap (λ had. Ok had ∷ []) is)
+  pub one_index : (had : held.Operands M name) → arrived ≡ [] → after ≡ arrived ++ Ok had ∷ [] → operands_view had ≡ operands [] [] → table_view after ≡ Ok (operands [] []) ∷ replicate 0 (Err Unreachable)
+  one_index had none longer is = rw (longer, none) (ap (λ had. Ok had ∷ []) is)
 
-  pub one_place_more : (count : ℕ) → after ≡ arrived ++ Err Unreachable ∷ [] → table_view arrived ≡ Ok (operands [] []) ∷ replicate count (Err Unreachable)
+  pub one_index_more : (count : ℕ) → after ≡ arrived ++ Err Unreachable ∷ [] → table_view arrived ≡ Ok (operands [] []) ∷ replicate count (Err Unreachable)
       → table_view after ≡ Ok (operands [] []) ∷ replicate (count + 1) (Err Unreachable)
-  one_place_more count longer so_far =
+  one_index_more count longer so_far =
       rw longer (map-append arrival_view arrived (Err Unreachable ∷ []) ∙ ap (λ before. before ++ Err Unreachable ∷ []) so_far ∙ ap (λ rest. Ok (operands [] []) ∷ rest) (replicate-append-replicate count 1 (Err Unreachable)))
 
 -- all that an operation sends on is added

@@ -14,8 +14,8 @@ use Rattle.ar_op.specs.declared.op.Op.{Op}
 use Rattle.ar_op.specs.declared.op.Op.TheVariants as ops
 use Rattle.ar_safety.specs.Arrivals.{Around, Operands, Sent, answer_kind, innermost_shape, lacks, sent, where_shallow}
 use Rattle.ar_safety.specs.Effects.{kinds_left}
-use Rattle.ar_safety.specs.Places.{ends_loop, forward, names_well, unless}
-use Rattle.ar_verify.specs.Private.Sending.{around, ending, going_on, jumping, kept_or_taken, list_taken, passed_by, sends_by, truth_taken}
+use Rattle.ar_safety.specs.Indices.{ends_loop, forward, names_well, unless}
+use Rattle.ar_verify.specs.Private.Sending.{around, ending, going_on, jumping, kept_or_taken, list_taken, passed_by, sends_by, boolean_taken}
 use Rattle.ar_verify.specs.Private.Table.{StaysWithin}
 use Rattle.ar_safety.specs.declared.error.Reason.{Reason}
 use Rattle.ar_safety.specs.declared.error.Reason.TheVariants.{MissingOperand, UnpairedLoop}
@@ -51,14 +51,14 @@ module _ (count : ℕ) where
   module _ (code : Code) (result : Shape) (next : ℕ) (inside : next < count) where
     keeps_or_takes : (target : ℕ) (kinds : List Kind) (loops : List Around) (more : List Sent) → target < count → kept_or_taken next target kinds loops ≡ Ok more → Within more
     keeps_or_takes target kinds loops more within is =
-        let taken = bound (truth_taken kinds) (λ taken. Ok (sent target kinds loops ∷ sent next taken loops ∷ [])) more is in
+        let taken = bound (boolean_taken kinds) (λ taken. Ok (sent target kinds loops ∷ sent next taken loops ∷ [])) more is in
         ok_within (sent target kinds loops ∷ sent next taken.0 loops ∷ []) more (within, (inside, tt)) taken.2
 
     jump_within : (jump : Jump) (target : ℕ) (kinds : List Kind) (loops : List Around) (more : List Sent) → target < count → jumping jump next target kinds loops ≡ Ok more → Within more
     jump_within jumps.And target kinds loops more within is = keeps_or_takes target kinds loops more within is
     jump_within jumps.Or target kinds loops more within is = keeps_or_takes target kinds loops more within is
     jump_within jumps.Branch target kinds loops more within is =
-        let taken = bound (truth_taken kinds) (λ taken. Ok (sent target taken loops ∷ sent next taken loops ∷ [])) more is in
+        let taken = bound (boolean_taken kinds) (λ taken. Ok (sent target taken loops ∷ sent next taken loops ∷ [])) more is in
         ok_within (sent target taken.0 loops ∷ sent next taken.0 loops ∷ []) more (within, (inside, tt)) taken.2
     jump_within jumps.Always target kinds loops more within is = ok_within (sent target kinds loops ∷ []) more (within, tt) is
 
@@ -68,10 +68,10 @@ module _ (count : ℕ) where
         let taken = bound (list_taken kinds) (λ taken. Ok (sent next [] (around taken ∷ loops) ∷ sent (step + 1) (answer_kind predicate taken.0.0 taken.0.1 ∷ taken.1) loops ∷ [])) more is in
         ok_within (sent next [] (around taken.0 ∷ loops) ∷ sent (step + 1) (answer_kind predicate taken.0.0.0 taken.0.0.1 ∷ taken.0.1) loops ∷ []) more (inside, (within, tt)) taken.2
     passed_within (ops.Step predicate enter) kinds loops more within is =
-        let taken = bound (truth_taken kinds) (λ taken. ending predicate next taken loops) more is in
+        let taken = bound (boolean_taken kinds) (λ taken. ending predicate next taken loops) more is in
         ending_within predicate next taken.0 loops more inside taken.2
     passed_within ops.Return kinds loops more within is =
-        let taken = bound (truth_taken kinds) (λ taken. Ok []) more is in
+        let taken = bound (boolean_taken kinds) (λ taken. Ok []) more is in
         ok_within [] more tt taken.2
     passed_within op kinds loops more within is = going_within next loops (kinds_left code result (innermost_shape loops) op kinds) more inside is
 
@@ -83,13 +83,13 @@ module _ (count : ℕ) where
 
 -- ---- operations that name indexes well
 
-module _ (all : List Op) (place : ℕ) where
-  ahead : (target : ℕ) → forward all place target ≡ None → target < suc (length all)
-  ahead target well = let inside = (is_ahead all place target well).1 in omega arith
+module _ (all : List Op) (index : ℕ) where
+  ahead : (target : ℕ) → forward all index target ≡ None → target < suc (length all)
+  ahead target well = let inside = (is_ahead all index target well).1 in omega arith
 
-  pub stays_within : (op : Op) → names_well all place op ≡ None → StaysWithin (suc (length all)) op
+  pub stays_within : (op : Op) → names_well all index op ≡ None → StaysWithin (suc (length all)) op
   stays_within (ops.Jump jump target) well = ahead target well
   stays_within (ops.Enter predicate step) well =
-      let each = none_of_both (forward all place step) (unless (ends_loop predicate place (nth all step)) UnpairedLoop) well in
-      let inside = (is_ahead all place step each.0).1 in omega arith
+      let each = none_of_both (forward all index step) (unless (ends_loop predicate index (nth all step)) UnpairedLoop) well in
+      let inside = (is_ahead all index step each.0).1 in omega arith
   stays_within op well = tt

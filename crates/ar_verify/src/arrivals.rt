@@ -8,12 +8,12 @@ ghost use Rattle.ar_value.specs.View.{shape_view};
 ghost use Rattle.ar_safety.specs.Arrivals.{operands};
 ghost use Rattle.ar_safety.specs.Budget.{most_on_top};
 ghost use Rattle.ar_safety.specs.Memory.{is_memory};
-ghost use Rattle.ar_safety.specs.Places.{all_pass, names_well};
+ghost use Rattle.ar_safety.specs.Indices.{all_pass, names_well};
 ghost use Rattle.ar_verify.specs.Private.Failures.{Meets};
 ghost use Rattle.ar_verify.specs.Private.Held.{arrival_view, operands_view};
 ghost use Rattle.ar_verify.specs.Private.Sending.{sends_view, sent_view};
 ghost use Rattle.ar_verify.specs.Private.Stacks.{from_top};
-ghost use Rattle.ar_verify.specs.Private.Table.{ComesTo, StaysWithin, added, entry, place_added, one_more, pass_view, summary_view, summed_up, table_view, with_all, with_one, without};
+ghost use Rattle.ar_verify.specs.Private.Table.{ComesTo, StaysWithin, added, entry, index_added, one_more, pass_view, summary_view, summed_up, table_view, with_all, with_one, without};
 ghost use Rattle.ar_safety.specs.declared.error.Reason.TheVariants.{Unreachable};
 
 use crate::failure::Failure;
@@ -76,16 +76,16 @@ fn table<M: ShapeName>(
     Ok(arrived)
 }
 
-/// Takes what arrived at `place`.
+/// Takes what arrived at `index`.
 fn take<M: ShapeName>(
     arrived: &mut [Result<Operands<M>, Reason>],
-    place: usize,
+    index: usize,
 ) -> Result<Operands<M>, Reason>
-    requires { place < length arrived.old }
-    ensures taken { arrival_view result ≡ entry (table_view arrived.old) place }
-    ensures left { table_view arrived.new ≡ without (table_view arrived.old) place }
+    requires { index < length arrived.old }
+    ensures taken { arrival_view result ≡ entry (table_view arrived.old) index }
+    ensures left { table_view arrived.new ≡ without (table_view arrived.old) index }
 {
-    mem::replace(&mut arrived[place], Err(Reason::Unreachable))
+    mem::replace(&mut arrived[index], Err(Reason::Unreachable))
 }
 
 /// What arrived somewhere, and one more after it.
@@ -186,23 +186,23 @@ impl<M: ShapeName> Pass<M> {
         Ok(send_all(alloc, &mut self.arrived, sends)?)
     }
 
-    /// Visits the operation at `place`, which the pass has reached.
+    /// Visits the operation at `index`, which the pass has reached.
     fn look_at(
         &mut self,
         alloc: Global,
         code: &Code,
         measured: &Whole<M>,
-        place: usize,
+        index: usize,
         op: Op,
     ) -> Result<(), Failure>
-        requires inside { place + 1 < length self.old.arrived.items }
+        requires inside { index + 1 < length self.old.arrived.items }
         requires targets { StaysWithin (length self.old.arrived.items) op }
         ensures { Meets (λ _. pass_view self.new) result
-            (place_added code.now (shape_view M.shape) place op (pass_view self.old)) }
+            (index_added code.now (shape_view M.shape) index op (pass_view self.old)) }
     {
-        let had = take(&mut self.arrived, place)?;
+        let had = take(&mut self.arrived, index)?;
         self.found.note_items(most_on_top(&had.kinds))?;
-        self.add(alloc, code, measured, place + 1, op, had)
+        self.add(alloc, code, measured, index + 1, op, had)
     }
 }
 
@@ -214,15 +214,15 @@ fn find_named<M: ShapeName>(
     shape: &SharedShape,
 ) -> Result<Arrivals, Cause>
     requires shape { shape.now ≡ M.shape }
-    requires places { all_pass (names_well code.now.ops) 0 code.now.ops ≡ Ok tt }
+    requires indices { all_pass (names_well code.now.ops) 0 code.now.ops ≡ Ok tt }
     ensures { Gives is_memory summary_view result (summed_up code.now (shape_view M.shape)) }
 {
     let ops = code.ops();
     let measured: Whole<M> = Whole::new(alloc, shape)?;
     let mut pass = Pass::begin(alloc, ops.len())?;
-    for (place, op) in ops.iter().enumerate() {
-        if let Err(failure) = pass.look_at(alloc, code, &measured, place, *op) {
-            return Err(failure.at(place));
+    for (index, op) in ops.iter().enumerate() {
+        if let Err(failure) = pass.look_at(alloc, code, &measured, index, *op) {
+            return Err(failure.at(index));
         }
     }
     Ok(pass.found)

@@ -13,7 +13,7 @@ use std::alloc::{AllocError, Global};
 /// What all costs above the greatest budget count as. Where a part of code is too expensive, so is the
 /// code, unless the part is in a loop over no items, which then costs nothing of it. So this changes
 /// no budget that is accepted.
-const TOO_DEAR: u64 = GREATEST_BUDGET + 1;
+const TOO_EXPENSIVE: u64 = GREATEST_BUDGET + 1;
 
 /// Whether code of a budget is accepted.
 pub(crate) fn is_payable(budget: u64) -> bool
@@ -30,41 +30,41 @@ fn cost_by_next(op: Op, most: u64, next: u64) -> u64
         Op::Binary(BinaryOperator::IsIn) => most.saturating_add(1),
         _ => 1,
     };
-    price.saturating_add(next).min(TOO_DEAR)
+    price.saturating_add(next).min(TOO_EXPENSIVE)
 }
 
 /// The cost of a jump and of what follows at its target.
 fn cost_by_jump(target: u64) -> u64
     ensures { result ≡ cost_by_jump target }
 {
-    target.saturating_add(1).min(TOO_DEAR)
+    target.saturating_add(1).min(TOO_EXPENSIVE)
 }
 
 /// The cost of a loop over at most `most` items, of a body of such a cost, and of what follows it.
-fn cost_by_loop(most: u64, body: u64, behind: u64) -> u64
-    ensures { result ≡ cost_by_loop most body behind }
+fn cost_by_loop(most: u64, body: u64, later: u64) -> u64
+    ensures { result ≡ cost_by_loop most body later }
 {
     most.saturating_mul(body)
-        .saturating_add(behind)
+        .saturating_add(later)
         .saturating_add(1)
-        .min(TOO_DEAR)
+        .min(TOO_EXPENSIVE)
 }
 
-/// The cost of the most expensive way from `place`, by those of the indexes after it.
-fn cost_by(costs: &[u64], place: usize, most: u64, op: Op) -> u64
-    requires { LeadsInside (length costs.now) place op }
-    ensures { result ≡ cost_by costs.now place most op }
+/// The cost of the most expensive way from `index`, by those of the indexes after it.
+fn cost_by(costs: &[u64], index: usize, most: u64, op: Op) -> u64
+    requires { LeadsInside (length costs.now) index op }
+    ensures { result ≡ cost_by costs.now index most op }
 {
     match op {
         Op::Jump(Jump::Always, target) => cost_by_jump(costs[target as usize]),
         Op::Jump(_, target) => {
-            let goes_on = cost_by_next(op, most, costs[place + 1]);
+            let continues = cost_by_next(op, most, costs[index + 1]);
             let jumps = cost_by_jump(costs[target as usize]);
-            goes_on.max(jumps)
+            continues.max(jumps)
         }
-        Op::Enter(_, step) => cost_by_loop(most, costs[place + 1], costs[step as usize + 1]),
+        Op::Enter(_, step) => cost_by_loop(most, costs[index + 1], costs[step as usize + 1]),
         Op::Step(..) | Op::Return => 1,
-        _ => cost_by_next(op, most, costs[place + 1]),
+        _ => cost_by_next(op, most, costs[index + 1]),
     }
 }
 
@@ -78,13 +78,13 @@ fn costs(alloc: Global, code: &Code, most: &[usize]) -> Result<Vec<u64>, AllocEr
 {
     let ops = code.ops();
     let mut costs = vec![in alloc; 0; ops.len()]?;
-    for place in (0..ops.len()).rev() {
-        costs[place] = cost_by(&costs, place, most[place] as u64, ops[place]);
+    for index in (0..ops.len()).rev() {
+        costs[index] = cost_by(&costs, index, most[index] as u64, ops[index]);
     }
     Ok(costs)
 }
 
-/// What a run may cost at most, or [`TOO_DEAR`], where for each index it is known how many items the
+/// What a run may cost at most, or [`TOO_EXPENSIVE`], where for each index it is known how many items the
 /// list on top may have that arrives there.
 pub(crate) fn budget(alloc: Global, code: &Code, most: &[usize]) -> Result<u64, AllocError>
     requires passed { HasPassed code.now }

@@ -36,11 +36,11 @@ impl Failure {
     ghost use Rattle.std.specs.Prelude.{◌≡◌};
     ghost use Rattle.ar_verify.specs.Private.Failures.{cause_at};
 
-    pub(crate) fn at(self, place: usize) -> Cause
-        ensures { result ≡ cause_at place self }
+    pub(crate) fn at(self, index: usize) -> Cause
+        ensures { result ≡ cause_at index self }
     {
         match self {
-            Failure::Fault(reason) => Cause::Fault { place, reason },
+            Failure::Fault(reason) => Cause::Fault { index, reason },
             Failure::OutOfMemory => Cause::OutOfMemory,
         }
     }

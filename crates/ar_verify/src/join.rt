@@ -301,11 +301,11 @@ fn are_fields_alike(shapes: &[Shape], names: &[Text], others: &[Shape], of: &[Te
     if count != of.len().min(others.len()) {
         return false;
     }
-    for place in 0..count {
-        if names[place] != of[place] {
+    for index in 0..count {
+        if names[index] != of[index] {
             return false;
         }
-        if !is_alike(&shapes[place], &others[place]) {
+        if !is_alike(&shapes[index], &others[index]) {
             return false;
         }
     }

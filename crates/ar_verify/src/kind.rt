@@ -30,7 +30,7 @@ pub(crate) enum Kind<M: ShapeName> {
 }
 
 impl<M: ShapeName> ListShape<M> {
-    /// The same once more.
+    /// The same shape for one owner more, which is refused only where there are more than can be counted.
     pub(crate) fn share(&self) -> Result<ListShape<M>, AllocError>
         ensures { IfOk result (λ shared. list_view shared ≡ list_view self.now) }
     {
@@ -48,7 +48,7 @@ impl<M: ShapeName> Kind<M> {
         Ok(Kind::Shape(Parts::made(alloc, shape)?))
     }
 
-    /// The same kind once more, and the same shape.
+    /// The same kind, whose shape has one owner more; refused only where there are more than can be counted.
     pub(crate) fn share(&self) -> Result<Kind<M>, AllocError>
         ensures { IfOk result (λ shared. parts_kind shared ≡ parts_kind self.now) }
     {
@@ -226,7 +226,7 @@ pub(crate) fn family_of(shape: &Shape) -> Option<Family>
     ensures { result ≡ family_of (shape_view shape.now) }
 {
     match shape {
-        Shape::Bool => Some(Family::Truth),
+        Shape::Bool => Some(Family::Boolean),
         Shape::Whole | Shape::Decimal => Some(Family::Number),
         Shape::Text => Some(Family::Text),
         Shape::List { .. } | Shape::Object(_) | Shape::Optional(_) => None,

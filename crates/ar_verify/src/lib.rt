@@ -6,7 +6,7 @@
 //! result.
 //!
 //! - `verifier`: the passes, one after the other
-//! - `places`: whether the indexes that operations name are as they should be; `loops`: whether loops
+//! - `indices`: whether the indexes that operations name are as they should be; `loops`: whether loops
 //!   are nested
 //! - `whole`: the shape of the measured value; `path`: parts of shapes, by the way to them in the whole
 //! - `parts`, `list`: the shapes of operands, which are those of joined parts; `join`: how they join,
@@ -21,6 +21,7 @@ mod arrivals;
 mod budget;
 mod effect;
 mod failure;
+mod indices;
 mod join;
 mod kind;
 mod list;
@@ -29,7 +30,6 @@ mod operands;
 mod operators;
 mod parts;
 mod path;
-mod places;
 mod sending;
 mod stack;
 mod verifier;

@@ -7,19 +7,19 @@
 ghost use Rattle.std.specs.Prelude.{◌≡◌, ◌<◌, length, IfOk, Ok};
 ghost use Rattle.ar_value.specs.Answer.{Gives};
 ghost use Rattle.ar_safety.specs.Memory.{is_memory};
-ghost use Rattle.ar_safety.specs.Places.{all_pass, names_well, nests_well};
-ghost use Rattle.ar_verify.specs.Private.Depths.{depth_behind, depths, is_inside, last_of, nests_by, open_behind, stays_by, JumpsInside};
+ghost use Rattle.ar_safety.specs.Indices.{all_pass, names_well, nests_well};
+ghost use Rattle.ar_verify.specs.Private.Depths.{depth_after, depths, is_inside, last_of, nests_by, open_after, stays_by, JumpsInside};
 
-use crate::places::unless;
+use crate::indices::unless;
 use ar_op::op::Op;
 use ar_safety::{Cause, Reason};
 use ar_value::limits::MOST_LOOPS;
 use std::alloc::{AllocError, Global};
 
 /// How many loops are around the index after an operation.
-fn depth_behind(op: Op, depth: usize) -> usize
+fn depth_after(op: Op, depth: usize) -> usize
     requires { depth < usize.MAX }
-    ensures { result ≡ depth_behind op depth }
+    ensures { result ≡ depth_after op depth }
 {
     match op {
         Op::Enter(..) => depth + 1,
@@ -36,7 +36,7 @@ fn depths(alloc: Global, ops: &[Op]) -> Result<Vec<usize>, AllocError>
     let mut depth = 0;
     for op in ops {
         around.push(depth)?;
-        depth = depth_behind(*op, depth);
+        depth = depth_after(*op, depth);
     }
     Ok(around)
 }
@@ -48,40 +48,40 @@ fn innermost(steps: &[usize]) -> Option<usize>
     steps.last().copied()
 }
 
-/// Whether `place` is inside the innermost loop, by its Step.
-fn is_inside(innermost: Option<usize>, place: usize) -> bool
-    ensures { result ≡ is_inside innermost place }
+/// Whether `index` is inside the innermost loop, by its Step.
+fn is_inside(innermost: Option<usize>, index: usize) -> bool
+    ensures { result ≡ is_inside innermost index }
 {
     match innermost {
         None => true,
-        Some(step) => place <= step,
+        Some(step) => index <= step,
     }
 }
 
-/// What is wrong with a jump from `place` to one further on.
-fn stays(around: &[usize], innermost: Option<usize>, place: usize, target: usize) -> Option<Reason>
-    requires from { place < length around.now }
+/// What is wrong with a jump from `index` to one further on.
+fn stays(around: &[usize], innermost: Option<usize>, index: usize, target: usize) -> Option<Reason>
+    requires from { index < length around.now }
     requires to { target < length around.now }
-    ensures { result ≡ stays_by around.now innermost place target }
+    ensures { result ≡ stays_by around.now innermost index target }
 {
-    let in_same_loops = is_inside(innermost, target) && around[place] == around[target];
+    let in_same_loops = is_inside(innermost, target) && around[index] == around[target];
     unless(in_same_loops, Reason::CrossesLoop)
 }
 
-/// What is wrong with the operation at `place`, by the loops around it.
-fn nests_well(around: &[usize], innermost: Option<usize>, place: usize, op: Op) -> Option<Reason>
-    requires from { place < length around.now }
+/// What is wrong with the operation at `index`, by the loops around it.
+fn nests_well(around: &[usize], innermost: Option<usize>, index: usize, op: Op) -> Option<Reason>
+    requires from { index < length around.now }
     requires to { JumpsInside (length around.now) op }
-    ensures { result ≡ nests_by around.now innermost place op }
+    ensures { result ≡ nests_by around.now innermost index op }
 {
     match op {
-        Op::Jump(_, target) => { stays(around, innermost, place, target as usize) }
+        Op::Jump(_, target) => { stays(around, innermost, index, target as usize) }
         Op::Enter(_, step) => {
-            let is_shallow = around[place] < MOST_LOOPS;
+            let is_shallow = around[index] < MOST_LOOPS;
             let ends_inside = is_inside(innermost, step as usize);
             unless(is_shallow, Reason::LoopsTooDeep).or(unless(ends_inside, Reason::CrossesLoop))
         }
-        Op::Return => unless(around[place] == 0, Reason::CrossesLoop),
+        Op::Return => unless(around[index] == 0, Reason::CrossesLoop),
         _ => None,
     }
 }
@@ -89,7 +89,7 @@ fn nests_well(around: &[usize], innermost: Option<usize>, place: usize, op: Op) 
 /// Opens the loop that an operation begins, or closes the one that it ends, in a list of the Steps
 /// of the open loops, the innermost of which is the last.
 fn open_or_close(steps: &mut Vec<usize>, op: Op) -> Result<(), AllocError>
-    ensures { IfOk result (λ _. steps.new.items ≡ open_behind op steps.old.items) }
+    ensures { IfOk result (λ _. steps.new.items ≡ open_after op steps.old.items) }
 {
     match op {
         Op::Enter(_, step) => steps.push(step as usize)?,
@@ -108,9 +108,9 @@ pub(crate) fn all_nest_well(alloc: Global, ops: &[Op]) -> Result<(), Cause>
 {
     let around = depths(alloc, ops)?;
     let mut steps = Vec::new(alloc);
-    for (place, op) in ops.iter().enumerate() {
-        if let Some(reason) = nests_well(&around, innermost(&steps), place, *op) {
-            return Err(Cause::Fault { place, reason });
+    for (index, op) in ops.iter().enumerate() {
+        if let Some(reason) = nests_well(&around, innermost(&steps), index, *op) {
+            return Err(Cause::Fault { index, reason });
         }
         open_or_close(&mut steps, *op)?;
     }

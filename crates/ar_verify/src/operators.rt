@@ -1,7 +1,7 @@
 //! What operators give of the kinds of their operands: nothing where they don't take these.
 
 ghost use Rattle.std.specs.Prelude.{◌≡◌, ◌&&◌, IfOk, option_map};
-ghost use Rattle.ar_value.specs.Kind.{plain, shaped, truth_kind};
+ghost use Rattle.ar_value.specs.Kind.{plain, shaped, boolean_kind};
 ghost use Rattle.ar_value.specs.Shape.{optional};
 ghost use Rattle.ar_value.specs.View.{shape_view};
 ghost use Rattle.ar_safety.specs.Effects.{decimal_kind, decimal_shape, family_in, family_of, is_scalar_kind, binary_kind, decimals_kind, default_kind, equal_kind, field_kind, is_compared, is_family, is_number, item_kind, length_kind, member_kind, needed_kind, negative_kind, are_one_family, opposite_kind, order_kind, quotient_kind, same_kind, unary_kind, where_taken, wholes_kind};

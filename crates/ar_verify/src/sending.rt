@@ -8,7 +8,7 @@ ghost use Rattle.ar_safety.specs.Effects.{kinds_left};
 ghost use Rattle.ar_verify.specs.Private.Failures.{Meets};
 ghost use Rattle.ar_verify.specs.Private.Held.{around_view, counted, from_innermost, operands_view};
 ghost use Rattle.ar_verify.specs.Private.Kinds.{parts_kind, list_view};
-ghost use Rattle.ar_verify.specs.Private.Sending.{around, beginning, begun, branched, ending, given_on_top, going_on, jumping, kept_or_taken, list_taken, only_truth, passed_by, or_ill_kinded, returning, sends_by, sends_view, stepping, truth_taken};
+ghost use Rattle.ar_verify.specs.Private.Sending.{around, beginning, begun, branched, ending, given_on_top, going_on, jumping, kept_or_taken, list_taken, only_boolean, passed_by, or_ill_kinded, returning, sends_by, sends_view, stepping, boolean_taken};
 ghost use Rattle.ar_verify.specs.Private.Shapes.{list_of};
 ghost use Rattle.ar_verify.specs.Private.Stacks.{from_top};
 
@@ -45,8 +45,8 @@ pub(crate) enum Sends<M: ShapeName> {
 }
 
 /// Takes a boolean.
-fn take_truth<M: ShapeName>(kinds: &mut Vec<Kind<M>>) -> Result<(), Failure>
-    ensures { Meets (λ _. from_top kinds.new.items) result (truth_taken (from_top kinds.old.items)) }
+fn take_boolean<M: ShapeName>(kinds: &mut Vec<Kind<M>>) -> Result<(), Failure>
+    ensures { Meets (λ _. from_top kinds.new.items) result (boolean_taken (from_top kinds.old.items)) }
 {
     if takes_scalar(Scalar::Bool, kinds) {
         Ok(())
@@ -119,7 +119,7 @@ fn keep_or_take<M: ShapeName>(
         (kept_or_taken next target (operands_view had).kinds (operands_view had).loops) }
 {
     let kept = had.copy(alloc)?;
-    take_truth(&mut had.kinds)?;
+    take_boolean(&mut had.kinds)?;
     Ok(Sends::Two(
         Sent {
             target: target as usize,
@@ -142,7 +142,7 @@ fn branch<M: ShapeName>(
     ensures { Meets sends_view result
         (branched next target (operands_view had).kinds (operands_view had).loops) }
 {
-    take_truth(&mut had.kinds)?;
+    take_boolean(&mut had.kinds)?;
     let taken = had.copy(alloc)?;
     Ok(Sends::Two(
         Sent {
@@ -195,7 +195,7 @@ fn inside<M: ShapeName>(
 }
 
 /// Operands after a loop over a list, with its answer on top.
-fn behind<M: ShapeName>(
+fn later<M: ShapeName>(
     alloc: Global,
     predicate: Predicate,
     list: &ListShape<M>,
@@ -221,7 +221,7 @@ fn skip_loop<M: ShapeName>(
         (operands_view had.now).loops) }
 {
     let Operands { kinds, loops } = had.copy(alloc)?;
-    let kinds = behind(alloc, predicate, list, kinds)?;
+    let kinds = later(alloc, predicate, list, kinds)?;
     Ok(Operands { kinds, loops })
 }
 
@@ -230,12 +230,12 @@ fn begin_loop<M: ShapeName>(
     alloc: Global,
     predicate: Predicate,
     next: usize,
-    behind: usize,
+    later: usize,
     list: ListShape<M>,
     had: Operands<M>,
 ) -> Result<Sends<M>, AllocError>
     ensures { IfOk result (λ sends. sends_view sends
-        ≡ begun predicate next behind (list_view list, (operands_view had).kinds) (operands_view had).loops) }
+        ≡ begun predicate next later (list_view list, (operands_view had).kinds) (operands_view had).loops) }
 {
     let skipped = skip_loop(alloc, predicate, &list, &had)?;
     let body = inside(alloc, list, had)?;
@@ -245,7 +245,7 @@ fn begin_loop<M: ShapeName>(
             operands: body,
         },
         Sent {
-            target: behind,
+            target: later,
             operands: skipped,
         },
     ))
@@ -268,10 +268,10 @@ fn enter<M: ShapeName>(
 
 /// Takes the boolean of a loop's body, which has to be alone above the floor.
 fn take_answer<M: ShapeName>(mut kinds: Vec<Kind<M>>) -> Result<(), Failure>
-    ensures exact { Meets (λ _. []) result (only_truth (from_top kinds.items)) }
-    ensures taken { OnOk result (truth_taken (from_top kinds.items) ≡ Ok []) }
+    ensures exact { Meets (λ _. []) result (only_boolean (from_top kinds.items)) }
+    ensures taken { OnOk result (boolean_taken (from_top kinds.items) ≡ Ok []) }
 {
-    take_truth(&mut kinds)?;
+    take_boolean(&mut kinds)?;
     if kinds.is_empty() {
         Ok(())
     } else {
@@ -289,7 +289,7 @@ fn end_loop<M: ShapeName>(
     ensures { Meets sends_view result (ending predicate next [] (from_innermost loops.items)) }
 {
     let Around { list, below } = pop_loop(&mut loops).ok_or(Reason::BadMerge)?;
-    let kinds = behind(alloc, predicate, &list, below)?;
+    let kinds = later(alloc, predicate, &list, below)?;
     Ok(Sends::One(Sent {
         target: next,
         operands: Operands { kinds, loops },
@@ -314,7 +314,7 @@ fn step<M: ShapeName>(
 fn answer<M: ShapeName>(mut had: Operands<M>) -> Result<Sends<M>, Failure>
     ensures { Meets sends_view result (returning (operands_view had).kinds) }
 {
-    take_truth(&mut had.kinds)?;
+    take_boolean(&mut had.kinds)?;
     Ok(Sends::Nothing)
 }
 

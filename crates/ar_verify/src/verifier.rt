@@ -11,7 +11,7 @@ ghost use Rattle.ar_safety.specs.declared.error.Reason.TheVariants.{BudgetTooLar
 
 use crate::arrivals::find_arrivals;
 use crate::budget::{budget, is_payable};
-use crate::places::check_places;
+use crate::indices::check_indices;
 use ar_op::code::Code;
 use ar_safety::{Cause, Reason, Refused, Verified};
 use ar_value::shared_shape::SharedShape;
@@ -33,7 +33,7 @@ fn unless_too_large(budget: u64, depth: usize) -> Result<Bounds, Cause>
         Ok(Bounds { budget, depth })
     } else {
         Err(Cause::Fault {
-            place: 0,
+            index: 0,
             reason: Reason::BudgetTooLarge,
         })
     }
@@ -44,7 +44,7 @@ fn check(alloc: Global, code: &Code, shape: &SharedShape) -> Result<Bounds, Caus
     ensures refused { IfErr result (IsCause code.now (shape_view shape.now)) }
     ensures code { IsCode code.now }
 {
-    check_places(alloc, code.ops())?;
+    check_indices(alloc, code.ops())?;
     let arrivals = find_arrivals(alloc, code, shape)?;
     let budget = budget(alloc, code, &arrivals.most_items)?;
     unless_too_large(budget, arrivals.depth)

@@ -33,18 +33,18 @@ from_first (item ∷ items) = by (item_name item) (from_first items) where
   by (Some name) rest = ap (λ rest. quoted name ++ rest) (after_others items)
 
 -- one more name comes after those that were written
-pub next_name : (items : List Value) (place : ℕ) (item : Value) (listed : Bool) (written total : List ℕ) → place < length items → item ≡ slice_index_or items place item
-    → written ++ names_after listed (map (λ item. view item) (drop place items)) ≡ total
-    → (written ++ name_listed listed (item_name (view item))) ++ names_after (listed || is_some (item_name (view item))) (map (λ item. view item) (drop (place + 1) items)) ≡ total
-next_name items place item listed written total within is so_far =
-    let left : drop place items ≡ item ∷ drop (suc place) items = drop-cons items place item within ∙ ap (λ first. first ∷ drop (suc place) items) (sym is) in
-    rw (add-one place)
-    (append_assoc written (name_listed listed (item_name (view item))) (names_after (listed || is_some (item_name (view item))) (map (λ item. view item) (drop (suc place) items)))
+pub next_name : (items : List Value) (offset : ℕ) (item : Value) (listed : Bool) (written total : List ℕ) → offset < length items → item ≡ slice_index_or items offset item
+    → written ++ names_after listed (map (λ item. view item) (drop offset items)) ≡ total
+    → (written ++ name_listed listed (item_name (view item))) ++ names_after (listed || is_some (item_name (view item))) (map (λ item. view item) (drop (offset + 1) items)) ≡ total
+next_name items offset item listed written total within is so_far =
+    let left : drop offset items ≡ item ∷ drop (suc offset) items = drop-cons items offset item within ∙ ap (λ first. first ∷ drop (suc offset) items) (sym is) in
+    rw (add-one offset)
+    (append_assoc written (name_listed listed (item_name (view item))) (names_after (listed || is_some (item_name (view item))) (map (λ item. view item) (drop (suc offset) items)))
     ∙ ap (λ items. written ++ names_after listed (map (λ item. view item) items)) (sym left) ∙ so_far)
 
-pub no_name : (items : List Value) (place : ℕ) (listed : Bool) (written before : List ℕ) → length items ≤ place
-    → written ++ names_after listed (map (λ item. view item) (drop place items)) ≡ before ++ names_after false (map (λ item. view item) items)
+pub no_name : (items : List Value) (offset : ℕ) (listed : Bool) (written before : List ℕ) → length items ≤ offset
+    → written ++ names_after listed (map (λ item. view item) (drop offset items)) ≡ before ++ names_after false (map (λ item. view item) items)
     → written ≡ before ++ names_listed (map (λ item. view item) items)
-no_name items place listed written before past so_far =
+no_name items offset listed written before past so_far =
     sym (append-nil written) ∙ ap (λ items. written ++ names_after listed (map (λ item. view item) items)) (sym (drop_of_length-le items past)) ∙ so_far
     ∙ ap (λ names. before ++ names) (from_first (map (λ item. view item) items))

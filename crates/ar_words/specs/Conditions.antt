@@ -22,15 +22,15 @@ use Rattle.ar_words.specs.Operands.{are_two, operands_said, refused_operands}
 -- ---- offsets
 
 -- the byte of a condition at which it is refused; one that is too long isn't quoted
-abbrev pub refused_place : BuildCause → Option ℕ
-refused_place (Grammar syntax.TooLong) = None
-refused_place (Grammar error) = syntax_refused_at error
-refused_place (Kinds error) = kinds_refused_at error
-refused_place cause = None
+abbrev pub refused_offset : BuildCause → Option ℕ
+refused_offset (Grammar syntax.TooLong) = None
+refused_offset (Grammar error) = syntax_refused_at error
+refused_offset (Kinds error) = kinds_refused_at error
+refused_offset cause = None
 
-abbrev pub token_in : (condition : Option Text) → (place : Option ℕ) → Option TokenAt
-token_in (Some condition) (Some place) = token_at place condition
-token_in condition place = None
+abbrev pub token_in : (condition : Option Text) → (offset : Option ℕ) → Option TokenAt
+token_in (Some condition) (Some offset) = token_at offset condition
+token_in condition offset = None
 
 -- ---- what operators take
 
@@ -79,7 +79,7 @@ after_name name words text = unwrap_or (option_map (λ cut. cut.0 ++ (name ++ wo
 
 abbrev pub unexpected : (token : Text) → Text
 unexpected [] = codes "the condition ends too early"
-unexpected (byte ∷ token) = codes "no condition goes on so"
+unexpected (byte ∷ token) = codes "no condition continues so"
 
 abbrev pub wrong_operand : TokenAt → Option Operands → Text
 wrong_operand found operands =
@@ -94,7 +94,8 @@ cause_words (Kinds (kinds.WrongOperand at)) found operands text =
 cause_words (Kinds (kinds.NotAList at)) found operands text =
     after_name (codes "NotAList: ") (codes "expected a list, as {\"list\":shape,\"max\":number} declares") text
 cause_words (Kinds (kinds.NoCommonKind at)) found operands text =
-    after_name (codes "NoCommonKind: ") (codes "expected one shape for all; \"whole\" goes beside \"decimal\"") text
+    after_name (codes "NoCommonKind: ")
+    (codes "expected one shape for all; \"whole\" and \"decimal\" have \"decimal\"") text
 cause_words cause found operands text = text
 
 -- Argo Rollouts' conversions
@@ -120,7 +121,7 @@ with_quote cause operands text (Some found) =
 -- a condition where `result` has a shape
 unfoldable pub condition_words : Option Shape → (condition : Option Text) → BuildCause → (text : Text) → Text
 condition_words shape condition cause text =
-    with_quote cause (refused_operands shape condition cause) text (token_in condition (refused_place cause))
+    with_quote cause (refused_operands shape condition cause) text (token_in condition (refused_offset cause))
 
 -- of a metric's condition, which is bound already
 unfoldable pub build_words : Option Shape → (condition : Option Text) → BuildError → (text : Text) → Text

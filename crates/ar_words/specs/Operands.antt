@@ -30,10 +30,10 @@ declaration_in document metric =
 
 -- ---- operands
 
-abbrev pub operands_in : Option Shape → (condition : Option Text) → (place : ℕ) → Option Operands
-operands_in (Some shape) (Some condition) place =
-    option_and_then (λ tree. operands_at shape tree place) (made (parse_of condition))
-operands_in shape condition place = None
+abbrev pub operands_in : Option Shape → (condition : Option Text) → (offset : ℕ) → Option Operands
+operands_in (Some shape) (Some condition) offset =
+    option_and_then (λ tree. operands_at shape tree offset) (made (parse_of condition))
+operands_in shape condition offset = None
 
 -- those of the operator at which a condition is refused
 abbrev pub refused_operands : Option Shape → (condition : Option Text) → BuildCause → Option Operands

@@ -34,15 +34,15 @@ in_place words None text = text
 in_place words (Some shown) text = unwrap_or (option_map (λ cut. cut.0 ++ (shown ++ cut.1)) (cut_at words text)) text
 
 -- an item's kind and number are followed by its name
-abbrev pub beside_item : (kind : Text) → (number : ℕ) → Option (List Data) → (text : Text) → Text
-beside_item kind number items text =
+abbrev pub next_to_item : (kind : Text) → (number : ℕ) → Option (List Data) → (text : Text) → Text
+next_to_item kind number items text =
     in_place (numbered kind number) (option_map (item_text kind number) (list_item number items)) text
 
-abbrev pub beside_metric : Data → (number : ℕ) → (text : Text) → Text
-beside_metric document number text = beside_item (codes "metric") number (metrics document) text
+abbrev pub next_to_metric : Data → (number : ℕ) → (text : Text) → Text
+next_to_metric document number text = next_to_item (codes "metric") number (metrics document) text
 
-abbrev pub beside_run : Data → (number : ℕ) → (text : Text) → Text
-beside_run document number text = beside_item (codes "run") number (runs document) text
+abbrev pub next_to_run : Data → (number : ℕ) → (text : Text) → Text
+next_to_run document number text = next_to_item (codes "run") number (runs document) text
 
 -- `spec.args` is replaced by the argument
 abbrev pub with_argument : Data → (number : ℕ) → (text : Text) → Text
@@ -79,38 +79,38 @@ template_words document (causes.BadArgs number) text = with_argument document nu
 template_words document (causes.UnknownDryRun number) text =
     with_names (text_at (codes "metricName") number (template_list (codes "dryRun") document)) (codes "metrics")
     (metrics document) text
-template_words document (causes.Unsupported number) text = beside_metric document number text
-template_words document (causes.DoubleMetric number) text = beside_metric document number text
+template_words document (causes.Unsupported number) text = next_to_metric document number text
+template_words document (causes.DoubleMetric number) text = next_to_metric document number text
 template_words document (causes.BadField number) text =
-    beside_metric document number
+    next_to_metric document number
     (found_after (codes "BadField: ") (option_and_then misfit (list_item number (metrics document))) text)
-template_words document (causes.OpenBraces number) text = beside_metric document number text
-template_words document (causes.IntervalMissing number) text = beside_metric document number text
+template_words document (causes.OpenBraces number) text = next_to_metric document number text
+template_words document (causes.IntervalMissing number) text = next_to_metric document number text
 template_words document cause text = text
 
 -- where the arguments of a run are bound
 abbrev pub bind_words : Data → (run : ℕ) → ManifestError → (text : Text) → Text
 bind_words document run (causes.UnknownArg metric) text =
     with_arguments document
-    (beside_metric document metric
+    (next_to_metric document metric
     (found_after (codes "UnknownArg: ")
     (option_map (reference_said (codes " in braces; expected args.NAME with a name of `spec.args`"))
     (unbound_of_run document run metric)) text))
 bind_words document run (causes.NoValue metric) text =
-    beside_metric document metric
+    next_to_metric document metric
     (found_after (codes "NoValue: ")
     (option_map (reference_said (codes " in braces has no value; expected one from the run or the template"))
     (unbound_of_run document run metric)) text)
 bind_words document run (causes.BadLimit metric) text =
-    beside_metric document metric
+    next_to_metric document metric
     (found_after (codes "BadLimit: ") (option_map limit_said (limit_in document run metric)) text)
 bind_words document run cause text = template_words document cause text
 
--- for a template that is the whole document, its place is reported
+-- for a template that is the whole document, the text says where it is
 abbrev pub with_place : Data → (text : Text) → Text
 with_place document text =
     if is_none (get (codes "manifest") document)
-    then text ++ codes "; the document has no member `manifest`, into which the template goes" else text
+    then text ++ codes "; the document has no member `manifest`, which takes the template" else text
 
 abbrev pub is_list_kind : (kind : Text) → Bool
 is_list_kind kind =
@@ -126,7 +126,7 @@ abbrev pub list_kind : Data → Option Text
 list_kind d = option_and_then (λ items. kind_of_list (text_member (codes "kind") d)) (list_in (codes "items") d)
 
 abbrev pub list_words : (kind : Text) → Text
-list_words kind = quoted kind ++ codes " is a list of templates; one of its `items` goes into `manifest`"
+list_words kind = quoted kind ++ codes " is a list of templates; `manifest` takes one of its `items`"
 
 -- what is in place of a template, or is the whole document, may be a list of templates
 abbrev pub head_words : Data → (name : Text) → (kind : Option Text) → (text : Text) → Text
@@ -147,16 +147,16 @@ manifest_words document cause text = with_place document (template_words documen
 -- a condition that can't be run is reported with its run and metric, and quoted
 unfoldable pub built_words : Data → (run metric : ℕ) → BuildError → (text : Text) → Text
 built_words document run metric error text =
-    beside_run document run (beside_metric document metric
+    next_to_run document run (next_to_metric document metric
     (build_words (declared_shape (declaration_in document metric)) (condition_bound_for document run metric error)
     error text))
 
 abbrev pub bundle_words : Data → BundleError → (text : Text) → Text
 bundle_words document (errors.Manifest cause) text = manifest_words document cause text
-bundle_words document (errors.ShapeMissing metric) text = beside_metric document metric text
-bundle_words document (errors.Shapes metric error) text = beside_metric document metric text
+bundle_words document (errors.ShapeMissing metric) text = next_to_metric document metric text
+bundle_words document (errors.Shapes metric error) text = next_to_metric document metric text
 bundle_words document (errors.DoubleRun run) text = with_double_name document run text
-bundle_words document (errors.Bind run cause) text = beside_run document run (bind_words document run cause text)
+bundle_words document (errors.Bind run cause) text = next_to_run document run (bind_words document run cause text)
 bundle_words document (errors.Build run metric error) text = built_words document run metric error text
 bundle_words document (errors.UnknownRun entry) text =
     with_names (entry_text (codes "run") entry document) (codes "runs") (runs document) text

@@ -2,7 +2,7 @@
 
 ghost use Rattle.std.specs.Prelude.{◌≡◌, ◌<◌, ◌++◌, IfOk, OnOk, length, option_map, string_bytes};
 ghost use Rattle.ar_value.specs.View.{shape_view};
-ghost use Rattle.ar_words.specs.Conditions.{advice, after_name, build_words, cause_words, condition_words, conversion_advice, has_predicate, is_conversion, is_field, is_membership, refused_place, taken, takes_alike, takes_numbers, takes_texts, token_in, unexpected, with_quote, wrong_operand};
+ghost use Rattle.ar_words.specs.Conditions.{advice, after_name, build_words, cause_words, condition_words, conversion_advice, has_predicate, is_conversion, is_field, is_membership, refused_offset, taken, takes_alike, takes_numbers, takes_texts, token_in, unexpected, with_quote, wrong_operand};
 ghost use Rattle.ar_quote.specs.Tokens.{found};
 
 use crate::cuts::cut_at;
@@ -18,23 +18,23 @@ use std::alloc::{AllocError, Global};
 // ---- offsets
 
 /// The byte of a condition at which it is refused. One that is too long isn't quoted.
-fn place_of(cause: BuildCause) -> Option<usize>
-    ensures { result ≡ refused_place cause }
+fn offset_of(cause: BuildCause) -> Option<usize>
+    ensures { result ≡ refused_offset cause }
 {
     match cause {
         BuildCause::Grammar(SyntaxError::TooLong) => None,
-        BuildCause::Grammar(error) => error.place(),
-        BuildCause::Kinds(error) => error.place(),
+        BuildCause::Grammar(error) => error.offset(),
+        BuildCause::Kinds(error) => error.offset(),
         BuildCause::Compiler(_) | BuildCause::Verifier(_, _) | BuildCause::OutOfMemory => None,
     }
 }
 
 /// The token at which a condition is refused.
-fn token_in(condition: Option<&str>, place: Option<usize>) -> Option<TokenAt<'_>>
+fn token_in(condition: Option<&str>, offset: Option<usize>) -> Option<TokenAt<'_>>
     ensures { option_map (λ here. found here.before.now here.token.now here.after.now) result
-        ≡ token_in (option_map (λ text. text.now) condition.entry) place }
+        ≡ token_in (option_map (λ text. text.now) condition.entry) offset }
 {
-    token_at(condition?, place?)
+    token_at(condition?, offset?)
 }
 
 // ---- what operators take
@@ -124,7 +124,7 @@ fn unexpected(token: &str) -> &'static str
     if token.is_empty() {
         "the condition ends too early"
     } else {
-        "no condition goes on so"
+        "no condition continues so"
     }
 }
 
@@ -174,7 +174,7 @@ fn cause_text(
             alloc,
             text,
             "NoCommonKind: ",
-            "expected one shape for all; \"whole\" goes beside \"decimal\"",
+            "expected one shape for all; \"whole\" and \"decimal\" have \"decimal\"",
         ),
         _ => Ok(text),
     }
@@ -243,7 +243,7 @@ pub(crate) fn condition_text(
         (option_map (λ text. text.now) condition.entry) cause (string_bytes text)) }
 {
     let operands = refused_operands(alloc, shape, condition, cause)?;
-    let here = token_in(condition, place_of(cause));
+    let here = token_in(condition, offset_of(cause));
     with_quote(alloc, text, cause, here, operands)
 }
 

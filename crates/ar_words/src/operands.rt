@@ -49,16 +49,16 @@ fn operands_in(
     alloc: Global,
     shape: &Option<Shape>,
     condition: Option<&str>,
-    place: usize,
+    offset: usize,
 ) -> Result<Option<Operands>, AllocError>
     ensures { IfOk result (λ operands. operands ≡ operands_in (option_map shape_view shape.now)
-        (option_map (λ text. text.now) condition.entry) place) }
+        (option_map (λ text. text.now) condition.entry) offset) }
 {
     let (Some(shape), Some(condition)) = (shape, condition) else {
         return Ok(None);
     };
     match parse(alloc, condition) {
-        Ok(tree) => operands_at(alloc, tree, shape, place),
+        Ok(tree) => operands_at(alloc, tree, shape, offset),
         Err(SyntaxError::OutOfMemory) => Err(AllocError),
         Err(_) => Ok(None),
     }

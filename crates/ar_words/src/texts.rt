@@ -8,7 +8,7 @@ ghost use Rattle.ar_words.specs.Conditions.{build_words};
 ghost use Rattle.ar_words.specs.Lists.{list_item};
 ghost use Rattle.ar_quote.specs.Shown.{quoted};
 ghost use Rattle.ar_words.specs.Names.{item_text};
-ghost use Rattle.ar_words.specs.Words.{beside_item, beside_metric, beside_run, bind_words, built_words, bundle_words, eval_words, given_kind, has_braces, head_words, in_place, kind_of_list, list_kind, list_words, manifest_words, template_words, those_there, with_advice, with_argument, with_arguments, with_double_name, with_names, with_place};
+ghost use Rattle.ar_words.specs.Words.{next_to_item, next_to_metric, next_to_run, bind_words, built_words, bundle_words, eval_words, given_kind, has_braces, head_words, in_place, kind_of_list, list_kind, list_words, manifest_words, template_words, those_there, with_advice, with_argument, with_arguments, with_double_name, with_names, with_place};
 
 use crate::bindings::{bound_of, limit_in, refused_condition, unbound_in};
 use crate::conditions::{after_name, build_text, condition_text};
@@ -38,7 +38,7 @@ const UNKNOWN: &str = " in braces; expected args.NAME with a name of `spec.args`
 /// What is said of a reference that has no value.
 const NO_VALUE: &str = " in braces has no value; expected one from the run or the template";
 
-const MANIFEST_HINT: &str = "; the document has no member `manifest`, into which the template goes";
+const MANIFEST_HINT: &str = "; the document has no member `manifest`, which takes the template";
 
 // ---- names in a text
 
@@ -82,14 +82,14 @@ fn shown_item(
 
 /// The text with the item's name after its kind and number.
 #[tactic(auto, using(crate::proofs::Signs::numbered_some))]
-fn beside_item(
+fn next_to_item(
     alloc: Global,
     text: String,
     kind: &str,
     number: usize,
     items: Option<&[Json]>,
 ) -> Result<String, AllocError>
-    ensures { IfOk result (λ said. string_bytes said ≡ beside_item kind.now number
+    ensures { IfOk result (λ said. string_bytes said ≡ next_to_item kind.now number
         (option_map (λ list. map (λ item. view item) list.now) items.entry) (string_bytes text)) }
 {
     let words = format!(in alloc; "{kind} {number}")?;
@@ -97,28 +97,28 @@ fn beside_item(
     in_place(alloc, text, words.as_str(), shown)
 }
 
-fn beside_metric(
+fn next_to_metric(
     alloc: Global,
     document: &Json,
     text: String,
     number: usize,
 ) -> Result<String, AllocError>
     ensures { IfOk result
-        (λ said. string_bytes said ≡ beside_metric (view document.now) number (string_bytes text)) }
+        (λ said. string_bytes said ≡ next_to_metric (view document.now) number (string_bytes text)) }
 {
-    beside_item(alloc, text, "metric", number, metrics(document))
+    next_to_item(alloc, text, "metric", number, metrics(document))
 }
 
-fn beside_run(
+fn next_to_run(
     alloc: Global,
     document: &Json,
     text: String,
     number: usize,
 ) -> Result<String, AllocError>
     ensures { IfOk result
-        (λ said. string_bytes said ≡ beside_run (view document.now) number (string_bytes text)) }
+        (λ said. string_bytes said ≡ next_to_run (view document.now) number (string_bytes text)) }
 {
-    beside_item(alloc, text, "run", number, runs(document))
+    next_to_item(alloc, text, "run", number, runs(document))
 }
 
 /// The text with an argument in place of the list of arguments.
@@ -224,12 +224,12 @@ fn template_text(
         ManifestError::BadField(number) => {
             let said = field_said(alloc, item_at(metrics(document), number))?;
             let text = found_after(alloc, text, "BadField: ", said)?;
-            beside_metric(alloc, document, text, number)
+            next_to_metric(alloc, document, text, number)
         }
         ManifestError::Unsupported(number)
         | ManifestError::DoubleMetric(number)
         | ManifestError::OpenBraces(number)
-        | ManifestError::IntervalMissing(number) => beside_metric(alloc, document, text, number),
+        | ManifestError::IntervalMissing(number) => next_to_metric(alloc, document, text, number),
         _ => Ok(text),
     }
 }
@@ -250,24 +250,24 @@ fn bind_text(
             let reference = unbound_in(alloc, document, run, metric)?;
             let said = reference_said(alloc, reference, UNKNOWN)?;
             let text = found_after(alloc, text, "UnknownArg: ", said)?;
-            with_arguments(document, beside_metric(alloc, document, text, metric)?)
+            with_arguments(document, next_to_metric(alloc, document, text, metric)?)
         }
         ManifestError::NoValue(metric) => {
             let reference = unbound_in(alloc, document, run, metric)?;
             let said = reference_said(alloc, reference, NO_VALUE)?;
             let text = found_after(alloc, text, "NoValue: ", said)?;
-            beside_metric(alloc, document, text, metric)
+            next_to_metric(alloc, document, text, metric)
         }
         ManifestError::BadLimit(metric) => {
             let said = limit_said(alloc, limit_in(alloc, document, run, metric)?)?;
             let text = found_after(alloc, text, "BadLimit: ", said)?;
-            beside_metric(alloc, document, text, metric)
+            next_to_metric(alloc, document, text, metric)
         }
         _ => template_text(alloc, document, text, cause),
     }
 }
 
-/// The text with the place of the template, where that is the whole document.
+/// The text with where the template is, where that is the whole document.
 fn with_place(document: &Json, mut text: String) -> Result<String, AllocError>
     ensures { IfOk result (λ said. string_bytes said ≡ with_place (view document.now) (string_bytes text)) }
 {
@@ -313,7 +313,7 @@ fn list_words(alloc: Global, kind: &str) -> Result<String, AllocError>
 {
     let mut words = String::new(alloc);
     push_quoted(&mut words, kind)?;
-    words.push_str(" is a list of templates; one of its `items` goes into `manifest`")?;
+    words.push_str(" is a list of templates; `manifest` takes one of its `items`")?;
     Ok(words)
 }
 
@@ -332,7 +332,7 @@ fn head_text(alloc: Global, document: &Json, text: String, name: &str) -> Result
     }
 }
 
-/// The text of a manifest's refusal. For a template that is the whole document, its place is reported, and so
+/// The text of a manifest's refusal. For a template that is the whole document, where it is, is reported, and so
 /// it is for a list of templates.
 fn manifest_text(
     alloc: Global,
@@ -372,8 +372,8 @@ fn built_text(
     let condition = refused_condition(&bound, metric, error);
     let shape = declared_shape(alloc, declaration_in(document, metric))?;
     let text = build_text(alloc, text, &shape, condition, error)?;
-    let text = beside_metric(alloc, document, text, metric)?;
-    beside_run(alloc, document, text, run)
+    let text = next_to_metric(alloc, document, text, metric)?;
+    next_to_run(alloc, document, text, run)
 }
 
 /// The text of a refusal of a bundle's document: its own text, with names of the document next to its
@@ -394,12 +394,12 @@ pub fn bundle_text(
     match error {
         BundleError::Manifest(cause) => manifest_text(alloc, document, text, cause),
         BundleError::ShapeMissing(metric) | BundleError::Shapes(metric, _) => {
-            beside_metric(alloc, document, text, metric)
+            next_to_metric(alloc, document, text, metric)
         }
         BundleError::DoubleRun(run) => with_double_name(alloc, document, text, run),
         BundleError::Bind(run, cause) => {
             let text = bind_text(alloc, document, text, run, cause)?;
-            beside_run(alloc, document, text, run)
+            next_to_run(alloc, document, text, run)
         }
         BundleError::Build(run, metric, error) => {
             built_text(alloc, document, text, run, metric, error)

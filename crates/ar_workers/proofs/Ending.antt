@@ -12,17 +12,17 @@ use Rattle.ar_queue.specs.Rule.{HasTakenAll, IsDone}
 use Rattle.ar_queue.specs.declared.queue.View.{View}
 use Rattle.ar_queue.specs.Workers.{AreNamed, IsFeeder}
 use Rattle.ar_workers.specs.Joined.{IsWorkCause, IsNotLost, IsShown, NameEachOnce, named_by}
-use Rattle.ar_workers.specs.Private.Early.{told}
+use Rattle.ar_workers.specs.Private.Early.{reported}
 use Rattle.ar_workers.specs.Private.Settling.{AreEachOnce}
 use Rattle.ar_queue.specs.declared.side_by_side.Unfinished.{Unfinished}
 use Rattle.ar_queue.specs.declared.side_by_side.Unfinished.TheVariants as early
 use Rattle.ar_workers.specs.declared.error.WorkError.{WorkError}
 
-pub is_cause : (bundle : Bundle) (cause : Unfinished) (error : WorkError) → error ≡ told cause → IsWorkCause bundle error
+pub is_cause : (bundle : Bundle) (cause : Unfinished) (error : WorkError) → error ≡ reported cause → IsWorkCause bundle error
 is_cause bundle early.NoThread error is = subst (IsWorkCause bundle) (sym is) tt
 is_cause bundle early.OutOfMemory error is = subst (IsWorkCause bundle) (sym is) tt
 
-pub is_not_lost : (cause : Unfinished) (error : WorkError) → error ≡ told cause → IsNotLost error
+pub is_not_lost : (cause : Unfinished) (error : WorkError) → error ≡ reported cause → IsNotLost error
 is_not_lost early.NoThread error is = subst IsNotLost (sym is) tt
 is_not_lost early.OutOfMemory error is = subst IsNotLost (sym is) tt
 

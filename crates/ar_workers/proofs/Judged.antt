@@ -61,14 +61,14 @@ still_known bundle one before after less judged is number known = subst (λ tabl
 -- ---- one finding more is in the table
 
 pub known_first : (bundle : Bundle) (table : List (Option Finding)) → AreKnown bundle [] table
-known_first bundle table number stands = absurd (omega arith)
+known_first bundle table number is_there = absurd (omega arith)
 
 one_known : (bundle : Bundle) (one : Judged) (table : List (Option Finding)) (number : ℕ) (test : Bool) → (one.number == number) ≡ test → IsKnown bundle table one.number → 0 < times_in number (one.number ∷ []) → IsKnown bundle table number
-one_known bundle one table number true is known stands = (let same : one.number ≡ number = grind (arith, nat_tests) in subst (IsKnown bundle table) same known)
-one_known bundle one table number false is known stands = absurd (let none : times_in number (one.number ∷ []) ≡ 0 = rw is refl in omega arith)
+one_known bundle one table number true is known is_there = (let same : one.number ≡ number = grind (arith, nat_tests) in subst (IsKnown bundle table) same known)
+one_known bundle one table number false is known is_there = absurd (let none : times_in number (one.number ∷ []) ≡ 0 = rw is refl in omega arith)
 
 both_known : (bundle : Bundle) (first second : List ℕ) (table : List (Option Finding)) → AreKnown bundle first table → AreKnown bundle second table → AreKnown bundle (first ++ second) table
-both_known bundle first second table one other number stands =
+both_known bundle first second table one other number is_there =
     let both = times_both number first second in
     by_times (times_in number first) refl
   where
@@ -83,8 +83,8 @@ known_next bundle judged one before after here less is known =
     let its : IsKnown bundle after one.number = subst (λ table. IsKnown bundle table one.number) (sym is) (one.finding, at_set_same before one.number (Some one.finding) less, here) in
     subst (λ numbers. AreKnown bundle numbers after) (sym more)
     (both_known bundle (numbers_judged judged) (one.number ∷ []) after
-    (λ number stands. still_known bundle one before after less here is number (known number stands))
-    (λ number stands. one_known bundle one after number (one.number == number) refl its stands))
+    (λ number is_there. still_known bundle one before after less here is number (known number is_there))
+    (λ number is_there. one_known bundle one after number (one.number == number) refl its is_there))
 
 -- ---- one desk more is in the table
 
@@ -96,7 +96,7 @@ pub desk_known : {Desk : Type 0} (numbers : Desk → List ℕ) (bundle : Bundle)
     → AreKnown bundle (all_named numbers (desks ++ desk ∷ [])) after
 desk_known numbers bundle desks desk before after known kept own =
     subst (λ all. AreKnown bundle all after) (sym (all_named_append numbers desks desk))
-    (both_known bundle (all_named numbers desks) (numbers desk) after (λ number stands. kept number (known number stands)) own)
+    (both_known bundle (all_named numbers desks) (numbers desk) after (λ number is_there. kept number (known number is_there)) own)
 
 -- ---- each number is in the table
 

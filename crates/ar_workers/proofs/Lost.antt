@@ -59,9 +59,9 @@ none_at number (history ∷ histories) zero none = omega arith
 none_at number (history ∷ histories) (suc run) none = none_at number histories run (omega arith)
 
 unmet_among : (number : ℕ) (histories : List (List Entry)) (receipts : List (List Receipt)) → times number histories ≡ 0 → HasAmong number receipts → IsUnmetAmong histories receipts number
-unmet_among number histories receipts none (seat, own, there, (at, receipt, stands, is)) =
+unmet_among number histories receipts none (seat, own, there, (at, receipt, is_there, is)) =
     let missing : times_in receipt.number (numbers_of (get_or histories receipt.run [])) ≡ 0 = rw is (none_at number histories receipt.run none) in
-    record { seat = seat; own = own; there = there; unmet = record { at = at; receipt = receipt; there = stands; for_it = is; unmet = λ met. met_has_no_cause histories _ receipt met (inl missing) } }
+    record { seat = seat; own = own; there = there; unmet = record { at = at; receipt = receipt; there = is_there; for_it = is; unmet = λ met. met_has_no_cause histories _ receipt met (inl missing) } }
 
 pub double_or_unmet : (bundle : Bundle) (lost : Losing) (doubles : List ℕ) → IsShown bundle lost doubles → IsDoubleOrUnmet lost.number lost.histories (map (λ own. own.items) lost.receipts.items) doubles
 double_or_unmet bundle lost doubles shown = ⊎_elim nowhere (λ unmet. inr unmet) shown.losing.why

@@ -22,9 +22,9 @@ pub enum WorkError {
 }
 
 impl From<Unfinished> for WorkError {
-    ghost use Rattle.ar_workers.specs.Private.Early.{told};
+    ghost use Rattle.ar_workers.specs.Private.Early.{reported};
 
-    ghost from_gives = { λ cause error. error ≡ told cause };
+    ghost from_gives = { λ cause error. error ≡ reported cause };
 
     fn from(cause: Unfinished) -> WorkError {
         match cause {

@@ -10,5 +10,5 @@ done_text outcome = answer_text outcome.answer ++ (codes " cost=" ++ decimal out
 
 abbrev pub ended_text : Ended → List ℕ
 ended_text (Done outcome) = done_text outcome
-ended_text (Stuck place) = codes "stuck " ++ decimal place
+ended_text (Stuck index) = codes "stuck " ++ decimal index
 ended_text Spent = codes "spent"

@@ -59,37 +59,37 @@ fn put_stretch(out: &mut Output, first: usize, last: usize, outcome: &str) {
 
 /// The outcome for each value of the byte.
 fn outcomes_of(alloc: Global, case: &Json, image: &[u8]) -> Result<Vec<String>, CaseFault> {
-    let place = place_of(case, image)?;
+    let offset = offset_of(case, image)?;
     let mut outcomes = Vec::new(alloc);
     for byte in 0..=u8::MAX {
-        let outcome = changed_outcome(alloc, case, image, place, byte)?;
+        let outcome = changed_outcome(alloc, case, image, offset, byte)?;
         try_push(&mut outcomes, outcome)?;
     }
     Ok(outcomes)
 }
 
 /// The offset of a byte of the image.
-fn place_of(case: &Json, image: &[u8]) -> Result<usize, CaseFault>
-    ensures { IfOk result (λ place. place < length image.now) }
+fn offset_of(case: &Json, image: &[u8]) -> Result<usize, CaseFault>
+    ensures { IfOk result (λ offset. offset < length image.now) }
 {
     match usize::try_from(members::number(case, "place")?) {
-        Ok(place) if place < image.len() => Ok(place),
+        Ok(offset) if offset < image.len() => Ok(offset),
         _ => Err(CaseFault::Member),
     }
 }
 
-/// The outcome of the image with another byte at `place`.
+/// The outcome of the image with another byte at `offset`.
 fn changed_outcome(
     alloc: Global,
     case: &Json,
     image: &[u8],
-    place: usize,
+    offset: usize,
     byte: u8,
 ) -> Result<String, CaseFault>
-    requires { place < length image.now }
+    requires { offset < length image.now }
 {
     let mut changed = image.to_vec(alloc)?;
-    changed[place] = byte;
+    changed[offset] = byte;
     let mut out = Output::new(alloc);
     let written = put_outcome(alloc, case, &changed, &mut out);
     out.finish(written)

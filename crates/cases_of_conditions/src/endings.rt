@@ -16,7 +16,7 @@ pub(crate) fn put_ended(out: &mut Output, ended: Ended)
 {
     match ended {
         Ended::Done(outcome) => put_done(out, outcome),
-        Ended::Stuck(place) => put_stuck(out, place),
+        Ended::Stuck(index) => put_stuck(out, index),
         Ended::Spent => out.put("spent"),
     }
 }
@@ -28,16 +28,16 @@ fn put_done(out: &mut Output, outcome: Outcome)
     write!(out, " cost={}", outcome.cost);
 }
 
-fn put_stuck(out: &mut Output, place: usize)
-    ensures { Writes out.old out.new (codes "stuck " ++ decimal place) }
+fn put_stuck(out: &mut Output, index: usize)
+    ensures { Writes out.old out.new (codes "stuck " ++ decimal index) }
 {
-    write!(out, "stuck {place}");
+    write!(out, "stuck {index}");
 }
 
 /// Why code is refused. Memory ran out where that is the cause.
 pub(crate) fn put_code_fault(out: &mut Output, cause: Cause) {
     match cause {
-        Cause::Fault { place, reason } => write!(out, "{reason:?} at {place}"),
+        Cause::Fault { index, reason } => write!(out, "{reason:?} at {index}"),
         Cause::OutOfMemory => out.lose(),
     }
 }

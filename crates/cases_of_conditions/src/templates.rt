@@ -105,9 +105,9 @@ fn read_arguments(alloc: Global, case: &Json, arguments: &mut Args) -> Written {
     Ok(())
 }
 
-/// The text at position `place` of a list.
-fn text_at(list: &Json, place: usize) -> Result<&str, CaseFault> {
-    list.get(place)
+/// The text at position `index` of a list.
+fn text_at(list: &Json, index: usize) -> Result<&str, CaseFault> {
+    list.get(index)
         .and_then(Json::as_str)
         .ok_or(CaseFault::Member)
 }

@@ -1,14 +1,14 @@
-//! Conditions as written, printed: a node as `(operator@place child child)`, a leaf as `leaf@place`.
+//! Conditions as written, printed: a node as `(operator@index child child)`, a leaf as `leaf@index`.
 
 use ar_tree::tree::{Binary, Comparison, Literal, Tree, Unary};
 use ar_value::operator::{Predicate, TextTest};
 use cases_of_values::output::Output;
-use cases_of_values::printing::{put_decimal, put_quoted, put_truth, put_whole};
+use cases_of_values::printing::{put_boolean, put_decimal, put_quoted, put_whole};
 
 pub(crate) fn put_literal(out: &mut Output, literal: &Literal) {
     match literal {
         Literal::Nil => out.put("nil"),
-        Literal::Bool(truth) => put_truth(out, *truth),
+        Literal::Bool(boolean) => put_boolean(out, *boolean),
         Literal::Whole(whole) => put_whole(out, *whole),
         Literal::Decimal(decimal) => put_decimal(out, *decimal),
         Literal::Text(text) => put_quoted(out, text.as_str()),
@@ -88,13 +88,13 @@ fn word(tree: &Tree) -> &'static str {
     }
 }
 
-fn put_place(out: &mut Output, tree: &Tree) {
-    write!(out, "@{}", tree.place());
+fn put_index(out: &mut Output, tree: &Tree) {
+    write!(out, "@{}", tree.offset());
 }
 
 fn put_leaf(out: &mut Output, tree: &Tree) {
     out.put(word(tree));
-    put_place(out, tree);
+    put_index(out, tree);
 }
 
 /// A tree with a blank before it.
@@ -110,7 +110,7 @@ pub(crate) fn put_tree(out: &mut Output, tree: &Tree) {
         Tree::Result { .. } | Tree::Item { .. } => put_leaf(out, tree),
         Tree::Literal { literal, .. } => {
             put_literal(out, literal);
-            put_place(out, tree);
+            put_index(out, tree);
         }
         _ => {
             out.put("(");
@@ -155,13 +155,13 @@ fn put_parts(out: &mut Output, tree: &Tree) {
         }
         Tree::Choice {
             condition,
-            yes,
-            no,
+            then_branch,
+            else_branch,
             ..
         } => {
             put_child(out, condition);
-            put_child(out, yes);
-            put_child(out, no);
+            put_child(out, then_branch);
+            put_child(out, else_branch);
         }
         Tree::List { items, .. } => {
             for item in &items.items {

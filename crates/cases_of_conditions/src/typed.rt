@@ -38,7 +38,7 @@ fn order_sign(order: Order) -> &'static str {
 
 fn family_name(family: Family) -> &'static str {
     match family {
-        Family::Truth => "bool",
+        Family::Boolean => "bool",
         Family::Number => "number",
         Family::Text => "text",
     }
@@ -155,10 +155,14 @@ fn put_parts(out: &mut Output, typed: &Typed) {
             put_child(out, left);
             put_child(out, right);
         }
-        Typed::Choice { condition, yes, no } => {
+        Typed::Choice {
+            condition,
+            then_branch,
+            else_branch,
+        } => {
             put_child(out, condition);
-            put_child(out, yes);
-            put_child(out, no);
+            put_child(out, then_branch);
+            put_child(out, else_branch);
         }
         Typed::List { items, .. } => {
             for item in &items.items {

@@ -5,18 +5,18 @@ use Rattle.std.proofs.lemmas.Bool.Decides.{nat_tests}
 use native.Mathlib.Numerals.{unary_clauses}
 use Rattle.cases_of_values.specs.Printing.{fraction_text}
 
-digit_first : (places millionths : ℕ) → (places ≡ 0 → ⊥) → fraction_text places millionths ≡ decimal (millionths / 100000) ++ (if millionths % 100000 == 0 then [] else fraction_text (places - 1) (millionths % 100000 * 10))
+digit_first : (indices millionths : ℕ) → (indices ≡ 0 → ⊥) → fraction_text indices millionths ≡ decimal (millionths / 100000) ++ (if millionths % 100000 == 0 then [] else fraction_text (indices - 1) (millionths % 100000 * 10))
 digit_first zero millionths h = absurd (h refl)
-digit_first (suc places) millionths h = simp unary_clauses refl
+digit_first (suc indices) millionths h = simp unary_clauses refl
 
 -- nothing is left after the digit
-pub last_digit : (places millionths : ℕ) → (places ≡ 0 → ⊥) → millionths % 100000 ≡ 0 → fraction_text places millionths ≡ decimal (millionths / 100000)
-last_digit places millionths h none = digit_first places millionths h ∙ (ap (λ (left : ℕ). decimal (millionths / 100000) ++ (if left == 0 then [] else fraction_text (places - 1) (millionths % 100000 * 10))) none ∙ append-nil (decimal (millionths / 100000)))
+pub last_digit : (indices millionths : ℕ) → (indices ≡ 0 → ⊥) → millionths % 100000 ≡ 0 → fraction_text indices millionths ≡ decimal (millionths / 100000)
+last_digit indices millionths h none = digit_first indices millionths h ∙ (ap (λ (left : ℕ). decimal (millionths / 100000) ++ (if left == 0 then [] else fraction_text (indices - 1) (millionths % 100000 * 10))) none ∙ append-nil (decimal (millionths / 100000)))
 
 unequal : (n : ℕ) → (n ≡ 0 → ⊥) → (n == 0) ≡ false
 unequal n some = grind (arith, nat_tests)
 
 -- something is left
-pub more_digits : (places millionths : ℕ) → (places ≡ 0 → ⊥) → (millionths % 100000 ≡ 0 → ⊥) → fraction_text places millionths ≡ decimal (millionths / 100000) ++ fraction_text (places - 1) (millionths % 100000 * 10)
-more_digits places millionths h some =
-    digit_first places millionths h ∙ ap (λ (none : Bool). decimal (millionths / 100000) ++ (if none then [] else fraction_text (places - 1) (millionths % 100000 * 10))) (unequal (millionths % 100000) some)
+pub more_digits : (indices millionths : ℕ) → (indices ≡ 0 → ⊥) → (millionths % 100000 ≡ 0 → ⊥) → fraction_text indices millionths ≡ decimal (millionths / 100000) ++ fraction_text (indices - 1) (millionths % 100000 * 10)
+more_digits indices millionths h some =
+    digit_first indices millionths h ∙ ap (λ (none : Bool). decimal (millionths / 100000) ++ (if none then [] else fraction_text (indices - 1) (millionths % 100000 * 10))) (unequal (millionths % 100000) some)

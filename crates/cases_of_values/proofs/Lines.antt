@@ -7,18 +7,18 @@ use Rattle.std.proofs.lemmas.List.{append-nil}
 use Rattle.cases_of_values.specs.Printing.{between, in_one_line, line_end}
 
 -- what is left to write after some characters, of which the last one is a line's end or not
-abbrev pub left : (ended : Bool) → (behind : List ℕ) → List ℕ
-left ended behind = (if ended then line_end behind else []) ++ in_one_line behind
+abbrev pub left : (ended : Bool) → (later : List ℕ) → List ℕ
+left ended later = (if ended then line_end later else []) ++ in_one_line later
 
 abbrev pub written_of : (ended : Bool) → (character : ℕ) → List ℕ
 written_of ended character = between (not ended) (codes " / ") ++ (if character == 10 then [] else encode_utf8 character)
 
-splits : (ended is_end : Bool) (text behind : List ℕ) (rest : List ℕ)
-    → (between (not ended) (codes " / ") ++ (if is_end then [] else text)) ++ ((if is_end then behind else []) ++ rest) ≡ (if ended then codes " / " else []) ++ ((if is_end then behind else text) ++ rest)
-splits true true text behind rest = refl
-splits true false text behind rest = refl
-splits false true text behind rest = refl
-splits false false text behind rest = refl
+splits : (ended is_end : Bool) (text later : List ℕ) (rest : List ℕ)
+    → (between (not ended) (codes " / ") ++ (if is_end then [] else text)) ++ ((if is_end then later else []) ++ rest) ≡ (if ended then codes " / " else []) ++ ((if is_end then later else text) ++ rest)
+splits true true text later rest = refl
+splits true false text later rest = refl
+splits false true text later rest = refl
+splits false false text later rest = refl
 
 pub next_character : (cs : List ℕ) (n c : ℕ) (ended : Bool) (written total : List ℕ) → (n < length cs) × (c ≡ get_or cs n c) → written ++ left ended (drop n cs) ≡ total
     → (written ++ written_of ended c) ++ left (c == 10) (drop (n + 1) cs) ≡ total

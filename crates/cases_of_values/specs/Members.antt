@@ -43,12 +43,12 @@ abbrev pub number_member : (name : List ℕ) → (case : Data) → Result ℕ Ca
 number_member name case = member_as (λ json. option_and_then as_u64 (as_number json)) name case
 
 -- whether a member is there and true
-abbrev pub is_truth : Option Data → Bool
-is_truth (Some (boolean truth)) = truth
-is_truth other = false
+abbrev pub is_boolean : Option Data → Bool
+is_boolean (Some (boolean value)) = value
+is_boolean other = false
 
 abbrev pub is_true : (name : List ℕ) → (case : Data) → Bool
-is_true name case = is_truth (get name case)
+is_true name case = is_boolean (get name case)
 
 -- whatever a reading refuses is no member that the call takes
 abbrev pub or_member : {A E : Type 0} → Result A E → Result A CaseFault

@@ -19,7 +19,7 @@ use Rattle.cases_of_values.specs.declared.output.Output.{Output}
 use Rattle.cases_of_values.specs.Calls.{arithmetic_calls, is_one_of}
 use Rattle.cases_of_values.specs.Members.{decimal_member, is_case_memory, json_member, or_member, case_text, whole_member}
 use Rattle.ar_value.specs.Fault.{fault_name}
-use Rattle.cases_of_values.specs.Printing.{number_text, quoted, truth_text}
+use Rattle.cases_of_values.specs.Printing.{number_text, quoted, boolean_text}
 
 -- the answer comes after what was there, unless memory ran out, or the case is refused
 abbrev pub Answers : Result ⊤ CaseFault → (earlier later : Output) → (answer : Result (List ℕ) CaseFault) → Type 0
@@ -107,7 +107,7 @@ unfoldable pub same_text_answer : (case : Data) → Result (List ℕ) CaseFault
 same_text_answer case = do
   left ← case_text (codes "left") case
   right ← case_text (codes "right") case
-  Ok (truth_text (bytes_eq left right))
+  Ok (boolean_text (bytes_eq left right))
 
 abbrev pub below_text : (is_below : Bool) → List ℕ
 below_text is_below = if is_below then codes ", below" else []

@@ -20,7 +20,7 @@ use Rattle.ar_value.specs.Fault.{fault_name}
 abbrev pub code_escape : (character : ℕ) → List ℕ
 code_escape character = codes "\\u00" ++ (digit_char (character / 16) ∷ digit_char (character % 16) ∷ [])
 
--- a character in a JSON string (RFC 8259), escaped only where it has to be
+-- a character in a JSON string (RFC 8259), escaped only where it has to be; an ASCII character is its byte
 abbrev pub escaped : (character : ℕ) → List ℕ
 escaped character =
     if character == byte_of (codes "\"") then codes "\\\""
@@ -41,27 +41,27 @@ between first text = if first then [] else text
 
 -- Lines, one after another: a line's end is a slash between blanks where something comes after it.
 
-abbrev pub line_end : (behind : List ℕ) → List ℕ
+abbrev pub line_end : (later : List ℕ) → List ℕ
 line_end [] = []
-line_end (character ∷ behind) = codes " / "
+line_end (character ∷ later) = codes " / "
 
 abbrev pub in_one_line : (characters : List ℕ) → List ℕ
 in_one_line [] = []
-in_one_line (character ∷ behind) =
-    (if character == byte_of (codes "\n") then line_end behind else encode_utf8 character) ++ in_one_line behind
+in_one_line (character ∷ later) =
+    (if character == byte_of (codes "\n") then line_end later else encode_utf8 character) ++ in_one_line later
 
 unfoldable pub lines_text : (text : List ℕ) → List ℕ
 lines_text text = in_one_line (chars text)
 
 -- ---- numbers
 
--- The digits of a number of millionths below one, `places` at most, and none after the last that isn't zero: a digit,
+-- The digits of a number of millionths below one, `indices` at most, and none after the last that isn't zero: a digit,
 -- and the digits of ten times what is left.
-abbrev pub fraction_text : (places millionths : ℕ) → List ℕ
+abbrev pub fraction_text : (indices millionths : ℕ) → List ℕ
 fraction_text zero millionths = []
-fraction_text (suc places) millionths =
+fraction_text (suc indices) millionths =
     decimal (millionths / 100000)
-    ++ (if millionths % 100000 == 0 then [] else fraction_text places (millionths % 100000 * 10))
+    ++ (if millionths % 100000 == 0 then [] else fraction_text indices (millionths % 100000 * 10))
 
 abbrev pub sign_text : ℤ → List ℕ
 sign_text z = if is_negative z then codes "-" else []
@@ -78,14 +78,14 @@ number_text (Decimal millionths) = decimal_text millionths
 
 -- ---- values, as JSON without blanks, but for decimals, which are numbers with a point
 
-abbrev pub truth_text : Bool → List ℕ
-truth_text true = codes "true"
-truth_text false = codes "false"
+abbrev pub boolean_text : Bool → List ℕ
+boolean_text true = codes "true"
+boolean_text false = codes "false"
 
 abbrev mutual
   pub value_text : Value → List ℕ
   value_text values.nil = codes "null"
-  value_text (values.bool truth) = truth_text truth
+  value_text (values.bool value) = boolean_text value
   value_text (values.whole whole) = signed_decimal whole
   value_text (values.decimal millionths) = decimal_text millionths
   value_text (values.text text) = quoted text
@@ -107,7 +107,7 @@ abbrev mutual
 -- ---- what a condition says
 
 abbrev pub answer_text : Result Bool Fault → List ℕ
-answer_text (Ok truth) = truth_text truth
+answer_text (Ok value) = boolean_text value
 answer_text (Err fault) = codes "fault " ++ fault_name fault
 
 -- ---- shapes, as the JSON that declares them, without blanks

@@ -13,7 +13,7 @@ ghost use Rattle.cases_of_values.specs.Output.{Writes};
 use crate::fault::{CaseFault, Written};
 use crate::members;
 use crate::output::Output;
-use crate::printing::{put_decimal, put_number, put_or_none, put_quoted, put_refusal, put_truth};
+use crate::printing::{put_boolean, put_decimal, put_number, put_or_none, put_quoted, put_refusal};
 use ar_value::{Decimal, Fault, Number, Text, compare, digits, whole};
 use serde_json::Value as Json;
 use std::alloc::{AllocError, Global};
@@ -54,7 +54,7 @@ fn put_decimal_of(alloc: Global, case: &Json, out: &mut Output) -> Written {
 fn put_digits(case: &Json, out: &mut Output) -> Written {
     let whole = digits_of(members::text(case, "digits")?)?;
     let found = match case.get("fraction").and_then(Json::as_str) {
-        Some(behind) => digits::millionths(whole, digits_of(behind)?),
+        Some(later) => digits::millionths(whole, digits_of(later)?),
         None => digits::number(whole),
     };
     put_or_none(out, found);
@@ -236,7 +236,7 @@ fn put_same_text(alloc: Global, case: &Json, out: &mut Output) -> Written
 {
     let left = members::text(case, "left")?;
     let right = members::text(case, "right")?;
-    put_truth(out, are_same(alloc, left, right)?);
+    put_boolean(out, are_same(alloc, left, right)?);
     Ok(())
 }
 

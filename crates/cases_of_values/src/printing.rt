@@ -11,11 +11,11 @@ ghost use Rattle.ar_value.specs.Value.{fields_from, items_of};
 ghost use Rattle.ar_value.specs.View.{shape_view, value_view};
 ghost use Rattle.cases_of_values.specs.Members.{is_true};
 ghost use Rattle.cases_of_values.specs.Output.{Extends, Writes};
-ghost use Rattle.cases_of_values.specs.Printing.{answer_text, between, code_escape, decimal_text, escaped, field_shapes_text, fields_text, fraction_text, items_text, lines_text, number_text, quoted, shape_text, truth_text, value_text};
+ghost use Rattle.cases_of_values.specs.Printing.{answer_text, between, code_escape, decimal_text, escaped, field_shapes_text, fields_text, fraction_text, items_text, lines_text, number_text, quoted, shape_text, boolean_text, value_text};
 
 use crate::members;
 use crate::output::Output;
-use ar_value::{Decimal, Fault, Number, Places, Shape, Text, Value};
+use ar_value::{Decimal, Fault, Indices, Number, Shape, Text, Value};
 use serde_json::Value as Json;
 use std::alloc::Global;
 use std::fmt::{Debug, Display};
@@ -128,11 +128,11 @@ pub fn put_decimal(out: &mut Output, decimal: Decimal)
 
 /// Millionths below one, without the zeros at their end.
 #[tactic(auto, using(crate::proofs::Fractions::last_digit, crate::proofs::Fractions::more_digits, std::proofs::Common::append_assoc))]
-fn put_fraction(out: &mut Output, millionths: u64, places: u32)
+fn put_fraction(out: &mut Output, millionths: u64, indices: u32)
     requires { millionths < 1000000 }
-    ensures { Writes out.old out.new (fraction_text places millionths) }
+    ensures { Writes out.old out.new (fraction_text indices millionths) }
 {
-    if places == 0 {
+    if indices == 0 {
         return;
     }
     write!(out, "{}", millionths / 100_000);
@@ -140,7 +140,7 @@ fn put_fraction(out: &mut Output, millionths: u64, places: u32)
     if left == 0 {
         return;
     }
-    put_fraction(out, left * 10, places - 1)
+    put_fraction(out, left * 10, indices - 1)
 }
 
 pub(crate) fn put_number(out: &mut Output, number: Number)
@@ -166,7 +166,7 @@ pub fn put_refusal<E: Debug + Display + Drop>(
     out: &mut Output,
     refusal: E,
 )
-    ensures behind { Extends out.old out.new }
+    ensures later { Extends out.old out.new }
     ensures words { is_true (codes "words") (view case.now) ≡ true → IfSome (E.output refusal)
         (λ words. Writes out.old out.new words) }
     ensures named { is_true (codes "words") (view case.now) ≡ false → IfSome (E.debug_output refusal)
@@ -180,7 +180,7 @@ pub fn put_refusal<E: Debug + Display + Drop>(
 
 /// A refusal whose name is known.
 fn put_named<E: Display>(alloc: Global, case: &Json, out: &mut Output, name: &str, refusal: &E)
-    ensures behind { Extends out.old out.new }
+    ensures later { Extends out.old out.new }
     ensures words { is_true (codes "words") (view case.now) ≡ true → IfSome (E.output refusal.now)
         (λ words. Writes out.old out.new words) }
     ensures named { is_true (codes "words") (view case.now) ≡ false → Writes out.old out.new name.now }
@@ -195,7 +195,7 @@ fn put_named<E: Display>(alloc: Global, case: &Json, out: &mut Output, name: &st
 }
 
 fn put_words<E: Display>(alloc: Global, out: &mut Output, refusal: &E)
-    ensures behind { Extends out.old out.new }
+    ensures later { Extends out.old out.new }
     ensures words { IfSome (E.output refusal.now) (λ words. Writes out.old out.new words) }
 {
     match format!(in alloc; "{refusal}") {
@@ -209,7 +209,7 @@ pub fn put_answer(out: &mut Output, answer: Result<bool, Fault>)
     ensures { Writes out.old out.new (answer_text answer) }
 {
     match answer {
-        Ok(truth) => put_truth(out, truth),
+        Ok(boolean) => put_boolean(out, boolean),
         Err(fault) => put_pair(out, "fault", fault.name()),
     }
 }
@@ -221,21 +221,26 @@ pub(crate) fn put_value(out: &mut Output, value: &Value)
 {
     match value {
         Value::Nil => out.put("null"),
-        Value::Bool(truth) => put_truth(out, *truth),
+        Value::Bool(boolean) => put_boolean(out, *boolean),
         Value::Whole(whole) => put_whole(out, *whole),
         Value::Decimal(decimal) => put_decimal(out, *decimal),
         Value::Text(text) => put_quoted(out, text.as_str()),
         Value::List(values) => put_list_value(out, &values.items),
         Value::Object(fields) => {
-            put_object(out, fields.names.as_slice(), &fields.places, &fields.values)
+            put_object(
+                out,
+                fields.names.as_slice(),
+                &fields.indices,
+                &fields.values,
+            )
         }
     }
 }
 
-pub fn put_truth(out: &mut Output, truth: bool)
-    ensures { Writes out.old out.new (truth_text truth) }
+pub fn put_boolean(out: &mut Output, boolean: bool)
+    ensures { Writes out.old out.new (boolean_text boolean) }
 {
-    if truth {
+    if boolean {
         out.put("true")
     } else {
         out.put("false")
@@ -275,28 +280,28 @@ fn put_item(out: &mut Output, first: bool, item: &Value)
 }
 
 #[cycle(put_value)]
-fn put_object(out: &mut Output, names: &[Text], places: &Places, given: &[Value])
+fn put_object(out: &mut Output, names: &[Text], indices: &Indices, given: &[Value])
     ensures { Writes out.old out.new
-        (value_text (values.object (fields_from 0 names.now places.now (map value_view given.now)))) }
+        (value_text (values.object (fields_from 0 names.now indices.now (map value_view given.now)))) }
 {
     out.put("{");
-    put_fields(out, names, places, given);
+    put_fields(out, names, indices, given);
     out.put("}")
 }
 
 #[cycle(put_value)]
-fn put_fields(out: &mut Output, names: &[Text], places: &Places, given: &[Value])
+fn put_fields(out: &mut Output, names: &[Text], indices: &Indices, given: &[Value])
     ensures { Writes out.old out.new
-        (fields_text true (fields_from 0 names.now places.now (map value_view given.now))) }
+        (fields_text true (fields_from 0 names.now indices.now (map value_view given.now))) }
 {
     let mut first = true;
-    for place in 0..names.len() {
+    for position in 0..names.len() {
         put_field(
             out,
             first,
-            names[place].as_str(),
+            names[position].as_str(),
             given,
-            places.index_of(place),
+            indices.index_of(position),
         );
         first = false;
     }
@@ -392,8 +397,8 @@ fn put_field_shapes(out: &mut Output, names: &[Text], shapes: &[Shape])
         (field_shapes_text true (field_shapes_of names.now (map shape_view shapes.now))) }
 {
     let mut first = true;
-    for place in 0..names.len().min(shapes.len()) {
-        put_field_shape(out, first, names[place].as_str(), &shapes[place]);
+    for position in 0..names.len().min(shapes.len()) {
+        put_field_shape(out, first, names[position].as_str(), &shapes[position]);
         first = false;
     }
 }

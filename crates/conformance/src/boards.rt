@@ -81,7 +81,7 @@ fn put_states(
     out: &mut Output,
 ) -> Written {
     let stepped = stepped(alloc, bundle, making, steps, out)?;
-    let run = state_behind(alloc, bundle, making, steps)?;
+    let run = state_after(alloc, bundle, making, steps)?;
     out.put(stepped.as_str());
     if run.as_str() != stepped.as_str() {
         out.put(" / core_run");
@@ -141,7 +141,7 @@ fn stepped(
 }
 
 /// The state to which all steps in one call come.
-fn state_behind(
+fn state_after(
     alloc: Global,
     bundle: &Bundle,
     making: Making,

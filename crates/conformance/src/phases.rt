@@ -55,7 +55,7 @@ fn put_phase(case: &Json, out: &mut Output) -> Written {
     Ok(())
 }
 
-/// A limit at position `place` of a metric's list.
+/// A limit at an index of a metric's list.
 fn limit_of(item: &Json, place: usize) -> Option<u32> {
     u32::try_from(number_in(item.get(place))?).ok()
 }

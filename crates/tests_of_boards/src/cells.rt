@@ -189,7 +189,7 @@ fn one_worker(rt: HostRuntime) -> Result<(), Fail> {
         number: 0,
         place: 0,
     }];
-    const BEHIND: &[Receipt] = &[Receipt {
+    const AFTER: &[Receipt] = &[Receipt {
         run: 0,
         number: 0,
         place: 1,
@@ -199,7 +199,7 @@ fn one_worker(rt: HostRuntime) -> Result<(), Fail> {
         (Call::Add(0, 0), CLOSING),
         (Call::Show(0, 0, FIRST), only),
         (Call::Show(0, 0, &[]), "Err(Stale(1))"),
-        (Call::Show(0, 0, BEHIND), "Err(Stale(1))"),
+        (Call::Show(0, 0, AFTER), "Err(Stale(1))"),
         (Call::Add(0, 0), "Err(Double)"),
         (Call::Show(0, 0, FIRST), only),
     ];

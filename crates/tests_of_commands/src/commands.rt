@@ -116,7 +116,7 @@ fn a_byte_a_read(rt: HostRuntime) {
 }
 
 /// Whether a command reports that its reader failed after `reads` reads, and writes nothing.
-fn tells_failing(alloc: Global, command: Command, reads: usize) -> bool
+fn reports_failing(alloc: Global, command: Command, reads: usize) -> bool
     requires { RunsAlone command }
 {
     let mut output = Vec::new(alloc);
@@ -131,7 +131,7 @@ fn assert_failing(rt: &impl Abort, alloc: Global, command: Command)
 {
     for reads in 0..=DOCUMENT.len() {
         assert!(rt;
-            tells_failing(alloc, command, reads),
+            reports_failing(alloc, command, reads),
             "{command:?}, {reads}"
         );
     }

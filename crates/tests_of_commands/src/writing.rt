@@ -187,7 +187,7 @@ fn is_whole(alloc: Global, a_write: usize) -> bool {
 }
 
 /// Whether a sink that can't be flushed has all of the report, and its fault is reported.
-fn tells_failing_flush(alloc: Global) -> bool {
+fn reports_failing_flush(alloc: Global) -> bool {
     let mut sink = Narrow::new(alloc, 100, REPORT.len(), Full::Fails);
     sink.flushes = false;
     let outcome = served_plain(alloc, &mut sink);
@@ -201,7 +201,7 @@ fn short_writes(rt: HostRuntime) {
     for a_write in [1, 2, 7, REPORT.len()] {
         assert!(rt; is_whole(alloc, a_write), "{a_write}");
     }
-    assert!(rt; tells_failing_flush(alloc));
+    assert!(rt; reports_failing_flush(alloc));
 }
 
 /// A reader and a writer each other call of which a signal interrupts.

@@ -67,9 +67,9 @@ abbrev pub IsAt : List (List Entry) → Receipt → Type 0
 IsAt histories receipt = slice_get (numbers_at histories receipt.run) receipt.place ≡ Some receipt.number
 
 -- a position is after the last one so far
-abbrev pub IsBehind : (last : Option ℕ) → (place : ℕ) → Type 0
-IsBehind None place = Unit {0}
-IsBehind (Some last) place = last < place
+abbrev pub IsAfter : (last : Option ℕ) → (place : ℕ) → Type 0
+IsAfter None place = Unit {0}
+IsAfter (Some last) place = last < place
 
 -- the last position of a run among receipts, which need not be in order
 pub record IsLast (receipts : List Receipt) (run last : ℕ) : Type 0 where
@@ -147,7 +147,7 @@ IsUnheld unmet stored number = (slice_get unmet number ≡ Some true) ⊎ (slice
 
 pub record IsThere (unmet stored : List Bool) (number : ℕ) : Type 0 where
   pub is_met : slice_get unmet number ≡ Some false
-  pub stands : slice_get stored number ≡ Some true
+  pub is_there : slice_get stored number ≡ Some true
 
 pub record IsFirstUnheld (unmet stored : List Bool) (number : ℕ) : Type 0 where
   pub there : number < length unmet

@@ -3,13 +3,13 @@ use Rattle.std.specs.Global.{Box}
 use Rattle.std.specs.Prelude.{ℕ, suc, Bool, false, ◌&&◌, if◌then◌else◌, List, Option, Some, option_map, Result, Ok, Err}
 use Rattle.ar_value.specs.declared.operator.UnaryOperator.TheVariants as unary
 use Rattle.ar_value.specs.Answer.{◌>>=◌}
-use Rattle.ar_value.specs.Kind.{Kind, is_decimal, plain, truth_kind}
+use Rattle.ar_value.specs.Kind.{Kind, is_decimal, plain, boolean_kind}
 use Rattle.ar_value.specs.Kind as kind
 use Rattle.ar_value.specs.Shape.{Shape}
 use Rattle.ar_value.specs.View.{shape_view}
 use Rattle.ar_tree.specs.Expression.{Expression, Expressions}
 use Rattle.ar_check.specs.Check.{Answer, Item, LeftIsNil, NeitherIsNil, NilSide, RightIsNil, item_shape, item_typed, items_typed, typed_of, where_wanted}
-use Rattle.ar_check.specs.Operand.{Operand, is_truth, is_whole, made_plain, operand, plain_of, scalar_of}
+use Rattle.ar_check.specs.Operand.{Operand, is_boolean, is_whole, unwrapped, operand, plain_of, scalar_of}
 use Rattle.ar_tree.specs.Typed.{Typed}
 use Rattle.ar_tree.specs.Typed as typed
 use Rattle.ar_tree.specs.Views.{typed_view}
@@ -74,15 +74,15 @@ connected Or left right = typed.either left right
 
 abbrev pub connected_of : ℕ → Connective → Operand → Operand → Answer
 connected_of at by left right =
-    where_wanted at (is_truth left && is_truth right) (connected by (made_plain left) (made_plain right)) truth_kind
+    where_wanted at (is_boolean left && is_boolean right) (connected by (unwrapped left) (unwrapped right)) boolean_kind
 
 -- whether a tree of a kind is a whole next to a decimal, and the tree, where it is converted
 abbrev pub turns : Kind → Kind → Bool
 turns (kind.shaped other) (kind.shaped shape) = is_decimal other && is_whole (plain shape)
 turns other of = false
 
-abbrev pub turned_where : Bool → Typed → Typed
-turned_where is_turned tree = if is_turned then typed.unary unary.ToDecimal tree else tree
+abbrev pub converted_where : Bool → Typed → Typed
+converted_where is_converted tree = if is_converted then typed.unary unary.ToDecimal tree else tree
 
 -- which operand is the literal `nil`, by tests of both
 abbrev pub side_by : (nil_left nil_right : Bool) → NilSide

@@ -11,15 +11,15 @@ is_serve_memory OutOfMemory = true
 is_serve_memory error = false
 
 -- what a refusal says, and what an end of workers; no reader and no writer failed
-abbrev pub Tells : (Refusal → Type 0) → (WorkError → Type 0) → ServeError → Type 0
-Tells P Q (Refused refusal) = P refusal
-Tells P Q (Work error) = Q error
-Tells P Q error = ⊥
+abbrev pub Names : (Refusal → Type 0) → (WorkError → Type 0) → ServeError → Type 0
+Names P Q (Refused refusal) = P refusal
+Names P Q (Work error) = Q error
+Names P Q error = ⊥
 
 -- what a refusal says; there were no workers
-abbrev pub TellsRefusal : (Refusal → Type 0) → ServeError → Type 0
-TellsRefusal P = Tells P (λ error. ⊥)
+abbrev pub NamesRefusal : (Refusal → Type 0) → ServeError → Type 0
+NamesRefusal P = Names P (λ error. ⊥)
 
 -- what an end of workers says, and that it isn't out of memory; the input was read
-abbrev pub TellsWork : (WorkError → Type 0) → ServeError → Type 0
-TellsWork Q = Tells (λ refusal. ⊥) (λ error. Q error × (error ≢ work.OutOfMemory))
+abbrev pub NamesWork : (WorkError → Type 0) → ServeError → Type 0
+NamesWork Q = Names (λ refusal. ⊥) (λ error. Q error × (error ≢ work.OutOfMemory))

@@ -17,8 +17,8 @@ abbrev pub no_code : Code
 no_code = code_of_parts [] [] []
 
 -- how many operations there are: the index of the next
-abbrev pub draft_place : Code → ℕ
-draft_place draft = length draft.ops
+abbrev pub draft_index : Code → ℕ
+draft_index draft = length draft.ops
 
 abbrev pub with_op : Op → Code → Code
 with_op op draft = code_of_parts (draft.ops ++ op ∷ []) draft.texts draft.names
@@ -32,27 +32,27 @@ abbrev pub with_field : List ℕ → Code → Code
 with_field name draft =
     code_of_parts (draft.ops ++ Field (index_among name draft.names) ∷ []) draft.texts (with_text name draft.names)
 
--- another operation at `place`
-abbrev pub with_set : (place : ℕ) → Op → Code → Code
-with_set place op draft = code_of_parts (set draft.ops place op) draft.texts draft.names
+-- another operation at `index`
+abbrev pub with_set : (index : ℕ) → Op → Code → Code
+with_set index op draft = code_of_parts (set draft.ops index op) draft.texts draft.names
 
 abbrev pub with_literal : Literal → Code → Code
 with_literal literals.Nil draft = with_op (Push sources.Nil) draft
-with_literal (literals.Bool truth) draft = with_op (Push (sources.Bool truth)) draft
+with_literal (literals.Bool boolean) draft = with_op (Push (sources.Bool boolean)) draft
 with_literal (literals.Whole value) draft = with_op (Push (sources.Whole value)) draft
 with_literal (literals.Decimal millionths) draft = with_op (Push (sources.Decimal millionths)) draft
 with_literal (literals.Text letters) draft = with_push_text letters draft
 
--- a jump at `place` leads to the next operation
-abbrev pub jumps_on : JumpKind → (place : ℕ) → Code → Code
-jumps_on jump place draft = with_set place (Jump jump (draft_place draft)) draft
+-- a jump at `index` leads to the next operation
+abbrev pub jumps_on : JumpKind → (index : ℕ) → Code → Code
+jumps_on jump index draft = with_set index (Jump jump (draft_index draft)) draft
 
 -- a loop's Enter, whose Step comes next
-abbrev pub enters : Predicate → (place : ℕ) → Code → Code
-enters predicate place draft = with_set place (Enter predicate (draft_place draft)) draft
+abbrev pub enters : Predicate → (index : ℕ) → Code → Code
+enters predicate index draft = with_set index (Enter predicate (draft_index draft)) draft
 
-abbrev pub with_loop : Predicate → (place : ℕ) → Code → Code
-with_loop predicate place draft = with_op (Step predicate place) (enters predicate place draft)
+abbrev pub with_loop : Predicate → (index : ℕ) → Code → Code
+with_loop predicate index draft = with_op (Step predicate index) (enters predicate index draft)
 
 abbrev mutual
   pub drafted : Typed → Code → Code
@@ -63,18 +63,19 @@ abbrev mutual
   drafted (typed.unary operator operand) draft = with_op (Unary operator) (drafted operand draft)
   drafted (typed.binary operator left right) draft = with_op (Binary operator) (drafted right (drafted left draft))
   drafted (typed.both left right) draft =
-      jumps_on jumps.And (draft_place (drafted left draft))
+      jumps_on jumps.And (draft_index (drafted left draft))
       (drafted right (with_op (Jump jumps.And 0) (drafted left draft)))
   drafted (typed.either left right) draft =
-      jumps_on jumps.Or (draft_place (drafted left draft))
+      jumps_on jumps.Or (draft_index (drafted left draft))
       (drafted right (with_op (Jump jumps.Or 0) (drafted left draft)))
-  drafted (typed.choice condition met unmet) draft =
-      jumps_on jumps.Always (draft_place (drafted met (with_op (Jump jumps.Branch 0) (drafted condition draft))))
-      (drafted unmet (jumps_on jumps.Branch (draft_place (drafted condition draft))
-      (with_op (Jump jumps.Always 0) (drafted met (with_op (Jump jumps.Branch 0) (drafted condition draft))))))
+  drafted (typed.choice condition then_branch else_branch) draft =
+      jumps_on jumps.Always
+      (draft_index (drafted then_branch (with_op (Jump jumps.Branch 0) (drafted condition draft))))
+      (drafted else_branch (jumps_on jumps.Branch (draft_index (drafted condition draft))
+      (with_op (Jump jumps.Always 0) (drafted then_branch (with_op (Jump jumps.Branch 0) (drafted condition draft))))))
   drafted (typed.listed scalar items) draft = with_op (MakeList scalar (how_many items)) (drafted_items items draft)
   drafted (typed.predicate predicate list body) draft =
-      with_loop predicate (draft_place (drafted list draft))
+      with_loop predicate (draft_index (drafted list draft))
       (drafted body (with_op (Enter predicate 0) (drafted list draft)))
 
   pub drafted_items : Typeds → Code → Code

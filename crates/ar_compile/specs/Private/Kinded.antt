@@ -1,6 +1,6 @@
 -- Which kinds typed trees have. A typed tree says itself where an operand is unwrapped or converted to decimal.
 use Rattle.std.specs.Prelude.{◌≡◌, ◌<◌, ℕ, suc, List, Option, Some}
-use Rattle.ar_value.specs.Kind.{Kind, shaped, merge, scalar_shape, truth_kind}
+use Rattle.ar_value.specs.Kind.{Kind, shaped, merge, scalar_shape, boolean_kind}
 use Rattle.ar_value.specs.Shape.{Shape, FieldShapes, list, object, shape_named}
 use Rattle.ar_value.specs.declared.operator.BinaryOperator.{BinaryOperator}
 use Rattle.ar_value.specs.declared.operator.Predicate.{Predicate}
@@ -28,26 +28,26 @@ mutual
         → Kinded result item around operand of → unary_kind operator of ≡ Some given
         → Kinded result item around (typed.unary operator operand) given
     of_binary : {item : Option Shape} {around : ℕ} {operator : BinaryOperator} {left right : Typed}
-        {of beside given : Kind}
-        → Kinded result item around left of → Kinded result item around right beside
-        → binary_kind operator of beside ≡ Some given
+        {of next_to given : Kind}
+        → Kinded result item around left of → Kinded result item around right next_to
+        → binary_kind operator of next_to ≡ Some given
         → Kinded result item around (typed.binary operator left right) given
     of_both : {item : Option Shape} {around : ℕ} {left right : Typed}
-        → Kinded result item around left truth_kind → Kinded result item around right truth_kind
-        → Kinded result item around (typed.both left right) truth_kind
+        → Kinded result item around left boolean_kind → Kinded result item around right boolean_kind
+        → Kinded result item around (typed.both left right) boolean_kind
     of_either : {item : Option Shape} {around : ℕ} {left right : Typed}
-        → Kinded result item around left truth_kind → Kinded result item around right truth_kind
-        → Kinded result item around (typed.either left right) truth_kind
-    of_choice : {item : Option Shape} {around : ℕ} {condition met unmet : Typed} {left right both : Kind}
-        → Kinded result item around condition truth_kind → Kinded result item around met left
-        → Kinded result item around unmet right → merge left right ≡ Some both
-        → Kinded result item around (typed.choice condition met unmet) both
+        → Kinded result item around left boolean_kind → Kinded result item around right boolean_kind
+        → Kinded result item around (typed.either left right) boolean_kind
+    of_choice : {item : Option Shape} {around : ℕ} {condition then_branch else_branch : Typed} {left right both : Kind}
+        → Kinded result item around condition boolean_kind → Kinded result item around then_branch left
+        → Kinded result item around else_branch right → merge left right ≡ Some both
+        → Kinded result item around (typed.choice condition then_branch else_branch) both
     of_list : {item : Option Shape} {around : ℕ} {items : Typeds} {scalar : Scalar}
         → AllKinded result item around items scalar
         → Kinded result item around (typed.listed scalar items) (shaped (list (scalar_shape scalar) (how_many items)))
     of_predicate : {item : Option Shape} {around max : ℕ} {predicate : Predicate} {items body : Typed} {shape : Shape}
         → Kinded result item around items (shaped (list shape max)) → around < most_loops
-        → Kinded result (Some shape) (suc around) body truth_kind
+        → Kinded result (Some shape) (suc around) body boolean_kind
         → Kinded result item around (typed.predicate predicate items body)
         (predicate_kind predicate (shaped (list shape max)))
 

@@ -13,56 +13,57 @@ use Rattle.ar_op.specs.declared.op.Source.TheVariants as sources
 use Rattle.ar_compile.specs.Length.{operations, operations_of_items}
 
 module _ (code : Code) where
-  abbrev pub At : (place : ℕ) → Op → Type 0
-  At place op = nth code.ops place ≡ Some op
+  abbrev pub At : (index : ℕ) → Op → Type 0
+  At index op = nth code.ops index ≡ Some op
 
-  abbrev pub PushesText : (place : ℕ) → List ℕ → Type 0
-  PushesText place letters = (n : ℕ) × At place (Push (sources.Text n)) × (nth code.texts n ≡ Some letters)
+  abbrev pub PushesText : (index : ℕ) → List ℕ → Type 0
+  PushesText index letters = (n : ℕ) × At index (Push (sources.Text n)) × (nth code.texts n ≡ Some letters)
 
-  abbrev pub TakesField : (place : ℕ) → List ℕ → Type 0
-  TakesField place name = (n : ℕ) × At place (Field n) × (nth code.names n ≡ Some name)
+  abbrev pub TakesField : (index : ℕ) → List ℕ → Type 0
+  TakesField index name = (n : ℕ) × At index (Field n) × (nth code.names n ≡ Some name)
 
-  abbrev pub StandsLiteral : (place : ℕ) → Literal → Type 0
-  StandsLiteral place literals.Nil = At place (Push sources.Nil)
-  StandsLiteral place (literals.Bool truth) = At place (Push (sources.Bool truth))
-  StandsLiteral place (literals.Whole value) = At place (Push (sources.Whole value))
-  StandsLiteral place (literals.Decimal millionths) = At place (Push (sources.Decimal millionths))
-  StandsLiteral place (literals.Text letters) = PushesText place letters
+  abbrev pub IsLiteralAt : (index : ℕ) → Literal → Type 0
+  IsLiteralAt index literals.Nil = At index (Push sources.Nil)
+  IsLiteralAt index (literals.Bool boolean) = At index (Push (sources.Bool boolean))
+  IsLiteralAt index (literals.Whole value) = At index (Push (sources.Whole value))
+  IsLiteralAt index (literals.Decimal millionths) = At index (Push (sources.Decimal millionths))
+  IsLiteralAt index (literals.Text letters) = PushesText index letters
 
   abbrev mutual
-    pub Stands : (place : ℕ) → Typed → Type 0
-    Stands place typed.result = At place (Push sources.Result)
-    Stands place typed.item = At place (Push sources.Item)
-    Stands place (typed.literal literal) = StandsLiteral place literal
-    Stands place (typed.field owner name) = Stands place owner × TakesField (place + operations owner) name
-    Stands place (typed.unary operator operand) =
-        Stands place operand × At (place + operations operand) (Unary operator)
-    Stands place (typed.binary operator left right) =
-        Stands place left × Stands (place + operations left) right
-        × At (place + operations left + operations right) (Binary operator)
-    Stands place (typed.both left right) =
-        Stands place left × At (place + operations left)
-        (Jump jumps.And (place + operations left + 1 + operations right))
-        × Stands (place + operations left + 1) right
-    Stands place (typed.either left right) =
-        Stands place left × At (place + operations left)
-        (Jump jumps.Or (place + operations left + 1 + operations right))
-        × Stands (place + operations left + 1) right
-    Stands place (typed.choice condition met unmet) =
-        Stands place condition
-        × At (place + operations condition) (Jump jumps.Branch (place + operations condition + 1 + operations met + 1))
-        × Stands (place + operations condition + 1) met
-        × At (place + operations condition + 1 + operations met)
-        (Jump jumps.Always (place + operations condition + 1 + operations met + 1 + operations unmet))
-        × Stands (place + operations condition + 1 + operations met + 1) unmet
-    Stands place (typed.listed scalar items) =
-        StandItems place items × At (place + operations_of_items items) (MakeList scalar (how_many items))
-    Stands place (typed.predicate predicate list body) =
-        Stands place list
-        × At (place + operations list) (Enter predicate (place + operations list + 1 + operations body))
-        × Stands (place + operations list + 1) body
-        × At (place + operations list + 1 + operations body) (Step predicate (place + operations list))
+    pub IsAt : (index : ℕ) → Typed → Type 0
+    IsAt index typed.result = At index (Push sources.Result)
+    IsAt index typed.item = At index (Push sources.Item)
+    IsAt index (typed.literal literal) = IsLiteralAt index literal
+    IsAt index (typed.field owner name) = IsAt index owner × TakesField (index + operations owner) name
+    IsAt index (typed.unary operator operand) =
+        IsAt index operand × At (index + operations operand) (Unary operator)
+    IsAt index (typed.binary operator left right) =
+        IsAt index left × IsAt (index + operations left) right
+        × At (index + operations left + operations right) (Binary operator)
+    IsAt index (typed.both left right) =
+        IsAt index left × At (index + operations left)
+        (Jump jumps.And (index + operations left + 1 + operations right))
+        × IsAt (index + operations left + 1) right
+    IsAt index (typed.either left right) =
+        IsAt index left × At (index + operations left)
+        (Jump jumps.Or (index + operations left + 1 + operations right))
+        × IsAt (index + operations left + 1) right
+    IsAt index (typed.choice condition then_branch else_branch) =
+        IsAt index condition
+        × At (index + operations condition)
+        (Jump jumps.Branch (index + operations condition + 1 + operations then_branch + 1))
+        × IsAt (index + operations condition + 1) then_branch
+        × At (index + operations condition + 1 + operations then_branch)
+        (Jump jumps.Always (index + operations condition + 1 + operations then_branch + 1 + operations else_branch))
+        × IsAt (index + operations condition + 1 + operations then_branch + 1) else_branch
+    IsAt index (typed.listed scalar items) =
+        AreItemsAt index items × At (index + operations_of_items items) (MakeList scalar (how_many items))
+    IsAt index (typed.predicate predicate list body) =
+        IsAt index list
+        × At (index + operations list) (Enter predicate (index + operations list + 1 + operations body))
+        × IsAt (index + operations list + 1) body
+        × At (index + operations list + 1 + operations body) (Step predicate (index + operations list))
 
-    pub StandItems : (place : ℕ) → Typeds → Type 0
-    StandItems place typed.none = Unit {0}
-    StandItems place (typed.more first others) = Stands place first × StandItems (place + operations first) others
+    pub AreItemsAt : (index : ℕ) → Typeds → Type 0
+    AreItemsAt index typed.none = Unit {0}
+    AreItemsAt index (typed.more first others) = IsAt index first × AreItemsAt (index + operations first) others

@@ -1,4 +1,4 @@
--- What reading under a shape needs to know of its records: the places of the required fields.
+-- What reading under a shape needs to know of its records: the indices of the required fields.
 use Rattle.std.specs.Prelude.{◌≡◌, ℕ, suc, ◌<◌, ◌==◌, nat_lt, if◌then◌else◌, List, [], ◌∷◌, length, Option, Some, None, Result, Ok, Err, slice_get, slice_index_or}
 use Rattle.ar_value.specs.Kind.{is_optional}
 use Rattle.ar_value.specs.Shape.{Shape, FieldShapes}
@@ -16,7 +16,7 @@ mutual
     nothing : Needs
     -- what the items of a list need
     items : Needs → Needs
-    -- a record: the places of its required fields, and what each field needs
+    -- a record: the indices of its required fields, and what each field needs
     fields : List ℕ → Inner → Needs
 
   pub data Inner : Type 0 where
@@ -27,11 +27,11 @@ abbrev pub inner_of : List Needs → Inner
 inner_of [] = no_more
 inner_of (needs ∷ others) = more needs (inner_of others)
 
--- the places of the required fields, where the first field has this place
+-- the indices of the required fields, where the first field has this index
 abbrev pub required_in : ℕ → FieldShapes → List ℕ
-required_in place shapes.no_fields = []
-required_in place (shapes.field name shape others) =
-    if is_optional shape then required_in (suc place) others else place ∷ required_in (suc place) others
+required_in index shapes.no_fields = []
+required_in index (shapes.field name shape others) =
+    if is_optional shape then required_in (suc index) others else index ∷ required_in (suc index) others
 
 abbrev mutual
   -- what a shape needs; an optional one what it needs where the value is there
@@ -51,12 +51,12 @@ abbrev pub item_needs : Needs → Needs
 item_needs (items needs) = needs
 item_needs needs = needs
 
-abbrev pub required_places : Needs → List ℕ
-required_places (fields places inner) = places
-required_places needs = []
+abbrev pub required_indices : Needs → List ℕ
+required_indices (fields indices inner) = indices
+required_indices needs = []
 
 abbrev pub needs_inside : Needs → Inner
-needs_inside (fields places inner) = inner
+needs_inside (fields indices inner) = inner
 needs_inside needs = no_more
 
 -- One level of what the code's types represent, with what is inside already seen.
@@ -72,19 +72,19 @@ field_needs_step f = fields f.required.items (inner_of f.inner.items)
 abbrev pub needs_view : NeedsCode → Needs
 needs_view = fold-Needs Needs Needs needs_step field_needs_step
 
--- at a place are a shape and its needs
+-- at an index are a shape and its needs
 abbrev pub AreNeedsAt : List ShapeCode → List NeedsCode → ℕ → Type 0
-AreNeedsAt shapes inner place =
-    (place < length shapes) × (place < length inner)
-    × ((shape : ShapeCode) (needs : NeedsCode) → shape ≡ slice_index_or shapes place shape
-    → needs ≡ slice_index_or inner place needs → needs_view needs ≡ needs_of (shape_view shape))
+AreNeedsAt shapes inner index =
+    (index < length shapes) × (index < length inner)
+    × ((shape : ShapeCode) (needs : NeedsCode) → shape ≡ slice_index_or shapes index shape
+    → needs ≡ slice_index_or inner index needs → needs_view needs ≡ needs_of (shape_view shape))
 
--- Of the places of required fields those before `next` were present. Then comes the field at a place: the index of
--- the next that has to be present, unless one before the place was skipped.
+-- Of the indices of required fields those before `next` were present. Then comes the field at an index: the index of
+-- the next that has to be present, unless one before the index was skipped.
 abbrev pub passed_to : ℕ → ℕ → Option ℕ → Result ℕ ShapeFault
-passed_to next place None = Ok next
-passed_to next place (Some first) =
-    if nat_lt first place then Err MissingField else (if first == place then Ok (suc next) else Ok next)
+passed_to next index None = Ok next
+passed_to next index (Some first) =
+    if nat_lt first index then Err MissingField else (if first == index then Ok (suc next) else Ok next)
 
 abbrev pub passed : List ℕ → ℕ → ℕ → Result ℕ ShapeFault
-passed required next place = passed_to next place (slice_get required next)
+passed required next index = passed_to next index (slice_get required next)

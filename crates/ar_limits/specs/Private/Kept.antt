@@ -42,7 +42,7 @@ pub record AreWithin (bound : ℕ) (metrics : List Metric) : Type 0 where
 -- the event takes the run from the first state to the second with this effect, by running counts
 pub record Takes (metrics : List Metric) (phase : Phase) (incomplete : ℕ) (event : Event) (effect : Effect)
     (metrics' : List Metric) (phase' : Phase) (incomplete' : ℕ) : Type 0 where
-  pub stands : (handed : ℕ)
+  pub is_there : (handed : ℕ)
       → standing_of metrics' phase' handed ≡ next (standing_of metrics phase handed) event
   pub answers : (handed : ℕ) → effect ≡ answer (standing_of metrics phase handed) event
   pub consistent : AreConsistent metrics' phase' incomplete'

@@ -1,7 +1,7 @@
 -- Parts of templates, as they are read.
 use Rattle.std.specs.Prelude.{ℕ, List, [], Option, Result, Ok, codes}
 use Rattle.serde_json.specs.Data.{Data}
-use Rattle.ar_value.specs.Answer.{◌>>=◌, each_behind}
+use Rattle.ar_value.specs.Answer.{◌>>=◌, each_after}
 use Rattle.ar_json.specs.Members.{member, member_of_member}
 use Rattle.ar_manifest.specs.DryRun.{with_dry_run}
 use Rattle.ar_manifest.specs.Private.Early.{counted_of}
@@ -22,5 +22,5 @@ two_limits refusal first second d = do
 abbrev pub marked_metrics : Data → Result (List Metric) ManifestError
 marked_metrics d = do
   items ← counted_of d
-  metrics ← each_behind metric_of [] items
+  metrics ← each_after metric_of [] items
   with_dry_run (member_of_member (codes "spec") (codes "dryRun") d) metrics

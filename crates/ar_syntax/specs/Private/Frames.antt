@@ -1,8 +1,8 @@
 -- What the stack in memory says of what is begun and not ended.
 use Rattle.std.specs.Prelude.{ℕ, Bool, true, false, nat_le, map, List, [], ◌∷◌, ◌++◌}
 use Rattle.ar_tree.specs.Expression.{Expression, UnaryAt, BinaryAt, ChoiceAt}
-use Rattle.ar_syntax.specs.Machine.{Frame, ParserState, climbed, unwound, RightOf, Prefixed, Yes, No, Grouped, Listed, Indexed, Argued, Body, Braced}
-use Rattle.ar_syntax.specs.Roles.{looseness}
+use Rattle.ar_syntax.specs.Machine.{Frame, ParserState, climbed, unwound, RightOf, Prefixed, Then, Else, Grouped, Listed, Indexed, Argued, Body, Braced}
+use Rattle.ar_syntax.specs.Roles.{precedence}
 use Rattle.ar_tree.specs.Views.{expression_of}
 use Rattle.ar_syntax.specs.declared.climb.Reach.{Reach}
 use Rattle.ar_syntax.specs.declared.climb.Reach.TheVariants.{Level, Ender}
@@ -13,8 +13,9 @@ use Rattle.ar_syntax.specs.declared.machine.Frame.TheVariants as frames
 abbrev pub frame_of : rust.Frame → Frame
 frame_of (frames.RightOf at operator first) = RightOf at operator (expression_of first.value)
 frame_of (frames.Prefixed at operator) = Prefixed at operator
-frame_of (frames.Yes at condition) = Yes at (expression_of condition.value)
-frame_of (frames.No at condition met) = No at (expression_of condition.value) (expression_of met.value)
+frame_of (frames.Then at condition) = Then at (expression_of condition.value)
+frame_of (frames.Else at condition then_branch) =
+    Else at (expression_of condition.value) (expression_of then_branch.value)
 frame_of frames.Grouped = Grouped
 frame_of (frames.Listed at so_far) = Listed at (map expression_of so_far.items)
 frame_of (frames.Indexed at list) = Indexed at (expression_of list.value)
@@ -29,7 +30,7 @@ frames_of (frame ∷ newer) = frames_of newer ++ frame_of frame ∷ []
 
 -- whether a frame ends with an operand, up to a level
 abbrev pub ends_below : ℕ → Frame → Bool
-ends_below level (RightOf at operator first) = nat_le (looseness operator) level
+ends_below level (RightOf at operator first) = nat_le (precedence operator) level
 ends_below level (Prefixed at operator) = true
 ends_below level frame = false
 
@@ -37,14 +38,14 @@ ends_below level frame = false
 abbrev pub closed_by : Frame → Expression → Expression
 closed_by (RightOf at operator first) tree = BinaryAt at operator first tree
 closed_by (Prefixed at operator) tree = UnaryAt at operator tree
-closed_by (No at condition met) tree = ChoiceAt at condition met tree
+closed_by (Else at condition then_branch) tree = ChoiceAt at condition then_branch tree
 closed_by frame tree = tree
 
 -- whether a frame ends before a closing sign, a comma or a colon
 abbrev pub unwinds : Frame → Bool
 unwinds (RightOf at operator first) = true
 unwinds (Prefixed at operator) = true
-unwinds (No at condition met) = true
+unwinds (Else at condition then_branch) = true
 unwinds frame = false
 
 -- whether a frame ends with an operand, that far

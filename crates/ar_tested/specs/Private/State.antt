@@ -2,9 +2,9 @@
 use Rattle.std.specs.Prelude.{◌≡◌, List, map, option_map, reverse, drop, IfOk, Option, Result}
 use Rattle.std.specs.declared.alloc.AllocError.{AllocError}
 use Rattle.ar_value.specs.Value.{Value, items_of}
-use Rattle.ar_machine.specs.Memory.{MemoryLoop, MemoryNext, MemoryState, ends, goes, stuck}
+use Rattle.ar_machine.specs.Memory.{MemoryLoop, MemoryNext, MemoryState, ends, proceeds, stuck}
 use Rattle.ar_machine.specs.Operand.{value_of}
-use Rattle.ar_machine.specs.declared.operand.lent.ValueRef.{ValueRef}
+use Rattle.ar_machine.specs.declared.operand.borrowed.ValueRef.{ValueRef}
 use Rattle.ar_tested.specs.Private.Operand.{from_top, values_in}
 use Rattle.ar_tested.specs.declared.state.Loop.{Loop}
 use Rattle.ar_tested.specs.declared.state.Next.{Next}
@@ -32,16 +32,16 @@ from_innermost loops = reverse (map loop_view loops)
 abbrev pub state_view : State → MemoryState
 state_view s =
     record {
-      place = s.place;
+      index = s.index;
       operands = from_top s.operands.items;
       loops = from_innermost s.loops.items;
       cost = s.cost;
     }
 
 abbrev pub next_view : Next → MemoryState → MemoryNext
-next_view nexts.Goes s = goes s
+next_view nexts.Proceeds s = proceeds s
 next_view (nexts.Ends answer) s = ends answer s.cost
-next_view nexts.Stuck s = stuck s.place
+next_view nexts.Stuck s = stuck s.index
 
 -- what was done leads to what is meant, unless memory ran out
 abbrev pub Leads : Result Next AllocError → State → MemoryNext → Type 0

@@ -5,24 +5,24 @@ use Rattle.ar_value.specs.Limits.{most_loops}
 use Rattle.ar_op.specs.Machine.{nth}
 use Rattle.ar_op.specs.declared.op.Op.{Op}
 use Rattle.ar_op.specs.declared.op.Op.TheVariants.{Jump, Enter, Step, Return}
-use Rattle.ar_safety.specs.Places.{all_pass, loops_around, nests_well, or_else, unless}
+use Rattle.ar_safety.specs.Indices.{all_pass, loops_around, nests_well, or_else, unless}
 use Rattle.ar_safety.specs.declared.error.Reason.{Reason}
 use Rattle.ar_safety.specs.declared.error.Reason.TheVariants.{CrossesLoop, LoopsTooDeep}
 
 -- ---- how many loops are around each index
 
-abbrev pub depth_behind : Op → (depth : ℕ) → ℕ
-depth_behind (Enter predicate step) depth = depth + 1
-depth_behind (Step predicate enter) depth = depth - 1
-depth_behind op depth = depth
+abbrev pub depth_after : Op → (depth : ℕ) → ℕ
+depth_after (Enter predicate step) depth = depth + 1
+depth_after (Step predicate enter) depth = depth - 1
+depth_after op depth = depth
 
 -- at each operation, where there are `depth` around the first
 abbrev pub depths : (depth : ℕ) → List Op → List ℕ
 depths depth [] = []
-depths depth (op ∷ ops) = depth ∷ depths (depth_behind op depth) ops
+depths depth (op ∷ ops) = depth ∷ depths (depth_after op depth) ops
 
-abbrev pub depth_at : List ℕ → (place : ℕ) → ℕ
-depth_at around place = slice_index_or around place 0
+abbrev pub depth_at : List ℕ → (index : ℕ) → ℕ
+depth_at around index = slice_index_or around index 0
 
 -- ---- the Steps of open loops
 
@@ -38,36 +38,36 @@ abbrev pub open_steps : List Op → List ℕ → List ℕ
 open_steps ops [] = []
 open_steps ops (enter ∷ outer) = open_steps ops outer ++ step_of (nth ops enter) ∷ []
 
-abbrev pub open_behind : Op → List ℕ → List ℕ
-open_behind (Enter predicate step) steps = steps ++ step ∷ []
-open_behind (Step predicate enter) steps = take (length steps - 1) steps
-open_behind op steps = steps
+abbrev pub open_after : Op → List ℕ → List ℕ
+open_after (Enter predicate step) steps = steps ++ step ∷ []
+open_after (Step predicate enter) steps = take (length steps - 1) steps
+open_after op steps = steps
 
 -- ---- the pass
 
--- whether `place` is inside the innermost loop, by its Step
-abbrev pub is_inside : Option ℕ → (place : ℕ) → Bool
-is_inside None place = true
-is_inside (Some step) place = nat_le place step
+-- whether `index` is inside the innermost loop, by its Step
+abbrev pub is_inside : Option ℕ → (index : ℕ) → Bool
+is_inside None index = true
+is_inside (Some step) index = nat_le index step
 
-abbrev pub stays_by : List ℕ → Option ℕ → (place target : ℕ) → Option Reason
-stays_by around innermost place target =
-    unless (is_inside innermost target && depth_at around place == depth_at around target) CrossesLoop
+abbrev pub stays_by : List ℕ → Option ℕ → (index target : ℕ) → Option Reason
+stays_by around innermost index target =
+    unless (is_inside innermost target && depth_at around index == depth_at around target) CrossesLoop
 
-abbrev pub nests_by : List ℕ → Option ℕ → (place : ℕ) → Op → Option Reason
-nests_by around innermost place (Jump jump target) = stays_by around innermost place target
-nests_by around innermost place (Enter predicate step) =
-    or_else (unless (nat_lt (depth_at around place) most_loops) LoopsTooDeep)
+abbrev pub nests_by : List ℕ → Option ℕ → (index : ℕ) → Op → Option Reason
+nests_by around innermost index (Jump jump target) = stays_by around innermost index target
+nests_by around innermost index (Enter predicate step) =
+    or_else (unless (nat_lt (depth_at around index) most_loops) LoopsTooDeep)
     (unless (is_inside innermost step) CrossesLoop)
-nests_by around innermost place Return = unless (depth_at around place == 0) CrossesLoop
-nests_by around innermost place op = None
+nests_by around innermost index Return = unless (depth_at around index == 0) CrossesLoop
+nests_by around innermost index op = None
 
--- what the pass finds from `place` on is what it finds at all, since it found nothing before; and these are the Steps
--- of the loops that hold `place`
-abbrev pub IsNested : List Op → (place : ℕ) → (steps : List ℕ) → Type 0
-IsNested ops place steps = (steps ≡ open_steps ops (loops_around ops place))
-    × ((before : ℕ) (op : Op) → before < place → nth ops before ≡ Some op → nests_well ops before op ≡ None)
-    × (all_pass (nests_well ops) place (drop place ops) ≡ all_pass (nests_well ops) 0 ops)
+-- what the pass finds from `index` on is what it finds at all, since it found nothing before; and these are the Steps
+-- of the loops that hold `index`
+abbrev pub IsNested : List Op → (index : ℕ) → (steps : List ℕ) → Type 0
+IsNested ops index steps = (steps ≡ open_steps ops (loops_around ops index))
+    × ((before : ℕ) (op : Op) → before < index → nth ops before ≡ Some op → nests_well ops before op ≡ None)
+    × (all_pass (nests_well ops) index (drop index ops) ≡ all_pass (nests_well ops) 0 ops)
 
 -- where jumps name indexes that are counted
 abbrev pub JumpsInside : (count : ℕ) → Op → Type 0

@@ -6,9 +6,9 @@ use Rattle.ar_safety.specs.declared.error.Reason.{Reason}
 use Rattle.ar_verify.specs.declared.failure.Failure.{Failure}
 use Rattle.ar_verify.specs.declared.failure.Failure.TheVariants as failures
 
-abbrev pub cause_at : (place : ℕ) → Failure → Cause
-cause_at place (failures.Fault reason) = causes.Fault place reason
-cause_at place failures.OutOfMemory = causes.OutOfMemory
+abbrev pub cause_at : (index : ℕ) → Failure → Cause
+cause_at index (failures.Fault reason) = causes.Fault index reason
+cause_at index failures.OutOfMemory = causes.OutOfMemory
 
 -- What a helper gave, seen by a view, is what is meant, and so is why it gave nothing, unless memory ran out.
 abbrev pub Meets : {X Y : Type 0} → (X → Y) → Result X Failure → Result Y Reason → Type 0

@@ -30,17 +30,17 @@ sends_view (code.Two first second) = sent_view first ∷ sent_view second ∷ []
 
 -- ---- what is taken off the top
 
-abbrev pub truth_taken : List Kind → Result (List Kind) Reason
-truth_taken (shaped bool ∷ kinds) = Ok kinds
-truth_taken kinds = Err IllKinded
+abbrev pub boolean_taken : List Kind → Result (List Kind) Reason
+boolean_taken (shaped bool ∷ kinds) = Ok kinds
+boolean_taken kinds = Err IllKinded
 
 abbrev pub where_empty : List Kind → Result (List Kind) Reason
 where_empty [] = Ok []
 where_empty (kind ∷ kinds) = Err BadMerge
 
 -- a boolean with nothing below it
-abbrev pub only_truth : List Kind → Result (List Kind) Reason
-only_truth kinds = truth_taken kinds >>= λ taken. where_empty taken
+abbrev pub only_boolean : List Kind → Result (List Kind) Reason
+only_boolean kinds = boolean_taken kinds >>= λ taken. where_empty taken
 
 abbrev pub parts_taken : Option (Shape × ℕ) → List Kind → Result ((Shape × ℕ) × List Kind) Reason
 parts_taken (Some parts) kinds = Ok (parts, kinds)
@@ -68,22 +68,22 @@ going_on next loops given = or_ill_kinded given >>= λ kinds. Ok (sent next kind
 
 abbrev pub kept_or_taken : (next target : ℕ) → List Kind → List Around → Result (List Sent) Reason
 kept_or_taken next target kinds loops =
-    truth_taken kinds >>= λ taken. Ok (sent target kinds loops ∷ sent next taken loops ∷ [])
+    boolean_taken kinds >>= λ taken. Ok (sent target kinds loops ∷ sent next taken loops ∷ [])
 
 abbrev pub branched : (next target : ℕ) → List Kind → List Around → Result (List Sent) Reason
 branched next target kinds loops =
-    truth_taken kinds >>= λ taken. Ok (sent target taken loops ∷ sent next taken loops ∷ [])
+    boolean_taken kinds >>= λ taken. Ok (sent target taken loops ∷ sent next taken loops ∷ [])
 
 abbrev pub around : (Shape × ℕ) × List Kind → Around
 around taken = record { item = taken.0.0; most = taken.0.1; below = taken.1 }
 
 -- where a list was taken off the top of some kinds
-abbrev pub begun : Predicate → (next behind : ℕ) → (Shape × ℕ) × List Kind → List Around → List Sent
-begun predicate next behind taken loops =
-    sent next [] (around taken ∷ loops) ∷ sent behind (answer_kind predicate taken.0.0 taken.0.1 ∷ taken.1) loops ∷ []
+abbrev pub begun : Predicate → (next later : ℕ) → (Shape × ℕ) × List Kind → List Around → List Sent
+begun predicate next later taken loops =
+    sent next [] (around taken ∷ loops) ∷ sent later (answer_kind predicate taken.0.0 taken.0.1 ∷ taken.1) loops ∷ []
 
-abbrev pub beginning : Predicate → (next behind : ℕ) → List Kind → List Around → Result (List Sent) Reason
-beginning predicate next behind kinds loops = list_taken kinds >>= λ taken. Ok (begun predicate next behind taken loops)
+abbrev pub beginning : Predicate → (next later : ℕ) → List Kind → List Around → Result (List Sent) Reason
+beginning predicate next later kinds loops = list_taken kinds >>= λ taken. Ok (begun predicate next later taken loops)
 
 abbrev pub ending : Predicate → (next : ℕ) → List Kind → List Around → Result (List Sent) Reason
 ending predicate next [] (loop ∷ outer) =
@@ -91,10 +91,10 @@ ending predicate next [] (loop ∷ outer) =
 ending predicate next kinds loops = Err BadMerge
 
 abbrev pub stepping : Predicate → (next : ℕ) → List Kind → List Around → Result (List Sent) Reason
-stepping predicate next kinds loops = truth_taken kinds >>= λ taken. ending predicate next taken loops
+stepping predicate next kinds loops = boolean_taken kinds >>= λ taken. ending predicate next taken loops
 
 abbrev pub returning : List Kind → Result (List Sent) Reason
-returning kinds = truth_taken kinds >>= λ taken. Ok []
+returning kinds = boolean_taken kinds >>= λ taken. Ok []
 
 abbrev pub jumping : Jump → (next target : ℕ) → List Kind → List Around → Result (List Sent) Reason
 jumping jumps.And next target kinds loops = kept_or_taken next target kinds loops

@@ -25,13 +25,13 @@ pub record Summary : Type 0 where
   pub depth : ℕ
   pub most_items : List ℕ
 
--- at the first `places` indexes
-abbrev pub most_each : (places : ℕ) → List Sent → List ℕ
+-- at the first `indices` indexes
+abbrev pub most_each : (indices : ℕ) → List Sent → List ℕ
 most_each zero sents = []
-most_each (suc place) sents = most_each place sents ++ most_items (arrival place sents) ∷ []
+most_each (suc index) sents = most_each index sents ++ most_items (arrival index sents) ∷ []
 
-abbrev pub summary : (places : ℕ) → List Sent → Summary
-summary places sents = record { depth = deepest sents; most_items = most_each places sents }
+abbrev pub summary : (indices : ℕ) → List Sent → Summary
+summary indices sents = record { depth = deepest sents; most_items = most_each indices sents }
 
 abbrev pub summary_view : code.Arrivals → Summary
 summary_view a = record { depth = a.depth; most_items = a.most_items.items }
@@ -54,8 +54,8 @@ Table = List (Result Operands Reason)
 abbrev pub table_view : {M : Type 0} {name : ShapeName.Ghosts M} → List (Result (held.Operands M name) Reason) → Table
 table_view arrived = map arrival_view arrived
 
-abbrev pub entry : Table → (place : ℕ) → Result Operands Reason
-entry table place = slice_index_or table place (Err Unreachable)
+abbrev pub entry : Table → (index : ℕ) → Result Operands Reason
+entry table index = slice_index_or table index (Err Unreachable)
 
 abbrev pub with_one : Table → Sent → Table
 with_one table one = slice_set table one.target (one_more (entry table one.target) one.operands)
@@ -64,12 +64,12 @@ abbrev pub with_all : Table → List Sent → Table
 with_all table [] = table
 with_all table (one ∷ others) = with_all (with_one table one) others
 
-abbrev pub without : Table → (place : ℕ) → Table
-without table place = slice_set table place (Err Unreachable)
+abbrev pub without : Table → (index : ℕ) → Table
+without table index = slice_set table index (Err Unreachable)
 
--- the table shows what arrives at each index from `place` on
-abbrev pub Shows : (place : ℕ) → Table → List Sent → Type 0
-Shows place table sents = (further : ℕ) → place ≤ further → further < length table
+-- the table shows what arrives at each index from `index` on
+abbrev pub Shows : (index : ℕ) → Table → List Sent → Type 0
+Shows index table sents = (further : ℕ) → index ≤ further → further < length table
     → entry table further ≡ arrived (sent_to further sents)
 
 -- ---- the pass
@@ -81,11 +81,11 @@ pub record Sweep : Type 0 where
 abbrev pub pass_view : {M : Type 0} {name : ShapeName.Ghosts M} → passes.Pass M name → Sweep
 pass_view p = record { table = table_view p.arrived.items; found = summary_view p.found }
 
--- what arrived at `place` is taken
-abbrev pub take_from_table : (place : ℕ) → Sweep → Operands → Sweep
-take_from_table place s had =
+-- what arrived at `index` is taken
+abbrev pub take_from_table : (index : ℕ) → Sweep → Operands → Sweep
+take_from_table index s had =
     record {
-      table = without s.table place;
+      table = without s.table index;
       found = record { depth = s.found.depth; most_items = s.found.most_items ++ most_on_top had.kinds ∷ [] };
     }
 
@@ -96,30 +96,30 @@ with_sent s sents =
       found = record { depth = max s.found.depth (deepest sents); most_items = s.found.most_items };
     }
 
-abbrev pub visited : (place : ℕ) → Sweep → Operands → List Sent → Sweep
-visited place s had sents = with_sent (take_from_table place s had) sents
+abbrev pub visited : (index : ℕ) → Sweep → Operands → List Sent → Sweep
+visited index s had sents = with_sent (take_from_table index s had) sents
 
 -- what an operation sends on is added, where the next index has a number
 abbrev pub added : Code → Shape → (next : ℕ) → Op → Sweep → Operands → Result Sweep Reason
 added code shape next op s had = sends_by code shape next op had >>= λ sents. Ok (with_sent s sents)
 
--- the operation at `place` is visited
-abbrev pub place_added : Code → Shape → (place : ℕ) → Op → Sweep → Result Sweep Reason
-place_added code shape place op s =
-    entry s.table place >>= λ had. added code shape (place + 1) op (take_from_table place s had) had
+-- the operation at `index` is visited
+abbrev pub index_added : Code → Shape → (index : ℕ) → Op → Sweep → Result Sweep Reason
+index_added code shape index op s =
+    entry s.table index >>= λ had. added code shape (index + 1) op (take_from_table index s had) had
 
--- `places` indexes include each one that an operation names
-abbrev pub StaysWithin : (places : ℕ) → Op → Type 0
-StaysWithin places (ops.Jump jump target) = target < places
-StaysWithin places (ops.Enter predicate step) = step + 1 < places
-StaysWithin places op = Unit {0}
+-- `indices` indexes include each one that an operation names
+abbrev pub StaysWithin : (indices : ℕ) → Op → Type 0
+StaysWithin indices (ops.Jump jump target) = target < indices
+StaysWithin indices (ops.Enter predicate step) = step + 1 < indices
+StaysWithin indices op = Unit {0}
 
--- the pass has reached `place` without a fault
-pub record ComesTo (code : Code) (shape : Shape) (place : ℕ) (s : Sweep) : Type 0 where
+-- the pass has reached `index` without a fault
+pub record ComesTo (code : Code) (shape : Shape) (index : ℕ) (s : Sweep) : Type 0 where
   pub sents : List Sent
-  pub left : all_sent code shape ≡ sent_on code shape place (drop place code.ops) sents
-  pub inside : place ≤ length code.ops
+  pub left : all_sent code shape ≡ sent_on code shape index (drop index code.ops) sents
+  pub inside : index ≤ length code.ops
   pub long : length s.table ≡ suc (length code.ops)
-  pub shows : Shows place s.table sents
+  pub shows : Shows index s.table sents
   pub depth : s.found.depth ≡ deepest sents
-  pub most_items : s.found.most_items ≡ most_each place sents
+  pub most_items : s.found.most_items ≡ most_each index sents

@@ -4,6 +4,6 @@ use Rattle.ar_queue.specs.declared.side_by_side.Unfinished.TheVariants as early
 use Rattle.ar_workers.specs.declared.error.WorkError.{WorkError}
 use Rattle.ar_workers.specs.declared.error.WorkError.TheVariants as cause
 
-abbrev pub told : Unfinished → WorkError
-told early.NoThread = cause.NoThread
-told early.OutOfMemory = cause.OutOfMemory
+abbrev pub reported : Unfinished → WorkError
+reported early.NoThread = cause.NoThread
+reported early.OutOfMemory = cause.OutOfMemory

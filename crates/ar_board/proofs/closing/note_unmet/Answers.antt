@@ -2,7 +2,7 @@ use Rattle.std.proofs.Common.{◌≡◌, ◌<◌, ◌≤◌, ◌*◌, ◌+◌, �
 use Rattle.std.proofs.lemmas.Grind.{common_steps}
 use Rattle.ar_bundle.specs.Sound.{IsBundle}
 use Rattle.ar_bundle.specs.Bundle.{Bundle}
-use Rattle.ar_board.specs.Private.Closing.{AreMarked, AreOwn, IsAt, IsBehind}
+use Rattle.ar_board.specs.Private.Closing.{AreMarked, AreOwn, IsAt, IsAfter}
 use Rattle.ar_board.specs.declared.cell.receipt.Receipt.{Receipt}
 use Rattle.ar_board.proofs.Marks.{last_first, last_next, marked_first, marked_met, marked_unmet, number_there, run_there, same_read}
 use Rattle.ar_board.proofs.closing.note_unmet.Goals as goal
@@ -70,13 +70,13 @@ loop-receipt-preserved g c =
     let marked : AreMarked c.args.histories.now (take c.loop-receipt.receipt-index c.args.own.now) c.args.unmet.now.items c.loop-receipt.unmet.items = c.loop-receipt.invariant.1 in
     elim c.if-not-is_met.branch [
       | then-not-is_met w ↦
-          let unmet : IsAt c.args.histories.now receipt × IsBehind so_far receipt.place → ⊥ = λ both. absurd (let no = w.if-not-is_met.ensures.1 both in cc) in (
+          let unmet : IsAt c.args.histories.now receipt × IsAfter so_far receipt.place → ⊥ = λ both. absurd (let no = w.if-not-is_met.ensures.1 both in cc) in (
             next,
             subst (λ (marks : Vec Bool Global). AreMarked c.args.histories.now (take (c.loop-receipt.receipt-index + 1) c.args.own.now) c.args.unmet.now.items marks.items) (sym w.unmet-is)
                 (marked_unmet c.args.histories.now c.args.own.now c.loop-receipt.receipt-index receipt c.loop-receipt.last so_far c.args.unmet.now.items c.loop-receipt.unmet.items inside read run_inside so_far_read c.loop-receipt.invariant.0 unmet (omega arith) marked),
           )
       | else-not-is_met w ↦
-          let met : IsAt c.args.histories.now receipt × IsBehind so_far receipt.place = w.if-not-is_met.ensures.0 refl in (
+          let met : IsAt c.args.histories.now receipt × IsAfter so_far receipt.place = w.if-not-is_met.ensures.0 refl in (
             next,
             subst (λ (marks : Vec Bool Global). AreMarked c.args.histories.now (take (c.loop-receipt.receipt-index + 1) c.args.own.now) c.args.unmet.now.items marks.items) (sym w.unmet-is)
                 (marked_met c.args.histories.now c.args.own.now c.loop-receipt.receipt-index receipt c.loop-receipt.last so_far c.args.unmet.now.items c.loop-receipt.unmet.items inside read run_inside so_far_read c.loop-receipt.invariant.0 met marked),

@@ -1,6 +1,6 @@
 use Rattle.std.proofs.Common.{subst, sym, arith}
 use Rattle.ar_bundle.specs.Lawful.{AreLawful}
-use Rattle.ar_bundle.proofs.Lawful.{lawful_behind}
+use Rattle.ar_bundle.proofs.Lawful.{lawful_after}
 use Rattle.ar_bundle.proofs.plain.run_plain.Goals as goal
 
 pub returns-clause-lawful : goal.returns-clause-lawful
@@ -9,4 +9,4 @@ returns-clause-lawful c =
     let least = c.loop-number-test.false in
     let count = c.events-events.ensures.count in
     subst (AreLawful c.args.bundle.now) (sym c.from.ensures)
-    (lawful_behind c.args.bundle.now c.loop-number.number c.loop-number.runs.states.items c.loop-number.runs.histories.items c.events-events.ensures.bundle (omega arith) c.loop-number.invariant.1)
+    (lawful_after c.args.bundle.now c.loop-number.number c.loop-number.runs.states.items c.loop-number.runs.histories.items c.events-events.ensures.bundle (omega arith) c.loop-number.invariant.1)

@@ -79,7 +79,7 @@ typed_binary-returns t c =
     rw (c.in_ok-left.ensures, c.in_ok-right.ensures, ← nil_left, ← nil_right) c.binary.ensures
 
 pub typed_choice-returns : goal.typed_choice-returns
-typed_choice-returns t c = rw (c.in_ok-condition.ensures, c.in_ok-yes.ensures, c.in_ok-no.ensures) c.choice_of.ensures
+typed_choice-returns t c = rw (c.in_ok-condition.ensures, c.in_ok-then_branch.ensures, c.in_ok-else_branch.ensures) c.choice_of.ensures
 
 pub typed_items-loop-tree-init : goal.typed_items-loop-tree-init
 typed_items-loop-tree-init t c = search (rules, all_left)

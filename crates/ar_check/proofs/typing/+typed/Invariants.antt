@@ -6,7 +6,7 @@ use Rattle.ar_tree.specs.Views.{expression_of}
 use Rattle.ar_tree.specs.declared.tree.Tree.{size-Tree}
 use Rattle.ar_check.specs.Check.{items_typed}
 use Rattle.ar_check.specs.Private.Inside.{item_view}
-use Rattle.ar_check.proofs.Items.{behind}
+use Rattle.ar_check.proofs.Items.{later}
 use Rattle.ar_check.proofs.typing.+typed.Given as goal
 
 -- the items so far come before those that are left
@@ -14,7 +14,7 @@ abbrev pub invariant-typed_items-loop-tree : goal.invariant-typed_items-loop-tre
 invariant-typed_items-loop-tree l =
     (goal.iterator-typed_items-loop-tree).can_next l.tree-iterator × (goal.iterator-typed_items-loop-tree).is_finite l.tree-iterator × (into_iter_len l.tree-iterator ≡ length (into_iter_items l.tree-iterator)) ×
     (items_typed (shape_view l.scope.measured.now) (option_map (λ shape. shape_view shape.now) l.scope.item) l.scope.around (expressions (map expression_of l.fn.trees.items))
-    ≡ behind (shape_view l.scope.measured.now) (option_map (λ shape. shape_view shape.now) l.scope.item) l.scope.around (map item_view l.items.items) (expressions (map expression_of (into_iter_items l.tree-iterator))))
+    ≡ later (shape_view l.scope.measured.now) (option_map (λ shape. shape_view shape.now) l.scope.item) l.scope.around (map item_view l.items.items) (expressions (map expression_of (into_iter_items l.tree-iterator))))
 
 -- four times the depth that is left; what is called with all of it is lower among the four
 abbrev pub decreases-typed : goal.decreases-typed
@@ -60,4 +60,4 @@ abbrev pub decreases-typed_predicate : goal.decreases-typed_predicate
 decreases-typed_predicate l = 4 * max (size-Tree l.list.value) (size-Tree l.body.value) + 3
 
 abbrev pub decreases-typed_choice : goal.decreases-typed_choice
-decreases-typed_choice l = 4 * max (size-Tree l.condition.value) (max (size-Tree l.yes.value) (size-Tree l.no.value)) + 3
+decreases-typed_choice l = 4 * max (size-Tree l.condition.value) (max (size-Tree l.then_branch.value) (size-Tree l.else_branch.value)) + 3

@@ -7,7 +7,7 @@ use Rattle.ar_tree.specs.Views.{typed_view}
 use Rattle.ar_check.specs.Memory.{is_memory}
 use Rattle.ar_check.specs.declared.error.TypeError.TheVariants.{NotTruth}
 use Rattle.ar_check.proofs.Conditions.{is_condition, is_none, refuses_none}
-use Rattle.ar_check.proofs.Sound.{is_truth_or_fault}
+use Rattle.ar_check.proofs.Sound.{is_boolean_or_fault}
 use Rattle.ar_check.proofs.typing.check.Goals as goal
 
 pub returns-in_ok-unwrapped : goal.returns-in_ok-unwrapped
@@ -17,16 +17,16 @@ returns-in_ok-unwrapped c =
       exact = is;
       condition = is_condition (shape_view c.args.shape.now) (expression_of c.args.tree) (typed_view c.into_inner.result) is;
       refused = tt;
-      answers = λ value fit. is_truth_or_fault (shape_view c.args.shape.now) (expression_of c.args.tree) (typed_view c.into_inner.result) value is fit;
+      answers = λ value fit. is_boolean_or_fault (shape_view c.args.shape.now) (expression_of c.args.tree) (typed_view c.into_inner.result) value is fit;
     }
 
-pub returns-else-is_truth : goal.returns-else-is_truth
-returns-else-is_truth c =
-    let is : checked (shape_view c.args.shape.now) (expression_of c.args.tree) ≡ Err (NotTruth c.place-at.result) = search rules in
+pub returns-else-is_boolean : goal.returns-else-is_boolean
+returns-else-is_boolean c =
+    let is : checked (shape_view c.args.shape.now) (expression_of c.args.tree) ≡ Err (NotTruth c.offset-at.result) = search rules in
     record {
       exact = is;
       condition = tt;
-      refused = is_none (shape_view c.args.shape.now) (expression_of c.args.tree) (NotTruth c.place-at.result) is;
+      refused = is_none (shape_view c.args.shape.now) (expression_of c.args.tree) (NotTruth c.offset-at.result) is;
       answers = tt;
     }
 

@@ -3,11 +3,11 @@ use Rattle.std.proofs.lemmas.Grind.{common_steps}
 use Rattle.ar_code.proofs.Entries.{next_line}
 use Rattle.ar_code.proofs.listings.listing.Goals as goal
 
-pub loop-place-init : goal.loop-place-init
-loop-place-init c = search rules
+pub loop-index-init : goal.loop-index-init
+loop-index-init c = search rules
 
-pub loop-place-preserved : goal.loop-place-preserved
-loop-place-preserved c = search (rules, next_line)
+pub loop-index-preserved : goal.loop-index-preserved
+loop-index-preserved c = search (rules, next_line)
 
 pub returns : goal.returns
 returns c = grind (arith, common_steps)

@@ -3,5 +3,5 @@ use Rattle.ar_code.specs.Listing.{lines, listing}
 use Rattle.ar_code.proofs.listings.listing.Given as goal
 
 -- the lines so far come before those of the operations that are left
-abbrev pub invariant-loop-place : goal.invariant-loop-place
-invariant-loop-place l = string_bytes l.out ++ lines l.code l.place (drop l.place l.code.ops) ≡ listing l.code
+abbrev pub invariant-loop-index : goal.invariant-loop-index
+invariant-loop-index l = string_bytes l.out ++ lines l.code l.index (drop l.index l.code.ops) ≡ listing l.code

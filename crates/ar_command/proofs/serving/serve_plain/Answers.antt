@@ -12,9 +12,9 @@ returns-in_err-said-clause-served g c = record {
       let refused = refused_by (g.S.Source.remaining c.args.reader.now) (g.S.Source.remaining c.read_input.new.source) c.deref.result.now c.args.command (λ error. ⊥) c.in_err-said.field-0.0 refusal in
       search (rules, refused, same);
   read = search rules;
-  read_told = search rules;
+  read_reported = search rules;
   write = search rules;
-  write_told = search rules;
+  write_reported = search rules;
   cut = search rules;
   cut_of_known = search rules;
   silent = search rules;
@@ -30,9 +30,9 @@ returns-clause-served g c = record {
   refused = search rules;
   refused_of_known = search rules;
   read = search rules;
-  read_told = search rules;
+  read_reported = search rules;
   write = search rules;
-  write_told = search rules;
+  write_reported = search rules;
   cut = search rules;
   cut_of_known =
       cut_of_whole (g.S.Source.remaining c.args.reader.now) (g.S.Source.remaining c.read_input.new.source) c.deref.result.now c.args.command (string_bytes c.in_ok-said.said.text) c.in_ok-said.said.closing (g.W.Sink.contents c.args.writer.now) (g.W.Sink.contents c.write.new.writer) c.write.result

@@ -5,8 +5,8 @@ use Rattle.ar_compile.proofs.compiler.+compiler.Goals as goal
 pub put_choice-put-requires-2 : goal.put_choice-put-requires-2
 put_choice-put-requires-2 t c = search (rules, drafts)
 
-pub put_choice-overflow_cast-behind_met : goal.put_choice-overflow_cast-behind_met
-put_choice-overflow_cast-behind_met t c = search (rules, drafts)
+pub put_choice-overflow_cast-after_then : goal.put_choice-overflow_cast-after_then
+put_choice-overflow_cast-after_then t c = search (rules, drafts)
 
 pub put_choice-set-requires : goal.put_choice-set-requires
 put_choice-set-requires t c = search (rules, drafts)

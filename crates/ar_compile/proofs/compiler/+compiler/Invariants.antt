@@ -4,14 +4,14 @@ use Rattle.ar_tree.specs.Views.{typed_view}
 use Rattle.ar_tree.specs.declared.typed.Typed.{size-Typed}
 use Rattle.ar_compile.specs.Length.{operations_of_items}
 use Rattle.ar_tree.specs.Limits.{AllInLimits}
-use Rattle.ar_compile.specs.Private.Drafts.{drafted_items, draft_place}
+use Rattle.ar_compile.specs.Private.Drafts.{drafted_items, draft_index}
 use Rattle.ar_compile.proofs.compiler.+compiler.Given as goal
 
 -- what is left leads to the whole
 abbrev pub invariant-put_items-loop-item : goal.invariant-put_items-loop-item
 invariant-put_items-loop-item l =
     let rest = typeds (map typed_view (drop l.item-index l.items)) in
-    (drafted_items rest l.draft ≡ drafted_items (typeds (map typed_view l.items)) l.fn.draft) × AllInLimits rest × (draft_place l.draft + operations_of_items rest ≤ 4096)
+    (drafted_items rest l.draft ≡ drafted_items (typeds (map typed_view l.items)) l.fn.draft) × AllInLimits rest × (draft_index l.draft + operations_of_items rest ≤ 4096)
 
 -- four times the depth that is left, and a rank
 abbrev pub decreases-put : goal.decreases-put
@@ -39,4 +39,4 @@ abbrev pub decreases-put_loop : goal.decreases-put_loop
 decreases-put_loop l = 4 * max (size-Typed l.list.now) (size-Typed l.body.now) + 3
 
 abbrev pub decreases-put_choice : goal.decreases-put_choice
-decreases-put_choice l = 4 * max (size-Typed l.condition.now) (max (size-Typed l.met.now) (size-Typed l.unmet.now)) + 3
+decreases-put_choice l = 4 * max (size-Typed l.condition.now) (max (size-Typed l.then_branch.now) (size-Typed l.else_branch.now)) + 3

@@ -23,8 +23,8 @@ returns-in_err-judged-clause-refused c =
     let error = err_from_is_err_and c.from_residual-in_err-judged.result c.from_residual-in_err-judged.ensures.1 in
     let is = is_shortened c.args.opened.now.template c.args.run.now.own c.in_ok-bound.bound c.args.number c.in_ok-bound.ensures in
     let refuses = shortened_refused c.args.opened.now c.args.number c.args.run.now c.in_ok-bound.bound c.in_err-judged.field-0.0 is in
-    let told = leads (is_bundle_memory c.in_err-judged.field-0.0) refuses in
-    rw (error.1, error.2) (search (rules, told))
+    let reported = leads (is_bundle_memory c.in_err-judged.field-0.0) refuses in
+    rw (error.1, error.2) (search (rules, reported))
 
 pub judges_and_limits-requires-clause-earlier : goal.judges_and_limits-requires-clause-earlier
 judges_and_limits-requires-clause-earlier c = rw c.deref.ensures.value c.requires.earlier

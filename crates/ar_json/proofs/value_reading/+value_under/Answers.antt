@@ -1,8 +1,8 @@
 use Rattle.std.proofs.Common.{rules, ap, ◌∙◌}
 use Rattle.ar_json.proofs.NeedsLemmas.{first_need, needs_at, not_longer}
 use Rattle.ar_json.proofs.ReadLemmas.{list_too_long, next_item, no_item_left, item_fails, list_short, nth_gives, record_fails, record_read}
-use Rattle.ar_json.proofs.ReadSteps.{ends, ends_missing, other_member, place_fails, place_inside, place_missing, place_read, starts}
-use Rattle.ar_json.specs.Private.Needs.{needs_inside, needs_view, required_places}
+use Rattle.ar_json.proofs.ReadSteps.{ends, ends_missing, other_member, index_fails, index_inside, index_missing, index_read, starts}
+use Rattle.ar_json.specs.Private.Needs.{needs_inside, needs_view, required_indices}
 use Rattle.ar_value.proofs.FieldLists.{Of}
 use Rattle.ar_value.proofs.Steps.{refuses_same}
 use Rattle.serde_json.proofs.Views.{view-Array}
@@ -44,45 +44,45 @@ list_under-returns-in_err-items t c = search (rules, list_too_long, list_short)
 
 pub nth_under-returns : goal.nth_under-returns
 nth_under-returns t c =
-    λ shape is. nth_gives c.args.shapes.now c.args.place c.index-shapes-place.result shape (view c.args.json.now) c.value_under.result c.requires.0 c.index-shapes-place.is is c.value_under.ensures
+    λ shape is. nth_gives c.args.shapes.now c.args.index c.index-shapes-index.result shape (view c.args.json.now) c.value_under.result c.requires.0 c.index-shapes-index.is is c.value_under.ensures
 
 pub fields_under-loop-name-init : goal.fields_under-loop-name-init
 fields_under-loop-name-init t c =
-    starts c.args.names.now c.args.shapes.now c.required-required.result.now c.args.members.now.entries c.into_iter-name-iterator.result c.in_ok-present.present.places c.in_ok-present.present.values.items
-    (search rules) c.in_ok-present.ensures.0 c.in_ok-present.ensures.1 (search rules) (c.required-required.ensures ∙ ap required_places c.requires.needs)
+    starts c.args.names.now c.args.shapes.now c.required-required.result.now c.args.members.now.entries c.into_iter-name-iterator.result c.in_ok-present.present.indices c.in_ok-present.present.values.items
+    (search rules) c.in_ok-present.ensures.0 c.in_ok-present.ensures.1 (search rules) (c.required-required.ensures ∙ ap required_indices c.requires.needs)
 
 pub fields_under-returns-in_err-next : goal.fields_under-returns-in_err-next
 fields_under-returns-in_err-next t c =
     let p = err_from_is_err_and c.from_residual-in_err-next.result c.from_residual-in_err-next.ensures.1 in
     rw (p.1, p.2)
     (refuses_same (is_reading_memory c.in_err-next.field-0.0) c.in_err-next.field-0.0 (fields_read (Of c.args.names.now c.args.shapes.now) (members_view c.args.members.now.entries))
-    (place_missing c.requires.long c.in-Some.ensures.steps c.loop-name.invariant c.as_slice-count.ensures.rise
-    c.in-Some-index_from.place (rw c.as_str.ensures.value at c.in-Some-index_from.ensures) c.in_err-next.field-0.0 c.in_err-next.ensures))
+    (index_missing c.requires.long c.in-Some.ensures.steps c.loop-name.invariant c.as_slice-count.ensures.rise
+    c.in-Some-index_from.index (rw c.as_str.ensures.value at c.in-Some-index_from.ensures) c.in_err-next.field-0.0 c.in_err-next.ensures))
 
 pub fields_under-nth_under-requires : goal.fields_under-nth_under-requires
 fields_under-nth_under-requires t c =
-    let inside = place_inside c.requires.long c.in-Some.ensures.steps c.loop-name.invariant c.as_slice-count.ensures.rise
-    c.in-Some-index_from.place (rw c.as_str.ensures.value at c.in-Some-index_from.ensures) in
-    (search rules, needs_at c.args.names.now c.args.shapes.now c.inner-inner.result.now c.in-Some-index_from.place c.requires.long inside (c.inner-inner.ensures ∙ ap needs_inside c.requires.needs))
+    let inside = index_inside c.requires.long c.in-Some.ensures.steps c.loop-name.invariant c.as_slice-count.ensures.rise
+    c.in-Some-index_from.index (rw c.as_str.ensures.value at c.in-Some-index_from.ensures) in
+    (search rules, needs_at c.args.names.now c.args.shapes.now c.inner-inner.result.now c.in-Some-index_from.index c.requires.long inside (c.inner-inner.ensures ∙ ap needs_inside c.requires.needs))
 
 pub fields_under-returns-in_err-value : goal.fields_under-returns-in_err-value
 fields_under-returns-in_err-value t c =
     let p = err_from_is_err_and c.from_residual-in_err-value.result c.from_residual-in_err-value.ensures.1 in
     rw (p.1, p.2)
-    (place_fails c.requires.long c.in-Some.ensures.steps c.loop-name.invariant c.as_slice-count.ensures.rise
-    c.in-Some-index_from.place (rw c.as_str.ensures.value at c.in-Some-index_from.ensures) c.in_ok-next.next c.in_ok-next.ensures c.in_err-value.field-0.0 c.in_err-value.ensures)
+    (index_fails c.requires.long c.in-Some.ensures.steps c.loop-name.invariant c.as_slice-count.ensures.rise
+    c.in-Some-index_from.index (rw c.as_str.ensures.value at c.in-Some-index_from.ensures) c.in_ok-next.next c.in_ok-next.ensures c.in_err-value.field-0.0 c.in_err-value.ensures)
 
 pub fields_under-overflow_add-from : goal.fields_under-overflow_add-from
 fields_under-overflow_add-from t c =
-    let inside = place_inside c.requires.long c.in-Some.ensures.steps c.loop-name.invariant c.as_slice-count.ensures.rise
-    c.in-Some-index_from.place (rw c.as_str.ensures.value at c.in-Some-index_from.ensures) in
+    let inside = index_inside c.requires.long c.in-Some.ensures.steps c.loop-name.invariant c.as_slice-count.ensures.rise
+    c.in-Some-index_from.index (rw c.as_str.ensures.value at c.in-Some-index_from.ensures) in
     search (rules, inside)
 
 pub fields_under-loop-name-preserved-in-Some-index_from : goal.fields_under-loop-name-preserved-in-Some-index_from
 fields_under-loop-name-preserved-in-Some-index_from t c =
-    rw (c.in_ok-add.ensures.places, c.in_ok-add.ensures.values)
-    (place_read c.requires.long c.in-Some.ensures.steps c.loop-name.invariant c.as_slice-count.ensures.rise
-    c.in-Some-index_from.place (rw c.as_str.ensures.value at c.in-Some-index_from.ensures) c.in_ok-next.next c.in_ok-next.ensures c.in_ok-value.value c.in_ok-value.ensures)
+    rw (c.in_ok-add.ensures.indices, c.in_ok-add.ensures.values)
+    (index_read c.requires.long c.in-Some.ensures.steps c.loop-name.invariant c.as_slice-count.ensures.rise
+    c.in-Some-index_from.index (rw c.as_str.ensures.value at c.in-Some-index_from.ensures) c.in_ok-next.next c.in_ok-next.ensures c.in_ok-value.value c.in_ok-value.ensures)
 
 pub fields_under-loop-name-preserved : goal.fields_under-loop-name-preserved
 fields_under-loop-name-preserved t c =

@@ -14,4 +14,4 @@ invariant-items_under-loop-json l =
 
 abbrev pub invariant-fields_under-loop-name : goal.invariant-fields_under-loop-name
 invariant-fields_under-loop-name l =
-    Members_read l.names l.shapes (members_view l.members.entries) l.required l.name-iterator l.from l.next l.present.places l.present.values.items
+    Members_read l.names l.shapes (members_view l.members.entries) l.required l.name-iterator l.from l.next l.present.indices l.present.values.items

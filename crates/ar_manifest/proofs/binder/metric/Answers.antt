@@ -20,7 +20,7 @@ pub returns-in_err-held-2-clause-plain : goal.returns-in_err-held-2-clause-plain
 returns-in_err-held-2-clause-plain c = λ plain refusal refused.
     let error = err_from_is_err_and c.from_residual-in_err-held-2.result c.from_residual-in_err-held-2.ensures.1 in
     let scope = c.args.scope.now in
-    let told : c.limits.result ≡ Err refusal = c.limits.ensures.plain plain refusal (refused_by_limits scope.arguments.now scope.own.now scope.metric c.args.metric.now scope.shortens c.in_ok-held.held c.in_ok-held.ensures.exact refusal refused) in
+    let reported : c.limits.result ≡ Err refusal = c.limits.ensures.plain plain refusal (refused_by_limits scope.arguments.now scope.own.now scope.metric c.args.metric.now scope.shortens c.in_ok-held.held c.in_ok-held.ensures.exact refusal refused) in
     let fault : c.limits.result ≡ Err c.in_err-held-2.field-0.0 = c.in_err-held-2.ensures.err in
     let same : c.in_err-held-2.field-0.0 ≡ refusal = cc in
     rw (error.1, error.2, same) refl

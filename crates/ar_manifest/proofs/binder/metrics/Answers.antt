@@ -39,14 +39,14 @@ returns-in_err-bound-clause-first c = λ first rest is_list plain refusal refuse
 pub loop-metric-preserved : goal.loop-metric-preserved
 loop-metric-preserved c =
     let number : c.len.result ≡ length c.loop-metric.metrics.items = omega arith in
-    let place : c.len.result ≡ c.loop-metric.metric-index = omega (arith, c.loop-metric.invariant.count) in
+    let index : c.len.result ≡ c.loop-metric.metric-index = omega (arith, c.loop-metric.invariant.count) in
     let makes : next_kept c.args.arguments.now c.args.own.now c.args.shortens c.loop-metric.metrics.items c.metric-item.result ≡ Ok c.in_ok-bound.bound = rw (← number) c.in_ok-bound.ensures.exact in
     let grown : length c.try_push.new.list.items ≡ length c.loop-metric.metrics.items + 1 = rw c.in_ok-try_push.ensures (length-append _ _) in
     record {
       so_far = step_more (λ metric. metric) (next_kept c.args.arguments.now c.args.own.now c.args.shortens) c.args.list.now c.loop-metric.metric-index c.loop-metric.metrics.items _ c.metric-item.result c.in_ok-bound.bound c.try_push.new.list.items c.loop-metric-test.true c.metric-item.is makes c.in_ok-try_push.ensures c.loop-metric.invariant.so_far;
       count = omega (arith, grown, c.loop-metric.invariant.count);
       stays = λ first rest is_list refusal refused. absurd
-          (bound_first c.args.arguments.now c.args.own.now c.args.list.now c.loop-metric.metric-index c.loop-metric.invariant.stays c.args.shortens c.metric-item.result c.len.result c.in_ok-bound.bound place c.metric-item.is c.in_ok-bound.ensures.exact first rest is_list refusal refused);
+          (bound_first c.args.arguments.now c.args.own.now c.args.list.now c.loop-metric.metric-index c.loop-metric.invariant.stays c.args.shortens c.metric-item.result c.len.result c.in_ok-bound.bound index c.metric-item.is c.in_ok-bound.ensures.exact first rest is_list refusal refused);
     }
 
 pub returns-clause-exact : goal.returns-clause-exact

@@ -39,13 +39,13 @@ returns-clause-head c = λ refusal refused. absurd (let impossible = sym c.in_ok
 pub returns-in_err-held-clause-counted : goal.returns-in_err-held-clause-counted
 returns-in_err-held-clause-counted c = λ none refusal refused.
     let error = err_from_is_err_and c.from_residual-in_err-held.result c.from_residual-in_err-held.ensures.1 in
-    let told : c.marked_metrics.result ≡ Err refusal = c.marked_metrics.ensures.counted refusal (counted_refused (view c.args.json.now) c.in_ok-name.name.now c.in_ok-name.ensures refusal refused) in
+    let reported : c.marked_metrics.result ≡ Err refusal = c.marked_metrics.ensures.counted refusal (counted_refused (view c.args.json.now) c.in_ok-name.name.now c.in_ok-name.ensures refusal refused) in
     let fault : c.marked_metrics.result ≡ Err c.in_err-held.field-0.0 = c.in_err-held.ensures.err in
     let same : c.in_err-held.field-0.0 ≡ refusal = cc in
     rw (error.1, error.2, same) refl
 
 pub returns-clause-counted : goal.returns-clause-counted
 returns-clause-counted c = λ none refusal refused.
-    let told : c.marked_metrics.result ≡ Err refusal = c.marked_metrics.ensures.counted refusal (counted_refused (view c.args.json.now) c.in_ok-name.name.now c.in_ok-name.ensures refusal refused) in
+    let reported : c.marked_metrics.result ≡ Err refusal = c.marked_metrics.ensures.counted refusal (counted_refused (view c.args.json.now) c.in_ok-name.name.now c.in_ok-name.ensures refusal refused) in
     let made : c.marked_metrics.result ≡ Ok c.in_ok-held.held.1 = c.in_ok-held.ensures.ok.0 in
-    absurd (let impossible : Ok c.in_ok-held.held.1 ≡ Err refusal = sym made ∙ told in cc)
+    absurd (let impossible : Ok c.in_ok-held.held.1 ≡ Err refusal = sym made ∙ reported in cc)

@@ -5,12 +5,12 @@ use Rattle.ar_quote.proofs.tokens.literal_length.Goals as goal
 
 pub returns-then-is_plain-clause-exact : goal.returns-then-is_plain-clause-exact
 returns-then-is_plain-clause-exact c =
-    last_letter c.args.quote c.loop-place.escaped c.args.bytes.now c.loop-place.place (slice_index_or c.args.bytes.now c.loop-place.place 0) _ c.loop-place-test.true (search rules)
-    (sym c.is_plain.ensures ∙ c.if-is_plain.true) c.loop-place.invariant.so_far
+    last_letter c.args.quote c.loop-offset.escaped c.args.bytes.now c.loop-offset.offset (slice_index_or c.args.bytes.now c.loop-offset.offset 0) _ c.loop-offset-test.true (search rules)
+    (sym c.is_plain.ensures ∙ c.if-is_plain.true) c.loop-offset.invariant.so_far
 
-pub loop-place-preserved : goal.loop-place-preserved
-loop-place-preserved c = record {
-  so_far = rw (c.is_plain-escaped.ensures) (next_letter c.args.quote c.loop-place.escaped c.args.bytes.now c.loop-place.place (slice_index_or c.args.bytes.now c.loop-place.place 0) _ c.loop-place-test.true (search rules)
-      (sym c.is_plain.ensures ∙ c.if-is_plain.false) c.loop-place.invariant.so_far);
-  within = omega (arith, c.loop-place-test.true);
+pub loop-offset-preserved : goal.loop-offset-preserved
+loop-offset-preserved c = record {
+  so_far = rw (c.is_plain-escaped.ensures) (next_letter c.args.quote c.loop-offset.escaped c.args.bytes.now c.loop-offset.offset (slice_index_or c.args.bytes.now c.loop-offset.offset 0) _ c.loop-offset-test.true (search rules)
+      (sym c.is_plain.ensures ∙ c.if-is_plain.false) c.loop-offset.invariant.so_far);
+  within = omega (arith, c.loop-offset-test.true);
 }

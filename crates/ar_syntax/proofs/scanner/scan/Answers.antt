@@ -2,7 +2,7 @@ use Rattle.std.proofs.lemmas.Str.{IsCharBoundary-start}
 use Rattle.std.proofs.Common.{arith, rules, drop, length-drop}
 use Rattle.std.proofs.lemmas.Result.{err_from_is_err_and}
 use Rattle.ar_syntax.proofs.Answers.{unless_maps}
-use Rattle.ar_syntax.proofs.Boundaries.{boundary_behind_gap, boundary_behind_token}
+use Rattle.ar_syntax.proofs.Boundaries.{boundary_after_gap, boundary_after_token}
 use Rattle.ar_syntax.proofs.Pieces.{IsFront, IsFront-front_of, IsFrontGap, IsFrontGap-front_of}
 use Rattle.ar_syntax.proofs.Scans.{with_tokens-gap, with_tokens-end, with_tokens-fault, with_tokens-token}
 use Rattle.ar_syntax.specs.Spelling.{is_syntax_memory}
@@ -34,7 +34,7 @@ loop-at-preserved-in-Gap c =
     let gap = front_gap (goal.at.loop-at-preserved-in-Gap c).In-Gap in
     record {
       in_range = omega (arith, gap.within, length-drop c.loop-at.at c.args.text.now);
-      boundary = boundary_behind_gap c.args.text.now c.loop-at.at c.utf8.text c.loop-at.invariant.boundary c.in-Gap.len gap;
+      boundary = boundary_after_gap c.args.text.now c.loop-at.at c.utf8.text c.loop-at.invariant.boundary c.in-Gap.len gap;
       so_far = with_tokens-gap c.args.text.now c.loop-at.at c.in-Gap.len c.loop-at.field c.loop-at.tokens.items _ c.loop-at-test.true (rw (c.range_from.ensures.value, c.in-Gap.is) at c.in_ok-piece.ensures) gap.some c.loop-at.invariant.so_far;
     }
 
@@ -47,7 +47,7 @@ loop-at-preserved c =
     let front = front_token (goal.at.loop-at-preserved c).In-Found in
     record {
       in_range = omega (arith, front.within, length-drop c.loop-at.at c.args.text.now);
-      boundary = boundary_behind_token c.args.text.now c.loop-at.at c.utf8.text c.loop-at.invariant.boundary c.in-Found.token front;
+      boundary = boundary_after_token c.args.text.now c.loop-at.at c.utf8.text c.loop-at.invariant.boundary c.in-Found.token front;
       so_far = with_tokens-token c.args.text.now c.loop-at.at c.loop-at.field c.loop-at.tokens.items _ c.in-Found.token _ _ c.loop-at-test.true (rw (c.range_from.ensures.value, c.in-Found.is) at c.in_ok-piece.ensures) front.some c.in_ok-push-in-Found.ensures.items c.takes_field-field.ensures c.loop-at.invariant.so_far;
     }
 

@@ -1,6 +1,6 @@
 use Rattle.std.proofs.Common.{◌≡◌, ◌-◌, ◌≤◌, false, drop, length}
 use Rattle.std.specs.Str.{IsCharBoundary}
-use Rattle.ar_syntax.specs.Tokens.{tokens_behind}
+use Rattle.ar_syntax.specs.Tokens.{tokens_after}
 use Rattle.ar_syntax.proofs.Scans.{with_tokens}
 use Rattle.ar_syntax.proofs.scanner.scan.Given as goal
 
@@ -9,7 +9,7 @@ abbrev pub invariant-loop-at : goal.invariant-loop-at
 invariant-loop-at l = record {
   in_range : l.at ≤ length l.text;
   boundary : IsCharBoundary l.text l.at;
-  so_far : with_tokens l.tokens.items (tokens_behind 0 l.at l.field (drop l.at l.text)) ≡ tokens_behind 0 0 false l.text;
+  so_far : with_tokens l.tokens.items (tokens_after 0 l.at l.field (drop l.at l.text)) ≡ tokens_after 0 0 false l.text;
 }
 
 abbrev pub decreases-loop-at : goal.decreases-loop-at

@@ -26,4 +26,4 @@ pub returns-in-Prefixed : goal.returns-in-Prefixed
 returns-in-Prefixed c = rw c.in-Prefixed.is (no_end (frames_of c.args.stack.now.items) (expression_of c.args.tree.value) c.args.ender _ refl)
 
 pub returns : goal.returns
-returns c = rw c.in-No.is (no_end (frames_of c.args.stack.now.items) (expression_of c.args.tree.value) c.args.ender _ refl)
+returns c = rw c.in-Else.is (no_end (frames_of c.args.stack.now.items) (expression_of c.args.tree.value) c.args.ender _ refl)

@@ -21,11 +21,11 @@ are_all_fit-loop-item-preserved t c = grind (arith, common_steps)
 pub are_all_fit-returns : goal.are_all_fit-returns
 are_all_fit-returns t c = grind (arith, common_steps)
 
-pub are_fields_fit-loop-place-preserved : goal.are_fields_fit-loop-place-preserved
-are_fields_fit-loop-place-preserved t c =
-    c.loop-place.invariant
-    ∙ next c.loop-place.place c.args.names.now c.args.places.now c.args.values.now c.args.of.now c.args.shapes.now c.index-names-place.result c.index-of-place.result c.index-shapes-place.result
-    (omega (arith, c.loop-place-test.true)) (omega (arith, c.loop-place-test.true, c.if-names-min.false, c.min.ensures)) (omega (arith, c.loop-place-test.true, c.if-names-min.false, c.min.ensures))
-    c.index-names-place.is c.index-of-place.is c.index-shapes-place.is
-    ∙ ap (λ here. here && Fit (c.loop-place.place + 1) (drop (c.loop-place.place + 1) c.args.names.now) c.args.places.now c.args.values.now (drop (c.loop-place.place + 1) c.args.of.now) (drop (c.loop-place.place + 1) c.args.shapes.now))
-    (both_hold (alike c.ne.result _ c.ne.ensures c.if-ne.false) (sym (c.is_field_fit.ensures ∙ ap (λ value. fits value (shape_view c.index-shapes-place.result)) c.value_at.ensures) ∙ search rules))
+pub are_fields_fit-loop-index-preserved : goal.are_fields_fit-loop-index-preserved
+are_fields_fit-loop-index-preserved t c =
+    c.loop-index.invariant
+    ∙ next c.loop-index.index c.args.names.now c.args.indices.now c.args.values.now c.args.of.now c.args.shapes.now c.index-names-index.result c.index-of-index.result c.index-shapes-index.result
+    (omega (arith, c.loop-index-test.true)) (omega (arith, c.loop-index-test.true, c.if-names-min.false, c.min.ensures)) (omega (arith, c.loop-index-test.true, c.if-names-min.false, c.min.ensures))
+    c.index-names-index.is c.index-of-index.is c.index-shapes-index.is
+    ∙ ap (λ here. here && Fit (c.loop-index.index + 1) (drop (c.loop-index.index + 1) c.args.names.now) c.args.indices.now c.args.values.now (drop (c.loop-index.index + 1) c.args.of.now) (drop (c.loop-index.index + 1) c.args.shapes.now))
+    (both_hold (alike c.ne.result _ c.ne.ensures c.if-ne.false) (sym (c.is_field_fit.ensures ∙ ap (λ value. fits value (shape_view c.index-shapes-index.result)) c.value_at.ensures) ∙ search rules))

@@ -11,6 +11,6 @@ invariant-are_all_fit-loop-item l =
     all_items (λ value. fits value (shape_view l.shape)) (items_of (map value_view l.items))
     ≡ all_items (λ value. fits value (shape_view l.shape)) (items_of (map value_view (drop l.item-index l.items)))
 
-abbrev pub invariant-are_fields_fit-loop-place : goal.invariant-are_fields_fit-loop-place
-invariant-are_fields_fit-loop-place l =
-    Fit 0 l.names l.places l.values l.of l.shapes ≡ Fit l.place (drop l.place l.names) l.places l.values (drop l.place l.of) (drop l.place l.shapes)
+abbrev pub invariant-are_fields_fit-loop-index : goal.invariant-are_fields_fit-loop-index
+invariant-are_fields_fit-loop-index l =
+    Fit 0 l.names l.indices l.values l.of l.shapes ≡ Fit l.index (drop l.index l.names) l.indices l.values (drop l.index l.of) (drop l.index l.shapes)

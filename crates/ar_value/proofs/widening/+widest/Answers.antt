@@ -15,23 +15,23 @@ widest_object-returns-in_ok-share-in-Some t c =
 
 pub widest_fields-returns-then-ne : goal.widest_fields-returns-then-ne
 widest_fields-returns-then-ne t c =
-    other_name c.args.names.now c.args.left.now c.args.of.now c.args.right.now c.loop-place.place c.index-names-place.result c.index-of-place.result
-    (omega (arith, c.loop-place-test.true, c.min-count.ensures)) (omega (arith, c.loop-place-test.true, c.min-count.ensures))
-    (omega (arith, c.loop-place-test.true, c.if-count-min.false, c.min.ensures)) (omega (arith, c.loop-place-test.true, c.if-count-min.false, c.min.ensures))
-    c.index-names-place.is c.index-of-place.is c.loop-place.shapes.items _ c.loop-place.invariant.joined (unlike c.ne.result _ c.ne.ensures c.if-ne.true)
+    other_name c.args.names.now c.args.left.now c.args.of.now c.args.right.now c.loop-index.index c.index-names-index.result c.index-of-index.result
+    (omega (arith, c.loop-index-test.true, c.min-count.ensures)) (omega (arith, c.loop-index-test.true, c.min-count.ensures))
+    (omega (arith, c.loop-index-test.true, c.if-count-min.false, c.min.ensures)) (omega (arith, c.loop-index-test.true, c.if-count-min.false, c.min.ensures))
+    c.index-names-index.is c.index-of-index.is c.loop-index.shapes.items _ c.loop-index.invariant.joined (unlike c.ne.result _ c.ne.ensures c.if-ne.true)
 
-pub widest_fields-loop-place-preserved : goal.widest_fields-loop-place-preserved
-widest_fields-loop-place-preserved t c = record {
-  long = rw (c.in_ok-push-in-Some.ensures.items, length_push, c.loop-place.invariant.long) refl;
+pub widest_fields-loop-index-preserved : goal.widest_fields-loop-index-preserved
+widest_fields-loop-index-preserved t c = record {
+  long = rw (c.in_ok-push-in-Some.ensures.items, length_push, c.loop-index.invariant.long) refl;
   joined = rw c.in_ok-push-in-Some.ensures.items
-      (next_field c.args.names.now c.args.left.now c.args.of.now c.args.right.now c.loop-place.place c.index-names-place.result c.index-of-place.result c.index-left-place.result c.index-right-place.result
-      (omega (arith, c.loop-place-test.true, c.min-count.ensures)) (omega (arith, c.loop-place-test.true, c.min-count.ensures))
-      (omega (arith, c.loop-place-test.true, c.if-count-min.false, c.min.ensures)) (omega (arith, c.loop-place-test.true, c.if-count-min.false, c.min.ensures))
-      c.index-names-place.is c.index-left-place.is c.index-of-place.is c.index-right-place.is
-      c.loop-place.shapes.items c.in-Some.widest _ c.loop-place.invariant.long c.loop-place.invariant.joined (alike c.ne.result _ c.ne.ensures c.if-ne.false) (rw c.in-Some.is at c.in_ok-widest.ensures));
+      (next_field c.args.names.now c.args.left.now c.args.of.now c.args.right.now c.loop-index.index c.index-names-index.result c.index-of-index.result c.index-left-index.result c.index-right-index.result
+      (omega (arith, c.loop-index-test.true, c.min-count.ensures)) (omega (arith, c.loop-index-test.true, c.min-count.ensures))
+      (omega (arith, c.loop-index-test.true, c.if-count-min.false, c.min.ensures)) (omega (arith, c.loop-index-test.true, c.if-count-min.false, c.min.ensures))
+      c.index-names-index.is c.index-left-index.is c.index-of-index.is c.index-right-index.is
+      c.loop-index.shapes.items c.in-Some.widest _ c.loop-index.invariant.long c.loop-index.invariant.joined (alike c.ne.result _ c.ne.ensures c.if-ne.false) (rw c.in-Some.is at c.in_ok-widest.ensures));
 }
 
 pub widest_fields-returns : goal.widest_fields-returns
 widest_fields-returns t c =
-    no_field_left c.args.names.now c.args.left.now c.args.of.now c.args.right.now c.loop-place.place c.loop-place.shapes.items _
-    (omega (arith, c.if-count-min.false, c.min-count.ensures, c.min.ensures)) (omega (arith, c.loop-place-test.false, c.min-count.ensures)) c.loop-place.invariant.long c.loop-place.invariant.joined
+    no_field_left c.args.names.now c.args.left.now c.args.of.now c.args.right.now c.loop-index.index c.loop-index.shapes.items _
+    (omega (arith, c.if-count-min.false, c.min-count.ensures, c.min.ensures)) (omega (arith, c.loop-index-test.false, c.min-count.ensures)) c.loop-index.invariant.long c.loop-index.invariant.joined

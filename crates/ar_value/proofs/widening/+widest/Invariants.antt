@@ -3,9 +3,9 @@ use Rattle.ar_value.proofs.WidestLemmas.{Joined_before, Widest}
 use Rattle.ar_value.proofs.widening.+widest.Given as goal
 
 -- what was joined comes before what is left
-abbrev pub invariant-widest_fields-loop-place : goal.invariant-widest_fields-loop-place
-invariant-widest_fields-loop-place l = record {
-  long : length l.shapes.items ≡ l.place;
+abbrev pub invariant-widest_fields-loop-index : goal.invariant-widest_fields-loop-index
+invariant-widest_fields-loop-index l = record {
+  long : length l.shapes.items ≡ l.index;
   joined : Widest l.names l.left l.of l.right
-      ≡ Joined_before (take l.place l.names) l.shapes.items (Widest (drop l.place l.names) (drop l.place l.left) (drop l.place l.of) (drop l.place l.right));
+      ≡ Joined_before (take l.index l.names) l.shapes.items (Widest (drop l.index l.names) (drop l.index l.left) (drop l.index l.of) (drop l.index l.right));
 }

@@ -3,7 +3,7 @@ use Rattle.ar_verify.proofs.loops.depths.Goals as goal
 
 pub loop-op-preserved : goal.loop-op-preserved
 loop-op-preserved c =
-    counts_further c.args.ops.now c.loop-op.around.items _ c.loop-op.op-index _ c.loop-op.depth c.depth_behind-depth.result c.push.new.self.items c.loop-op-test.true c.depth_behind-depth.ensures
+    counts_further c.args.ops.now c.loop-op.around.items _ c.loop-op.op-index _ c.loop-op.depth c.depth_after-depth.result c.push.new.self.items c.loop-op-test.true c.depth_after-depth.ensures
     c.in_ok-push.ensures.items c.loop-op.invariant
 
 pub returns : goal.returns

@@ -1,7 +1,7 @@
 use Rattle.std.proofs.Common.{None, rules, subst, sym, ◌∙◌, arith}
 use Rattle.ar_bundle.specs.Lawful.{AreLawful}
 use Rattle.ar_workers.proofs.Judged.{known_inside, known_read}
-use Rattle.ar_bundle.proofs.Lawful.{all_rise, lawful_behind}
+use Rattle.ar_bundle.proofs.Lawful.{all_rise, lawful_after}
 use Rattle.ar_workers.proofs.ordered.applied.Goals as goal
 
 pub bounds : goal.bounds
@@ -23,7 +23,7 @@ returns-clause-lawful c =
     let least = c.loop-number-test.false in
     let count = c.events-events.ensures.count in
     subst (AreLawful c.args.bundle.now) (sym c.from.ensures)
-    (lawful_behind c.args.bundle.now c.loop-number.number c.loop-number.runs.states.items c.loop-number.runs.histories.items c.events-events.ensures.bundle (omega arith) c.loop-number.invariant.1)
+    (lawful_after c.args.bundle.now c.loop-number.number c.loop-number.runs.states.items c.loop-number.runs.histories.items c.events-events.ensures.bundle (omega arith) c.loop-number.invariant.1)
 
 pub returns-clause-in_order : goal.returns-clause-in_order
 returns-clause-in_order c = search (rules, all_rise)

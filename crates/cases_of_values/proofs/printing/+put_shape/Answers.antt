@@ -3,13 +3,13 @@ use Rattle.std.proofs.lemmas.Grind.{common_steps}
 use Rattle.cases_of_values.proofs.Joined.{next_field_shape, no_field_shape}
 use Rattle.cases_of_values.proofs.printing.+put_shape.Goals as goal
 
-pub put_field_shapes-loop-place-preserved : goal.put_field_shapes-loop-place-preserved
-put_field_shapes-loop-place-preserved t c = search (rules, next_field_shape, no_field_shape)
+pub put_field_shapes-loop-position-preserved : goal.put_field_shapes-loop-position-preserved
+put_field_shapes-loop-position-preserved t c = search (rules, next_field_shape, no_field_shape)
 
 pub put_field_shapes-returns : goal.put_field_shapes-returns
 put_field_shapes-returns t c = λ whole.
-    let so_far = c.loop-place.invariant whole in
-    (so_far.0, no_field_shape c.args.names.now c.args.shapes.now c.loop-place.place c.loop-place.first _ _ (omega (arith, c.loop-place-test.false, c.min-place-end.ensures)) so_far.1)
+    let so_far = c.loop-position.invariant whole in
+    (so_far.0, no_field_shape c.args.names.now c.args.shapes.now c.loop-position.position c.loop-position.first _ _ (omega (arith, c.loop-position-test.false, c.min-position-end.ensures)) so_far.1)
 
 pub put_list-returns : goal.put_list-returns
 put_list-returns t c = grind (arith, common_steps)

@@ -9,7 +9,7 @@ abbrev pub invariant-put_items-loop-item : goal.invariant-put_items-loop-item
 invariant-put_items-loop-item l = l.out.is_whole ≡ true → (l.initial.out.is_whole ≡ true) × (string_bytes l.out.text ++ items_text l.first (items_of (map value_view (drop l.item-index l.items))) ≡ string_bytes l.initial.out.text ++ items_text true (items_of (map value_view l.items)))
 
 -- likewise
-abbrev pub invariant-put_fields-loop-place : goal.invariant-put_fields-loop-place
-invariant-put_fields-loop-place l =
+abbrev pub invariant-put_fields-loop-position : goal.invariant-put_fields-loop-position
+invariant-put_fields-loop-position l =
     l.out.is_whole ≡ true → (l.initial.out.is_whole ≡ true)
-    × (string_bytes l.out.text ++ fields_text l.first (fields_from l.place (drop l.place l.names) l.places (map value_view l.given)) ≡ string_bytes l.initial.out.text ++ fields_text true (fields_from 0 l.names l.places (map value_view l.given)))
+    × (string_bytes l.out.text ++ fields_text l.first (fields_from l.position (drop l.position l.names) l.indices (map value_view l.given)) ≡ string_bytes l.initial.out.text ++ fields_text true (fields_from 0 l.names l.indices (map value_view l.given)))

@@ -2,12 +2,12 @@ use Rattle.std.proofs.Common.{arith, set, rules, refl, subst, sym}
 use Rattle.std.proofs.lemmas.Grind.{common_steps}
 use Rattle.ar_board.specs.Cell.{Cell, IsPosted, IsInHistory}
 use Rattle.ar_board.specs.Private.KeptRuns.{cell_of}
-use Rattle.ar_board.proofs.Cells.{IsReady, can_take, inside_push, is_posted, not_there, ready, stands}
+use Rattle.ar_board.proofs.Cells.{IsReady, can_take, inside_push, is_posted, not_there, ready, is_there}
 use Rattle.ar_board.proofs.cell.RunCell.add.Goals as goal
 
 pub returns-then-index-clause-double : goal.returns-then-index-clause-double
 returns-then-index-clause-double g c =
-    let there = stands g.M.BundleName.bundle g.M.BundleName.workers g.L.LockName.lock c.self.inside.bundle.now c.self.inside.runs.items c.self.inside.stored.items c.self.inside.book.total c.args.number c.index.result.now c.self.invariant (search rules) c.index.ensures (search rules) in
+    let there = is_there g.M.BundleName.bundle g.M.BundleName.workers g.L.LockName.lock c.self.inside.bundle.now c.self.inside.runs.items c.self.inside.stored.items c.self.inside.book.total c.args.number c.index.result.now c.self.invariant (search rules) c.index.ensures (search rules) in
     ((λ _. subst (IsInHistory c.args.number) c.self.view_is there), (λ _. refl))
 
 pub push-posted-requires : goal.push-posted-requires

@@ -11,10 +11,10 @@ pub returns : goal.returns
 returns c = record {
   replays = λ limits events r.
       replays-push limits events c.self.inside.progress.metrics.items c.self.inside.progress.phase c.self.inside.handed c.args.event c.apply.new.self.metrics.items c.apply.new.self.phase
-      (rw (← c.self.view_is) at r) c.self.invariant.consistent.positive (rw (← c.self.view_is) at c.requires.metric) c.apply.ensures.stands;
+      (rw (← c.self.view_is) at r) c.self.invariant.consistent.positive (rw (← c.self.view_is) at c.requires.metric) c.apply.ensures.is_there;
   effect = λ limits events r.
       effect_of-replayed limits events c.self.inside.progress.metrics.items c.self.inside.progress.phase c.self.inside.handed c.args.event c.apply.result
       (rw (← c.self.view_is) at r) c.self.invariant.consistent.positive (rw (← c.self.view_is) at c.requires.metric) (c.apply.ensures.answers c.self.inside.handed);
-  limits = ap (λ s. s.limits) (c.apply.ensures.stands c.self.inside.handed) ∙ next-limits (standing c.self.inside) c.args.event ∙ ap (λ s. s.limits) c.self.view_is;
+  limits = ap (λ s. s.limits) (c.apply.ensures.is_there c.self.inside.handed) ∙ next-limits (standing c.self.inside) c.args.event ∙ ap (λ s. s.limits) c.self.view_is;
   handed = search rules;
 }

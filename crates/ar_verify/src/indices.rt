@@ -8,7 +8,7 @@ ghost use Rattle.ar_op.specs.Machine.{begins_loop, nth};
 ghost use Rattle.ar_value.specs.Predicates.{is_same};
 ghost use Rattle.ar_op.specs.declared.op.Op.TheVariants.{Enter, Step};
 ghost use Rattle.ar_safety.specs.Memory.{is_memory};
-ghost use Rattle.ar_safety.specs.Places.{all_pass, ends_in_return, ends_loop, forward, has_ops, inside_code, is_return, names_well, places_pass, unless};
+ghost use Rattle.ar_safety.specs.Indices.{all_pass, ends_in_return, ends_loop, forward, has_ops, inside_code, is_return, names_well, indices_pass, unless};
 
 use crate::loops::all_nest_well;
 use ar_op::op::Op;
@@ -16,12 +16,12 @@ use ar_safety::{Cause, Reason};
 use ar_value::operator::Predicate;
 use std::alloc::Global;
 
-/// The operation at `place`.
-fn op_at(ops: &[Op], place: usize) -> Option<Op>
-    ensures { result ≡ nth ops.now place }
+/// The operation at `index`.
+fn op_at(ops: &[Op], index: usize) -> Option<Op>
+    ensures { result ≡ nth ops.now index }
 {
-    if place < ops.len() {
-        Some(ops[place])
+    if index < ops.len() {
+        Some(ops[index])
     } else {
         None
     }
@@ -39,7 +39,7 @@ pub(crate) fn has_ops(ops: &[Op]) -> Result<(), Cause>
 {
     match ops {
         [] => Err(Cause::Fault {
-            place: 0,
+            index: 0,
             reason: Reason::Empty,
         }),
         [_, ..] => Ok(()),
@@ -52,10 +52,10 @@ fn inside(ops: &[Op], named: usize) -> Option<Reason>
     unless(named < ops.len(), Reason::JumpOutside)
 }
 
-fn forward(ops: &[Op], place: usize, named: usize) -> Option<Reason>
-    ensures { result ≡ forward ops.now place named }
+fn forward(ops: &[Op], index: usize, named: usize) -> Option<Reason>
+    ensures { result ≡ forward ops.now index named }
 {
-    inside(ops, named).or(unless(place < named, Reason::Backward))
+    inside(ops, named).or(unless(index < named, Reason::Backward))
 }
 
 fn is_same(predicate: Predicate, other: Predicate) -> bool
@@ -69,7 +69,7 @@ fn ends_loop(predicate: Predicate, enter: usize, op: Option<Op>) -> bool
     ensures { result ≡ ends_loop predicate enter op }
 {
     match op {
-        Some(Op::Step(of, place)) => is_same(predicate, of) && place as usize == enter,
+        Some(Op::Step(of, index)) => is_same(predicate, of) && index as usize == enter,
         _ => false,
     }
 }
@@ -79,36 +79,36 @@ fn begins_loop(predicate: Predicate, step: usize, op: Option<Op>) -> bool
     ensures { result ≡ begins_loop predicate step op }
 {
     match op {
-        Some(Op::Enter(of, place)) => is_same(predicate, of) && place as usize == step,
+        Some(Op::Enter(of, index)) => is_same(predicate, of) && index as usize == step,
         _ => false,
     }
 }
 
-/// What is wrong with the Step that the Enter at `place` names.
-fn names_step(ops: &[Op], place: usize, predicate: Predicate, step: u32) -> Option<Reason>
-    ensures { result ≡ names_well ops.now place (Enter predicate step) }
+/// What is wrong with the Step that the Enter at `index` names.
+fn names_step(ops: &[Op], index: usize, predicate: Predicate, step: u32) -> Option<Reason>
+    ensures { result ≡ names_well ops.now index (Enter predicate step) }
 {
-    let is_paired = ends_loop(predicate, place, op_at(ops, step as usize));
-    forward(ops, place, step as usize).or(unless(is_paired, Reason::UnpairedLoop))
+    let is_paired = ends_loop(predicate, index, op_at(ops, step as usize));
+    forward(ops, index, step as usize).or(unless(is_paired, Reason::UnpairedLoop))
 }
 
-/// What is wrong with the Enter that the Step at `place` names.
-fn names_enter(ops: &[Op], place: usize, predicate: Predicate, enter: u32) -> Option<Reason>
-    ensures { result ≡ names_well ops.now place (Step predicate enter) }
+/// What is wrong with the Enter that the Step at `index` names.
+fn names_enter(ops: &[Op], index: usize, predicate: Predicate, enter: u32) -> Option<Reason>
+    ensures { result ≡ names_well ops.now index (Step predicate enter) }
 {
     let enter = enter as usize;
-    let is_paired = enter < place && begins_loop(predicate, place, op_at(ops, enter));
+    let is_paired = enter < index && begins_loop(predicate, index, op_at(ops, enter));
     inside(ops, enter).or(unless(is_paired, Reason::UnpairedLoop))
 }
 
-/// What is wrong with the indexes that the operation at `place` names.
-fn names_well(ops: &[Op], place: usize, op: Op) -> Option<Reason>
-    ensures { result ≡ names_well ops.now place op }
+/// What is wrong with the indexes that the operation at `index` names.
+fn names_well(ops: &[Op], index: usize, op: Op) -> Option<Reason>
+    ensures { result ≡ names_well ops.now index op }
 {
     match op {
-        Op::Jump(_, target) => { forward(ops, place, target as usize) }
-        Op::Enter(predicate, step) => names_step(ops, place, predicate, step),
-        Op::Step(predicate, enter) => names_enter(ops, place, predicate, enter),
+        Op::Jump(_, target) => { forward(ops, index, target as usize) }
+        Op::Enter(predicate, step) => names_step(ops, index, predicate, step),
+        Op::Step(predicate, enter) => names_enter(ops, index, predicate, enter),
         _ => None,
     }
 }
@@ -117,9 +117,9 @@ fn names_well(ops: &[Op], place: usize, op: Op) -> Option<Reason>
 pub(crate) fn all_name_well(ops: &[Op]) -> Result<(), Cause>
     ensures { result ≡ all_pass (names_well ops.now) 0 ops.now }
 {
-    for (place, op) in ops.iter().enumerate() {
-        if let Some(reason) = names_well(ops, place, *op) {
-            return Err(Cause::Fault { place, reason });
+    for (index, op) in ops.iter().enumerate() {
+        if let Some(reason) = names_well(ops, index, *op) {
+            return Err(Cause::Fault { index, reason });
         }
     }
     Ok(())
@@ -134,20 +134,20 @@ fn is_return(op: Option<Op>) -> bool
 pub(crate) fn ends_in_return(ops: &[Op]) -> Result<(), Cause>
     ensures { result ≡ ends_in_return ops.now }
 {
-    let place = ops.len().saturating_sub(1);
-    if is_return(op_at(ops, place)) {
+    let index = ops.len().saturating_sub(1);
+    if is_return(op_at(ops, index)) {
         Ok(())
     } else {
         Err(Cause::Fault {
-            place,
+            index,
             reason: Reason::NoReturn,
         })
     }
 }
 
 /// The passes 1 to 4, one after the other.
-pub(crate) fn check_places(alloc: Global, ops: &[Op]) -> Result<(), Cause>
-    ensures { Gives is_memory (λ x. x) result (places_pass ops.now) }
+pub(crate) fn check_indices(alloc: Global, ops: &[Op]) -> Result<(), Cause>
+    ensures { Gives is_memory (λ x. x) result (indices_pass ops.now) }
 {
     has_ops(ops)?;
     all_name_well(ops)?;

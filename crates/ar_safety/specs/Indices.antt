@@ -30,12 +30,12 @@ abbrev pub Pass : Type 0
 Pass = Index → Op → Option Reason
 
 abbrev pub fault_or : Index → Option Reason → Result (Unit {0}) Cause → Result (Unit {0}) Cause
-fault_or place (Some reason) later = Err (Fault place reason)
-fault_or place None later = later
+fault_or index (Some reason) later = Err (Fault index reason)
+fault_or index None later = later
 
-abbrev pub all_pass : Pass → (place : Index) → List Op → Result (Unit {0}) Cause
-all_pass pass place [] = Ok tt
-all_pass pass place (op ∷ ops) = fault_or place (pass place op) (all_pass pass (suc place) ops)
+abbrev pub all_pass : Pass → (index : Index) → List Op → Result (Unit {0}) Cause
+all_pass pass index [] = Ok tt
+all_pass pass index (op ∷ ops) = fault_or index (pass index op) (all_pass pass (suc index) ops)
 
 -- ---- pass 1: there is an operation
 
@@ -47,36 +47,36 @@ has_ops (op ∷ ops) = Ok tt
 
 -- whether an operation is the Step of an Enter
 abbrev pub ends_loop : Predicate → (enter : Index) → Option Op → Bool
-ends_loop predicate enter (Some (Step of place)) = is_same predicate of && place == enter
+ends_loop predicate enter (Some (Step of index)) = is_same predicate of && index == enter
 ends_loop predicate enter op = false
 
 module _ (ops : List Op) where
   abbrev pub inside_code : (named : Index) → Option Reason
   inside_code named = unless (nat_lt named (length ops)) JumpOutside
 
-  abbrev pub forward : (place named : Index) → Option Reason
-  forward place named = or_else (inside_code named) (unless (nat_lt place named) Backward)
+  abbrev pub forward : (index named : Index) → Option Reason
+  forward index named = or_else (inside_code named) (unless (nat_lt index named) Backward)
 
   abbrev pub names_well : Pass
-  names_well place (Jump jump target) = forward place target
-  names_well place (Enter predicate step) =
-      or_else (forward place step) (unless (ends_loop predicate place (nth ops step)) UnpairedLoop)
-  names_well place (Step predicate enter) =
+  names_well index (Jump jump target) = forward index target
+  names_well index (Enter predicate step) =
+      or_else (forward index step) (unless (ends_loop predicate index (nth ops step)) UnpairedLoop)
+  names_well index (Step predicate enter) =
       or_else (inside_code enter)
-      (unless (nat_lt enter place && begins_loop predicate place (nth ops enter)) UnpairedLoop)
-  names_well place (Push source) = None
-  names_well place (MakeList scalar count) = None
-  names_well place (Field number) = None
-  names_well place (Unary operator) = None
-  names_well place (Binary operator) = None
-  names_well place Return = None
+      (unless (nat_lt enter index && begins_loop predicate index (nth ops enter)) UnpairedLoop)
+  names_well index (Push source) = None
+  names_well index (MakeList scalar count) = None
+  names_well index (Field number) = None
+  names_well index (Unary operator) = None
+  names_well index (Binary operator) = None
+  names_well index Return = None
 
 -- ---- pass 3: loops are nested, at most four deep, and what is in one stays there
 
--- whether an operation is the Enter of a loop that reaches up to `place`
-abbrev pub loop_reaches : Option Op → (place : Index) → Bool
-loop_reaches (Some (Enter predicate step)) place = nat_le place step
-loop_reaches op place = false
+-- whether an operation is the Enter of a loop that reaches up to `index`
+abbrev pub loop_reaches : Option Op → (index : Index) → Bool
+loop_reaches (Some (Enter predicate step)) index = nat_le index step
+loop_reaches op index = false
 
 abbrev pub same_loops : List ℕ → List ℕ → Bool
 same_loops [] [] = true
@@ -84,36 +84,36 @@ same_loops (enter ∷ enters) (other ∷ others) = enter == other && same_loops 
 same_loops enters others = false
 
 module _ (ops : List Op) where
-  -- the Enters of the loops that hold `place`, the innermost first, among the first n operations
-  abbrev pub loops_among : (place : Index) → ℕ → List ℕ
-  loops_among place zero = []
-  loops_among place (suc enter) =
-      if loop_reaches (nth ops enter) place then enter ∷ loops_among place enter else loops_among place enter
+  -- the Enters of the loops that hold `index`, the innermost first, among the first n operations
+  abbrev pub loops_among : (index : Index) → ℕ → List ℕ
+  loops_among index zero = []
+  loops_among index (suc enter) =
+      if loop_reaches (nth ops enter) index then enter ∷ loops_among index enter else loops_among index enter
 
-  -- the Enters of the loops that hold `place`, the innermost first
-  abbrev pub loops_around : (place : Index) → List ℕ
-  loops_around place = loops_among place place
+  -- the Enters of the loops that hold `index`, the innermost first
+  abbrev pub loops_around : (index : Index) → List ℕ
+  loops_around index = loops_among index index
 
   -- whether a Step is inside the innermost of some loops
   abbrev pub in_innermost : List ℕ → (step : Index) → Bool
   in_innermost [] step = true
   in_innermost (enter ∷ outer) step = loop_reaches (nth ops enter) step
 
-  abbrev pub stays : (place target : Index) → Option Reason
-  stays place target = unless (same_loops (loops_around place) (loops_around target)) CrossesLoop
+  abbrev pub stays : (index target : Index) → Option Reason
+  stays index target = unless (same_loops (loops_around index) (loops_around target)) CrossesLoop
 
   abbrev pub nests_well : Pass
-  nests_well place (Jump jump target) = stays place target
-  nests_well place (Enter predicate step) =
-      or_else (unless (nat_le (length (loops_around (suc place))) most_loops) LoopsTooDeep)
-      (unless (in_innermost (loops_around place) step) CrossesLoop)
-  nests_well place Return = unless (same_loops (loops_around place) []) CrossesLoop
-  nests_well place (Push source) = None
-  nests_well place (MakeList scalar count) = None
-  nests_well place (Field number) = None
-  nests_well place (Unary operator) = None
-  nests_well place (Binary operator) = None
-  nests_well place (Step predicate enter) = None
+  nests_well index (Jump jump target) = stays index target
+  nests_well index (Enter predicate step) =
+      or_else (unless (nat_le (length (loops_around (suc index))) most_loops) LoopsTooDeep)
+      (unless (in_innermost (loops_around index) step) CrossesLoop)
+  nests_well index Return = unless (same_loops (loops_around index) []) CrossesLoop
+  nests_well index (Push source) = None
+  nests_well index (MakeList scalar count) = None
+  nests_well index (Field number) = None
+  nests_well index (Unary operator) = None
+  nests_well index (Binary operator) = None
+  nests_well index (Step predicate enter) = None
 
 -- ---- pass 4: the last operation is Return
 
@@ -126,8 +126,8 @@ ends_in_return ops = if is_return (nth ops (length ops - 1)) then Ok tt else Err
 
 -- ---- the passes 1 to 4, one after the other; each begins where the one before it found nothing
 
-abbrev pub places_pass : List Op → Result (Unit {0}) Cause
-places_pass ops = do
+abbrev pub indices_pass : List Op → Result (Unit {0}) Cause
+indices_pass ops = do
   _ ← has_ops ops
   _ ← all_pass (names_well ops) 0 ops
   _ ← all_pass (nests_well ops) 0 ops
