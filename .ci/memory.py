@@ -18,7 +18,7 @@ CLAUSES = ("ensures", "requires", "invariant", "ghost")
 
 
 class Group:
-    """What stands between two brackets: tokens, and groups."""
+    """What is between two brackets: tokens, and further groups."""
 
     def __init__(self, bracket, line):
         self.bracket, self.line, self.items = bracket, line, []
@@ -76,7 +76,7 @@ def is_type(items, place):
 
 
 def block_after(items, place):
-    """Where the next block stands, or a semicolon before it, or the end."""
+    """Where the next block is, or a semicolon before it, or the end."""
     while place < len(items):
         item = items[place][0]
         if item == ";" or isinstance(item, Group) and item.bracket == "{":

@@ -1,6 +1,6 @@
 """AnalysisRuns of Argo Rollouts as documents of argo_judge."""
-from cuts import tell_cuts
-from documents import Refused, member, objects, shown, tell
+from cuts import note_cuts
+from documents import Refused, member, note, objects, shown
 from dryruns import with_marked, with_other_dry_names
 from histories import check_history
 from providers import answered
@@ -58,11 +58,11 @@ def add_flags(parser):
 
 def arguments_of_run(run, template, given):
     """A run's arguments: its own values, over which those of a template in the place of its own win, and over these the
-    given ones. Values of such a template that are other than the run's are told."""
+    given ones. Where a value of such a template differs from the run's, a line says so."""
     own, other = values_of(member(run, "spec", "args")), values_of(member(template, "spec", "args"))
     for name, value in other.items():
         if name not in given and own.get(name, value) != value:
-            tell(f"argument {shown(name)} is {shown(value)} by --template, and was {shown(own[name])} in the run")
+            note(f"argument {shown(name)} is {shown(value)} by --template, and was {shown(own[name])} in the run")
     return {**own, **other, **given}
 
 
@@ -79,5 +79,5 @@ def document_of(run, words, template=None, given=()):
     if member(run, "spec", "terminate") is True:
         entries.append({"run": name, "stop": True})
     made = document(template, shapes_of(template, words.shapes, run), name, args, entries)
-    tell_cuts(made)
+    note_cuts(made)
     return made, found

@@ -2,7 +2,7 @@
 import heapq
 import re
 
-from cuts import tell_cuts
+from cuts import note_cuts
 from documents import Refused, listed, member, read_json, shown
 from dryruns import with_dry_names
 from templates import (add_arg_flag, add_shapes_flag, arguments_of, chosen_metric, document, read_template, shapes_in,
@@ -74,7 +74,7 @@ def seconds(time):
 
 
 def timed(entries):
-    """Each entry with its time. One that has none goes with the one before it, and the first ones with the next."""
+    """Each entry with its time. One that has none has that of the one before it, and the first ones the next one's."""
     times = [seconds(member(entry, "time")) for entry in entries]
     last = next((time for time in times if time is not None), None)
     for place, time in enumerate(times):
@@ -100,5 +100,5 @@ def with_answers(words, answers_of):
     if not entries and not words.allow_empty:
         raise Refused(f"answers: found none of metric {shown(metric)}; expected one or more, or --allow-empty")
     made = {**begun_document, "measurements": merged(begun_document["measurements"], entries)}
-    tell_cuts(made)
+    note_cuts(made)
     return made

@@ -5,7 +5,7 @@ import re
 from fractions import Fraction
 
 from decimals import fits, is_decimal, millionths, number_of
-from documents import member, objects, shown, tell
+from documents import member, note, objects, shown
 from literals import bound, compares_otherwise, literals_of
 from templates import metrics_of, values_of
 
@@ -70,10 +70,10 @@ def lines_of(document):
                 yield f"measurement {place} of metric {shown(metric)}: {line}"
 
 
-def tell_cuts(document):
-    """Tells the measurements that compare otherwise once they are cut, of which the first few are enough."""
+def note_cuts(document):
+    """Reports the measurements that compare otherwise once they are cut, of which the first few are enough."""
     lines = list(lines_of(document))
     for line in lines[:MOST_LINES]:
-        tell(line)
+        note(line)
     if lines[MOST_LINES:]:
-        tell(f"{len(lines) - MOST_LINES} more measurements compare otherwise once they are cut")
+        note(f"{len(lines) - MOST_LINES} more measurements compare otherwise once they are cut")

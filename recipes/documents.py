@@ -1,9 +1,9 @@
 """What the recipes share: JSON without rounding, command lines, and refusals of one line.
 
-A fraction is read as the text that stands there, since the engine takes decimals as texts; a whole number
+A fraction is read as a text, since the engine takes decimals as texts; a whole number
 keeps its digits.
 """
-from ending import Refused, one_line, run_recipe, tell  # before what takes time to load
+from ending import Refused, note, one_line, run_recipe  # before what takes time to load
 
 import argparse
 import json
@@ -95,7 +95,7 @@ NOT_FINITE = re.compile(r'"(?:[^"\\]|\\.)*"|[+-]?\bInf\b|\bNaN\b')
 
 
 def measured(text):
-    """The value that a controller's text of an answer stands for: JSON, in which numbers may be infinite as Go
+    """The value that a controller's text of an answer represents: JSON, in which numbers may be infinite as Go
     writes them, and else the text itself."""
     quoted = NOT_FINITE.sub(lambda found: found[0] if found[0].startswith('"') else f'"{found[0]}"', text)
     try:
@@ -135,7 +135,7 @@ def write_text(text):
 
 
 def write_json(value):
-    """Writes a JSON value: all of it or, where it can't be told, nothing."""
+    """Writes a JSON value: all of it or, where it can't be encoded, nothing."""
     write_text(json.dumps(value, ensure_ascii=False, indent=2) + "\n")
 
 
@@ -171,7 +171,7 @@ def judged(engine, words, made, **more):
 # ---- objects
 
 def member(value, *names, default=None):
-    """What stands under names in objects that lie in one another; null and what is missing are the default."""
+    """The value under names in objects that lie in one another; null and what is missing are the default."""
     for name in names:
         value = value.get(name) if isinstance(value, dict) else None
     return default if value is None else value

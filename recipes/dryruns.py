@@ -6,7 +6,7 @@ marks the metrics that are dry in `status.metricResults`. argo_judge takes a met
 import re
 import warnings
 
-from documents import Refused, listed, member, objects, shown, tell
+from documents import Refused, listed, member, note, objects, shown
 from templates import metrics_of
 
 ALL = ".*"
@@ -48,12 +48,13 @@ def patterns_of(template):
 
 
 def by_patterns(patterns, names):
-    """The names that regular expressions make dry. Each that doesn't match just the metric of its name is told."""
+    """The names that regular expressions make dry. Each that doesn't match just the metric of its name is
+    reported."""
     dry = set()
     for place, pattern in enumerate(patterns):
         found = matched(pattern, names, place)
         if found != [pattern] and pattern != ALL:
-            tell(f"spec.dryRun: {shown(pattern)} is a regular expression, by which these are dry: {listed(found)}")
+            note(f"spec.dryRun: {shown(pattern)} is a regular expression, by which these are dry: {listed(found)}")
         dry.update(found)
     return dry
 
@@ -95,12 +96,12 @@ def with_marked(template, run):
 
 def with_other_dry_names(template, run):
     """A template that takes the place of a run's own, with whole names; what is dry by it alone, or by the run alone, is
-    told."""
+    reported."""
     template, marks = with_dry_names(template), marks_of(run)
     dry = patterns_of(template) or []
     for name in names_of(template):
         is_dry = name in dry or ALL in dry
         if marks.get(name, is_dry) != is_dry:
             was, now = ("not dry", "dry") if is_dry else ("dry", "not")
-            tell(f"metric {shown(name)} was {was} in the run, and is {now} by --template")
+            note(f"metric {shown(name)} was {was} in the run, and is {now} by --template")
     return template

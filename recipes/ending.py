@@ -23,7 +23,7 @@ def one_line(text):
     return "".join(char if char.isprintable() else char.encode("unicode_escape").decode() for char in text)
 
 
-def tell(text):
+def note(text):
     """Writes a line to standard error, where there is one that can be written."""
     if sys.stderr is None:
         return
@@ -37,7 +37,7 @@ def tell(text):
 def stop(_signal=None, _frame=None):
     """Ends as Ctrl-C ends a program, so that a loop of the shell around it stops, too."""
     signal.signal(signal.SIGINT, signal.SIG_DFL)
-    tell("interrupted")
+    note("interrupted")
     os.kill(os.getpid(), signal.SIGINT)
 
 
@@ -93,6 +93,6 @@ def run_recipe(main):
         stop()
     except Exception as fault:
         status, line = explained(fault)
-        tell(line)
+        note(line)
     # At once: what is left in the buffer of an output that can't be written would be tried once more.
     os._exit(status)

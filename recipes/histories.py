@@ -3,7 +3,7 @@
 A controller keeps the last measurements of a metric alone (10, or as `measurementRetention` says), and counts next to
 them in `status.metricResults`. A count that it leaves out is 0.
 """
-from documents import Refused, member, objects, shown, tell
+from documents import Refused, member, note, objects, shown
 
 # The counts of a result, by the phase that a measurement has.
 COUNTS = {"successful": "Successful", "failed": "Failed", "inconclusive": "Inconclusive", "error": "Error"}
@@ -29,7 +29,7 @@ def lacking(result):
     return {name: number for name, number in lacks.items() if number}
 
 
-def told(what, numbers):
+def in_words(what, numbers):
     """What is said of counts that differ; nothing where there are none."""
     counts = ", ".join(f"{number} {name}".strip() for name, number in numbers.items())
     return [f"{what} ({counts})"] if counts else []
@@ -40,14 +40,14 @@ def difference(result):
     lacks = lacking(result)
     gone = {name: number for name, number in lacks.items() if number > 0}
     more = {name: -number for name, number in lacks.items() if number < 0}
-    return " and ".join(told("lacks measurements", gone) + told("has measurements too many", more))
+    return " and ".join(in_words("lacks measurements", gone) + in_words("has measurements too many", more))
 
 
 def check_history(run, is_partial):
-    """Refuses a run whose measurements aren't all there; one that may be partial has it told."""
+    """Refuses a run whose measurements aren't all there; of one that may be partial a line says so."""
     for result in objects(member(run, "status", "metricResults")):
         if found := difference(result):
             line = f"metric {shown(member(result, 'name'))} {found}, by the controller's counts"
             if not is_partial:
                 raise Refused(f"input: {line}; --partial takes the run as it is")
-            tell(line)
+            note(line)

@@ -16,11 +16,11 @@ OPERATORS = ("in", "not", "and", "or", "contains", "startsWith", "endsWith")
 COMPARISONS = {"<": lt, "<=": le, ">": gt, ">=": ge, "==": eq, "!=": ne}
 MIRRORED = {"<": ">", "<=": ">=", ">": "<", ">=": "<=", "==": "==", "!=": "!="}
 ARITHMETIC = ("+", "-", "*", "/", "%")
-# What a sign may stand right of, besides a comparison.
+# What may be left of a sign, besides a comparison.
 NOTHING_LEFT = ("", "(", "[", "{", ",", "?", ":", "!", "&&", "||", *ARITHMETIC, *OPERATORS)
 SIZES = ("len", "count")
 
-# A number, the comparison that it stands right of (any where there is none), and the text that writes it.
+# A number, the comparison whose right operand it is (any where there is none), and the text that writes it.
 Literal = namedtuple("Literal", "number comparison written")
 
 
@@ -54,7 +54,7 @@ def openers(tokens):
 
 
 def sides(texts, place):
-    """What stands left and right of a number, and its sign; a minus between two operands is no sign."""
+    """What is left and right of a number, and its sign; a minus between two operands is no sign."""
     left, right = texts[place - 1], texts[place + 1]
     if left == "-" and (texts[place - 2] in COMPARISONS or texts[place - 2] in NOTHING_LEFT):
         return place - 2, "-", right
@@ -65,7 +65,7 @@ def literals_of(condition):
     """The numbers of a bound condition that a measured number may be compared with: no index, no default, and none that
     is compared with a list's length."""
     tokens = [(found.lastgroup, found[0]) for found in TOKEN.finditer(condition) if found.lastgroup != "blank"]
-    tokens = [("", ""), ("", ""), *tokens, ("", "")]  # what stands left and right of a number may be nothing
+    tokens = [("", ""), ("", ""), *tokens, ("", "")]  # left and right of a number there may be nothing
     texts, inside = [text for _, text in tokens], list(openers(tokens))
     for place, (kind, text) in enumerate(tokens):
         if kind != "number" or inside[place] == "index":

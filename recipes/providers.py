@@ -1,10 +1,10 @@
 """What a controller stored of a provider's answer, as the value that the provider's conditions see.
 
-Most of it is JSON, or a text of its own. Forms that aren't are read where they are known, and told where they aren't.
+Most of it is JSON, or a text of its own. Other forms are read where they are known, and reported where they aren't.
 """
 import re
 
-from documents import measured, member, shown, tell
+from documents import measured, member, note, shown
 
 # Providers that answer numbers, or JSON; of others a text may be meant.
 NO_TEXTS = ("cloudWatch", "datadog", "graphite", "influxdb", "kayenta", "newRelic", "prometheus", "skywalking",
@@ -50,5 +50,5 @@ def answered(metric, text):
     for value in known(provider, text):
         return value
     name = shown(member(metric, "name"))
-    tell(f"metric {name}: {provider} is not known to answer {shown(text)}, which is taken as it stands")
+    note(f"metric {name}: {provider} is not known to answer {shown(text)}, which is taken as it is")
     return measured(text)

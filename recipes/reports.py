@@ -39,7 +39,8 @@ class Report:
         raise Refused(f"{self.where}, line {line}: expected {expected}, found {found}")
 
     def take(self, begin, rest, what, *names):
-        """Reads what begins so and goes on so; `what` names it, with these names, where it isn't there."""
+        """Reads a text that begins with `begin` and continues as `rest` says; where it isn't there, `what` names it, with
+        these names."""
         matched = self.text.startswith(begin, self.at) and rest.match(self.text, self.at + len(begin))
         if not matched:
             self.refuse(what.format(*map(shown, names)))

@@ -3,13 +3,13 @@ from answers import seconds
 from documents import Refused, member, shown
 
 
-class NotAsTold(Exception):
+class UnexpectedData(Exception):
     """Data that isn't as the API has it: what was found, and what was expected."""
 
 
 def listed(value, expected):
     if not isinstance(value, list):
-        raise NotAsTold(f"expected {expected}, found {shown(value)}")
+        raise UnexpectedData(f"expected {expected}, found {shown(value)}")
     return value
 
 
@@ -17,7 +17,7 @@ def sample(value):
     """The time and the value of a sample, both as texts."""
     pair = listed(value, "a sample [time, \"value\"]")
     if len(pair) != 2 or not isinstance(pair[1], str) or seconds(pair[0]) is None:
-        raise NotAsTold(f"expected a sample [time, \"value\"], found {shown(value)}")
+        raise UnexpectedData(f"expected a sample [time, \"value\"], found {shown(value)}")
     return str(pair[0]), pair[1]
 
 
@@ -50,7 +50,7 @@ def measurements_of(data, is_flat):
                   for each in listed(result, "a list as `result`")]
         samples = [one for each in series for one in each]
         return [measurement([value for _, value in samples], samples)] if is_flat else by_time(series)
-    raise NotAsTold(f"expected the resultType vector, scalar, string or matrix, found {shown(kind)}")
+    raise UnexpectedData(f"expected the resultType vector, scalar, string or matrix, found {shown(kind)}")
 
 
 def answers_of(answer, number, is_flat, notes):
@@ -61,14 +61,14 @@ def answers_of(answer, number, is_flat, notes):
         notes.append(f"answer {number}: warning: {warning if isinstance(warning, str) else shown(warning)}")
     if member(answer, "status") == "error":
         message = member(answer, "error", default="")
-        told = message if isinstance(message, str) else shown(message)
-        notes.append(f"answer {number}: {member(answer, 'errorType', default='error')}: {told or 'no message'}")
+        text = message if isinstance(message, str) else shown(message)
+        notes.append(f"answer {number}: {member(answer, 'errorType', default='error')}: {text or 'no message'}")
         return [{"error": message}]
     if member(answer, "status") != "success":
         raise Refused(f"input, answer {number}: expected an answer of Prometheus' HTTP API, an object with a `status`")
     try:
         found = measurements_of(member(answer, "data"), is_flat)
-    except NotAsTold as fault:
+    except UnexpectedData as fault:
         raise Refused(f"input, answer {number}: {fault}")
     if not found:
         notes.append(f"answer {number}: a range without series, so nothing was measured")

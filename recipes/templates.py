@@ -1,5 +1,5 @@
 """Templates and the shapes of their metrics, and documents of argo_judge made of them."""
-from documents import Refused, listed, member, objects, parsed, read_json, shown, tell
+from documents import Refused, listed, member, note, objects, parsed, read_json, shown
 
 API_VERSION = "argoproj.io/v1alpha1"
 ANNOTATION = "argo-judge/shapes"
@@ -32,7 +32,7 @@ def by_condition(metric):
     given = {name: member(metric, name) for name in CONDITIONS if member(metric, name)}
     if is_job(metric):
         if given not in ({}, JOB):
-            tell(f"metric {shown(member(metric, 'name'))}: a Job's own end decides, so its conditions are left out")
+            note(f"metric {shown(member(metric, 'name'))}: a Job's own end decides, so its conditions are left out")
         return {**{name: value for name, value in metric.items() if name not in CONDITIONS}, **JOB}
     if given:
         return metric

@@ -19,13 +19,13 @@ def opening(bundle, workers, ordered):
     return {**state, 'parked': set()} if ordered else state
 
 
-def outcome_behind(bundle, run, numbers):
-    """What the numbers, in their order, come to for the run."""
+def outcome_after(bundle, run, numbers):
+    """The outcome for the run after these numbers, in their order."""
     return outcome(bundle['limits'][run], [bundle['entries'][number][1] for number in numbers])
 
 
 def put(bundle, places, state):
-    """The next number goes to the queue's end, where there is a place for it."""
+    """Moves the next number to the queue's end, where there is a place for it."""
     if state['next'] >= len(bundle['entries']) or len(state['queue']) >= places:
         return False
     state['queue'].append(state['next'])
@@ -34,7 +34,7 @@ def put(bundle, places, state):
 
 
 def take(state, worker):
-    """The queue's first number goes into the worker's empty hand."""
+    """Moves the queue's first number into the worker's empty hand."""
     if worker >= len(state['hands']) or state['hands'][worker] is not None or not state['queue']:
         return False
     state['hands'][worker] = state['queue'].pop(0)
@@ -42,9 +42,9 @@ def take(state, worker):
 
 
 def append(bundle, state, run, number):
-    """The number goes to the end of its run's history, with the effect that it has there."""
+    """Adds the number at the end of its run's history, with the effect that it has there."""
     history = state['histories'][run]
-    effects = outcome_behind(bundle, run, [*(earlier for earlier, _ in history), number])[0]
+    effects = outcome_after(bundle, run, [*(earlier for earlier, _ in history), number])[0]
     history.append((number, effects[-1]))
 
 
@@ -56,8 +56,8 @@ def least_lacking(bundle, state, run):
 
 
 def post(bundle, state, worker):
-    """The number in the worker's hand goes to its run's history. In an ordered core it is parked; then, as long as the
-    least number of its run that the history lacks is parked, that number goes to the history's end."""
+    """Moves the number in the worker's hand to its run's history. In an ordered core it is parked; then, as long as the
+    least number of its run that the history lacks is parked, that number moves to the history's end."""
     if worker >= len(state['hands']) or state['hands'][worker] is None:
         return False
     number = state['hands'][worker]
@@ -82,7 +82,7 @@ def make(bundle, places, state, step):
 
 
 def occurrences(state, number):
-    """How often a number stands in what is still to put, the queue, the hands, the parked numbers and the histories."""
+    """How often a number is in what is still to put, the queue, the hands, the parked numbers and the histories."""
     posted = sum(number == other for history in state['histories'] for other, _ in history)
     parked = number in state.get('parked', ())
     return (number >= state['next']) + state['queue'].count(number) + state['hands'].count(number) + parked + posted
@@ -97,19 +97,19 @@ def listed(items):
 
 
 def run_line(bundle, run, history):
-    phase = outcome_behind(bundle, run, [number for number, _ in history])[1]
+    phase = outcome_after(bundle, run, [number for number, _ in history])[1]
     entries = ','.join(f' {number} {effect}' for number, effect in history)
     return f'run {run} {phase}:{entries}'
 
 
 def answer(bundle, workers, places, ordered, steps):
-    """What the call `core` answers. After each step each number has to stand just once."""
+    """What the call `core` answers. After each step each number has to be there just once."""
     state = opening(bundle, workers, ordered)
     moves = []
     for step in steps:
         moves.append('done' if make(bundle, places, state, step) else 'idle')
         if not has_each_once(bundle, state):
-            sys.exit(f'after {len(moves)} steps a number stands otherwise than once: {state}')
+            sys.exit(f'after {len(moves)} steps a number does not occur exactly once: {state}')
     lines = [listed(moves), f"next={state['next']} queue={listed(state['queue'])} hands={listed(state['hands'])}"]
     if ordered:
         lines[-1] += f" parked={listed(sorted(state['parked']))}"

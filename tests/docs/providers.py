@@ -9,7 +9,7 @@ FOLDER = ROOT / "examples/providers"
 
 
 def tables_of(text):
-    """Each provider's table: what stands there by the name of the row; the row `judged` is the last."""
+    """Each provider's table: what each row has, by its name; the row `judged` is the last."""
     rows = {}
     for name, code, document in (found.groups() for found in map(ROW.fullmatch, text.splitlines()) if found):
         rows[name] = code or document

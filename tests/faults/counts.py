@@ -6,16 +6,16 @@ class Counts:
 
     def __init__(self):
         self.passed = 0
-        self.told = []
+        self.failures = []
 
     @property
     def failed(self):
-        return len(self.told)
+        return len(self.failures)
 
     def expect(self, holds, text):
         """Counts a check; the text says what was checked and what came, for one that does not hold."""
         if holds:
             self.passed += 1
         else:
-            self.told.append(text)
+            self.failures.append(text)
         return holds

@@ -16,7 +16,7 @@ def is_out_of_memory(ended):
 
 
 def is_without_warnings(ended, answer):
-    """The answer is whole, and the line tells that nothing was looked for that deserves a warning."""
+    """The answer is whole, and the line says that nothing was looked for that deserves a warning."""
     return ended[:3] == (answer.status, answer.output, NO_WARNINGS)
 
 
@@ -25,12 +25,12 @@ def is_without_thread(ended):
 
 
 def has_failed_to_read(ended, number):
-    """Nothing was written, and the line tells the system's error of this number."""
+    """Nothing was written, and the line reports the system's error of this number."""
     return ended[:3] == (4, '', f'{READ}{os.strerror(number)} (os error {number})\n')
 
 
 def has_failed_to_write(ended, written, number=None):
-    """Just these bytes were written, and the line tells the system's error of this number, if there is one."""
+    """Just these bytes were written, and the line reports the system's error of this number, if there is one."""
     if number is not None:
         return ended[:3] == (4, written, f'{WRITE}{os.strerror(number)} (os error {number})\n')
     return ended[:2] == (4, written) and ended.errors.startswith(WRITE) and ended.errors.count('\n') == 1

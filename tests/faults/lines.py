@@ -26,7 +26,7 @@ def refuse(program, counts):
 
 
 def show(program, counts):
-    """Help and version are written, or the failed write is told."""
+    """Help and version are written, or the failed write is reported."""
     for words in SHOWN:
         ended = program.start(words)
         counts.expect(ended.status == 0 and ended.output != '' and ended.errors == '', f'argo_judge {words}: {ended}')

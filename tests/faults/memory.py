@@ -61,7 +61,7 @@ def other_cases(program):
 
 
 def has_ended_as_it_may(ended, words, answer):
-    """Whether a run to which something was refused told of that, or answered where it may carry on."""
+    """Whether a run to which something was refused reported that, or answered where it may carry on."""
     if is_out_of_memory(ended) or (words in WITH_WORKERS and is_without_thread(ended)):
         return True
     if words == 'check' and is_without_warnings(ended, answer):

@@ -41,13 +41,13 @@ class Ended(NamedTuple):
 
 
 @contextlib.contextmanager
-def telling():
-    """A file to which the library tells each refusal; each run has its own, since runs are side by side."""
-    told = os.memfd_create('refusals')
+def refusals_file():
+    """A file to which the library reports each refusal; each run has its own, since runs are side by side."""
+    refusals = os.memfd_create('refusals')
     try:
-        yield told
+        yield refusals
     finally:
-        os.close(told)
+        os.close(refusals)
 
 
 class Program:
@@ -62,11 +62,11 @@ class Program:
 
     def run(self, words, document='', **asked):
         """Runs the program on a document with what is asked of the library, as REFUSE_CALL=3."""
-        with telling() as told:
+        with refusals_file() as refusals:
             variables = {name: str(value) for name, value in asked.items()}
-            environment = {**os.environ, 'LD_PRELOAD': self.library, 'TELL_ON': str(told), **variables}
-            ended = self.start(words, input=document.encode(), env=environment, pass_fds=(told,))
-            return ended._replace(refused=os.fstat(told).st_size > 0)
+            environment = {**os.environ, 'LD_PRELOAD': self.library, 'REPORT_ON': str(refusals), **variables}
+            ended = self.start(words, input=document.encode(), env=environment, pass_fds=(refusals,))
+            return ended._replace(refused=os.fstat(refusals).st_size > 0)
 
     def start(self, words, through=(), **given):
         """Runs the program without the library, through a command that starts it if there is one, with what is given to

@@ -1,6 +1,6 @@
 /* Preloaded, it does to the calls of a program what the variables of its environment ask for.
 
-   Refusals. Each tells that it happened by a byte to the file descriptor in TELL_ON, or else 9.
+   Refusals. Each is reported by a byte to the file descriptor in REPORT_ON, or else 9.
      REFUSE_CALL=N       the Nth call of malloc's family gets no memory. Calls that the C library
                          makes before this one is set up are not counted.
      REFUSE_ON_WORKERS=1 calls of the first thread are not counted either.
@@ -33,7 +33,7 @@
 #define MOST_THREADS 64
 #define NUMBER_OF(value, otherwise) ((value) ? atol(value) : (otherwise))
 
-static long refused_call, refused_thread, failed_read, tell_on;
+static long refused_call, refused_thread, failed_read, report_on;
 static long read_at_most, write_at_most, left, takes_nothing;
 static int counting, on_workers, interrupting, sleeping;
 static uint64_t seed;
@@ -62,7 +62,7 @@ __attribute__((constructor)) static void start(void)
     refused_call = NUMBER_OF(getenv("REFUSE_CALL"), 0);
     refused_thread = NUMBER_OF(getenv("REFUSE_THREAD"), 0);
     failed_read = NUMBER_OF(getenv("FAIL_READ"), 0);
-    tell_on = NUMBER_OF(getenv("TELL_ON"), 9);
+    report_on = NUMBER_OF(getenv("REPORT_ON"), 9);
     read_at_most = NUMBER_OF(getenv("READ_AT_MOST"), -1);
     write_at_most = NUMBER_OF(getenv("WRITE_AT_MOST"), -1);
     left = NUMBER_OF(getenv("TAKE_BYTES"), -1);
@@ -74,10 +74,10 @@ __attribute__((constructor)) static void start(void)
     counting = 1;
 }
 
-static void tell(void)
+static void report(void)
 {
-    ssize_t told = next_write((int)tell_on, "r", 1);
-    (void)told;
+    ssize_t written = next_write((int)report_on, "r", 1);
+    (void)written;
 }
 
 /* Sleeping */
@@ -120,7 +120,7 @@ static int is_refused(void)
         sleep_at_times();
     if (atomic_fetch_add(&calls, 1) + 1 != refused_call)
         return 0;
-    tell();
+    report();
     return 1;
 }
 
@@ -186,7 +186,7 @@ int pthread_create(pthread_t *thread, const pthread_attr_t *attributes, void *(*
         next_create = dlsym(RTLD_NEXT, "pthread_create");
     long place = atomic_fetch_add(&threads, 1) + 1;
     if (place == refused_thread) {
-        tell();
+        report();
         return EAGAIN;
     }
     if (place >= MOST_THREADS)
@@ -220,7 +220,7 @@ ssize_t read(int file, void *bytes, size_t count)
         return -1;
     }
     if (atomic_fetch_add(&reads, 1) + 1 == failed_read) {
-        tell();
+        report();
         errno = EIO;
         return -1;
     }

@@ -72,7 +72,7 @@ def share_processor(program, counts):
 
 
 def stop(program, words, seed, counts):
-    """A run is stopped and goes on, again and again, at moments that a seed gives."""
+    """A run is stopped and continued, again and again, at moments that a seed gives."""
     source = random.Random(seed)
     document, answer = repeated(1, MANY)
     stops = 0
@@ -110,7 +110,7 @@ def stop_at_times(run, source):
 
 
 def is_stopped(run):
-    """Waits for a run to stop or to end after a signal, and tells whether it is stopped."""
+    """Waits for a run to stop or to end after a signal, and says whether it is stopped."""
     # A run whose end was seen as the signal was sent got none.
     if run.returncode is not None:
         return False

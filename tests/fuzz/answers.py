@@ -183,10 +183,10 @@ def verify_answer(case):
     ops = code_of(case, shape)
     verdict_of_code = verify(ops, shape)
     accepted = verdict_of_code[0] == 'accepted'
-    told = ('accepted operations={} depth={} budget={}'.format(len(ops), *verdict_of_code[1:]) if accepted
+    head = ('accepted operations={} depth={} budget={}'.format(len(ops), *verdict_of_code[1:]) if accepted
             else '{} at {}'.format(*verdict_of_code))
     values = [read_value(value, shape) for value in case.get('values', ())]
-    return joined([told, *(ended(run(ops, value, None if accepted else case['fuel'])) for value in values)])
+    return joined([head, *(ended(run(ops, value, None if accepted else case['fuel'])) for value in values)])
 
 
 def run_answer(case):

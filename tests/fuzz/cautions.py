@@ -45,7 +45,7 @@ def of_metric(number, metric):
 
 
 def cautions(document):
-    """What `check` tells on standard error of a document that it answers, a line each."""
+    """What `check` writes to standard error about a document that it answers, a line each."""
     spec = document['manifest']['spec']
     found = list(close_names('spec', spec, CLOSE_TO_SPEC))
     for number, metric in enumerate(spec['metrics']):

@@ -158,7 +158,7 @@ def resolved(image):
 
 
 def listing(image):
-    """The lines of a listing; after the number of a text or a name stands the text itself."""
+    """The lines of a listing; after the number of a text or a name comes the text itself."""
     lists = {'PushText': image.texts, 'Field': image.names}
     lines = []
     for place, op in enumerate(image.operations):

@@ -1,7 +1,7 @@
 """The rules of docs/use/language.md on kinds, read apart from the program: a tree whose kinds are known, or a refusal.
 
-Kinds are those of tests/verifier/rules.py. A typed tree shows where an operand is made plain and where a whole is
-turned into a decimal; `!=`, `not in`, a comparison with the literal nil and the sign + are gone from it.
+Kinds are those of tests/verifier/rules.py. A typed tree shows where an operand is unwrapped and where a whole is
+converted to a decimal; `!=`, `not in`, a comparison with the literal nil and the sign + are gone from it.
 """
 
 import collections
@@ -20,29 +20,29 @@ def typed(operator, kind, children=(), content=None, sort=None):
     return Typed(operator, sort, tuple(children), content, kind)
 
 
-def made_plain(operand):
+def unwrapped(operand):
     return typed('plain', plain(operand.kind), [operand]) if is_optional(operand.kind) else operand
 
 
 def made_decimal(operand):
     """The operand as a decimal, where it is a whole that may be nil or not."""
-    turned = {'whole': 'decimal', ('optional', 'whole'): ('optional', 'decimal')}.get(operand.kind)
-    return typed('decimal', turned, [operand]) if turned else operand
+    converted = {'whole': 'decimal', ('optional', 'whole'): ('optional', 'decimal')}.get(operand.kind)
+    return typed('decimal', converted, [operand]) if converted else operand
 
 
-def turned_kind(kind):
+def converted_kind(kind):
     return {'whole': 'decimal', ('optional', 'whole'): ('optional', 'decimal')}.get(kind, kind)
 
 
 def common(one, other):
-    """The kind that two have in common once a whole beside a decimal is turned; None where there is none."""
+    """The kind that two have in common once a whole next to a decimal is converted; None where there is none."""
     if {plain(one), plain(other)} == {'whole', 'decimal'}:
-        one, other = turned_kind(one), turned_kind(other)
+        one, other = converted_kind(one), converted_kind(other)
     return merge(one, other)
 
 
 def in_common(operands, kind):
-    """The operands, turned where the kind that they have in common is a decimal."""
+    """The operands, converted where the kind that they have in common is a decimal."""
     return [made_decimal(operand) if plain(kind) == 'decimal' else operand for operand in operands]
 
 
@@ -85,10 +85,10 @@ class Checker:
         return self.numbers(tree, children)
 
     def want(self, tree, operand, kinds):
-        """The operand made plain, where its plain kind is one of these."""
+        """The operand unwrapped, where its plain kind is one of these."""
         if plain(operand.kind) not in kinds:
             raise Refused('WrongOperand', tree.place)
-        return made_plain(operand)
+        return unwrapped(operand)
 
     def numbers(self, tree, children):
         operator = tree.operator
@@ -119,7 +119,7 @@ class Checker:
 def wanted_list(tree, operand):
     if not is_list(plain(operand.kind)):
         raise Refused('NotAList', tree.place)
-    return made_plain(operand)
+    return unwrapped(operand)
 
 
 def field(tree, children):
@@ -128,21 +128,21 @@ def field(tree, children):
         raise Refused('WrongOperand', tree.place)
     if tree.content not in dict(record[1]):
         raise Refused('NoSuchField', tree.place)
-    return typed('field', dict(record[1])[tree.content], [made_plain(children[0])], tree.content)
+    return typed('field', dict(record[1])[tree.content], [unwrapped(children[0])], tree.content)
 
 
 def index(tree, children):
     items = wanted_list(tree, children[0])
     if plain(children[1].kind) != 'whole':
         raise Refused('WrongOperand', tree.place)
-    return typed('index', items.kind[1], [items, made_plain(children[1])])
+    return typed('index', items.kind[1], [items, unwrapped(children[1])])
 
 
 def list_literal(tree, children):
     for item, found in zip(tree.children, children):
         if family(found.kind) is None:
             raise Refused('NotScalar', item.place)
-    items = [made_plain(found) for found in children]
+    items = [unwrapped(found) for found in children]
     kind = items[0].kind
     for item in items[1:]:
         kind = common(kind, item.kind)
@@ -158,7 +158,7 @@ def choice(tree, children):
         raise Refused('NoCommonKind', tree.place)
     if plain(condition.kind) != 'bool':
         raise Refused('WrongOperand', tree.place)
-    return typed('choice', kind, [made_plain(condition), *in_common([one, other], kind)])
+    return typed('choice', kind, [unwrapped(condition), *in_common([one, other], kind)])
 
 
 def length(tree, children):
@@ -203,4 +203,4 @@ def check(condition, shape):
     found = Checker(shape).typed(whole)
     if plain(found.kind) != 'bool':
         raise Refused('NotTruth', whole.place)
-    return made_plain(found)
+    return unwrapped(found)

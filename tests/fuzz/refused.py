@@ -1,4 +1,4 @@
-"""How a second reading tells a refusal: its name, and the numbers in brackets after it."""
+"""How a second reading writes a refusal: its name, and the numbers in brackets after it."""
 
 
 class Refused(Exception):

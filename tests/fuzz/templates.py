@@ -1,7 +1,7 @@
 """Templates and their arguments, by docs/use/formats.md, read apart from the program.
 
 A template is a dictionary of its name, its arguments (a name and a value or None, in order) and its metrics; a metric
-is the JSON object with `dry` beside it. A bound metric has its texts, its limits and its count.
+is the JSON object, with `dry` next to it. A bound metric has its texts, its limits and its count.
 """
 
 import re

@@ -31,7 +31,7 @@ def random_limits(source):
 
 
 def random_entry(source, runs, kinds, stops=0.06):
-    """An entry of a document, with its run and its event; so many of them are stops."""
+    """An entry of a document, with its run and its event; `stops` is the chance that it is a stop."""
     run = source.randrange(runs)
     if source.random() < stops:
         return {'run': f'r{run}', 'stop': True}, (run, 'stop')
@@ -42,7 +42,7 @@ def random_entry(source, runs, kinds, stops=0.06):
 
 
 def document_of(runs, kinds, limits, entries):
-    """A document with so many runs of metrics of these kinds, each with its limits."""
+    """A document with a number of runs of metrics of these kinds, each with its limits."""
     metrics = [{'name': f'm{number}', **conditions, **fields}
                for number, ((conditions, _), (fields, _)) in enumerate(zip(kinds, limits))]
     spec = {'metrics': metrics}

@@ -1,4 +1,4 @@
-"""The rules of docs/use/phases.md, read a second time: what events do to a run, and where it stands then.
+"""The rules of docs/use/phases.md, read a second time: what events do to a run, and its state then.
 
 A limit is a list: failures, inconclusive marks, errors in succession, the count or None, and 'dry' after them where the
 metric is. An event is 'stop', or a metric's number and a mark.
@@ -8,7 +8,7 @@ COUNTED = ('Successful', 'Failed', 'Inconclusive')
 
 
 def succession(marks):
-    """How many errors stand at the end."""
+    """How many errors there are at the end, without another mark between."""
     count = 0
     for mark in reversed(marks):
         if mark != 'Error':

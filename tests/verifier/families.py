@@ -76,7 +76,7 @@ def paired(enter, step):
 
 
 def mispaired(enters):
-    """Steps that name another place than their Enter's, or stand before it."""
+    """Steps that name another place than their Enter's, or come before it."""
     codes = []
     for enter in enters:
         codes.append((LIST_3, [LOAD, (enter, 3), TRUE, (partner(enter), 0), RETURN]))
@@ -94,9 +94,9 @@ def loops():
         codes.append((LIST_3, nested(four + ['Any'], [TRUE]) + [IS_NIL, RETURN]))
         codes.append((LIST_3, nested(four + ['All', 'Filter'], [TRUE]) + [IS_NIL, RETURN]))
     for most in (0, 3):
-        beside = [LOAD, ('AllEnter', 6), LOAD, ('AnyEnter', 5), TRUE, ('AnyStep', 3), ('AllStep', 1)]
+        first = [LOAD, ('AllEnter', 6), LOAD, ('AnyEnter', 5), TRUE, ('AnyStep', 3), ('AllStep', 1)]
         second = [LOAD, ('CountEnter', 10), TRUE, ('CountStep', 8), IS_NIL]
-        codes.append((('list', 'whole', most), beside + second + [RETURN]))
+        codes.append((('list', 'whole', most), first + second + [RETURN]))
     return codes
 
 
@@ -174,7 +174,7 @@ def meetings():
 
 
 def nils():
-    """Nil in one branch and a plain operand in the other, taken as plain, made plain, or tested."""
+    """Nil in one branch and a plain operand in the other, taken as plain, unwrapped, or tested."""
     three = [whole(1), whole(2), ('MakeList', 'whole', 2)]
     users = (
         ([whole(1)], [whole(2), ('AddW',), IS_NIL]), ([whole(1)], [('Need',), whole(2), ('AddW',), IS_NIL]),
@@ -259,7 +259,7 @@ def stacks():
 
 
 def budgets():
-    """Budgets at the limit, one beside it, and far beyond what 64 bits hold."""
+    """Budgets at the limit, one below and above it, and far beyond what 64 bits hold."""
     large = ('list', 'bool', 10_000)
     codes = []
     for inner in (11, 12, 13):
@@ -290,11 +290,11 @@ def exact_budgets(inner):
 
 
 def branch_budgets(large):
-    """The dearest of two ways, where the cheap one is the longer or the last."""
-    dear = [TRUE, LOAD, IN]
+    """The more expensive of two ways, where the cheap one is the longer or the last."""
+    expensive = [TRUE, LOAD, IN]
     cheap = [TRUE, NOT, NOT, NOT, NOT, NOT]
     codes = []
-    for first, second in ((dear, cheap), (cheap, dear), (dear, dear), (cheap, cheap)):
+    for first, second in ((expensive, cheap), (cheap, expensive), (expensive, expensive), (cheap, cheap)):
         ops = [TRUE, ('BranchFalse', 3 + len(first))] + first + [('Jump', 3 + len(first) + len(second))] + second
         codes.append((large, ops + [RETURN]))
         codes.append((large, first + [('OrJump', len(first) + 1 + len(second))] + second + [RETURN]))
@@ -342,7 +342,7 @@ def orders():
     crossing[deep[fifth][1]] = NOT
     crossing[fifth] = ('AllEnter', len(deep) + 1)
     loop = [LOAD, ('AllEnter', 3), TRUE, ('AllStep', 1)]
-    dear = nested(['All', 'All', 'All'], [TRUE])
+    expensive = nested(['All', 'All', 'All'], [TRUE])
     large = ('list', 'bool', 10_000)
     return [
         (LIST_3, [ITEM, IS_NIL, ('BranchFalse', 9), TRUE, RETURN]),
@@ -354,9 +354,9 @@ def orders():
         (LIST_3, [NOT, LOAD, ('AllEnter', 4), RETURN, ('AllStep', 2), RETURN]),
         (LIST_3, [NOT] + shifted(loop, 1)),
         (LIST_3, crossing + [TRUE, ('AllStep', fifth), RETURN]),
-        (large, dear + [('AddW',), RETURN]),
-        (large, dear + [whole(1)]),
-        (large, [NIL] * 66 + shifted(dear, 66) + [RETURN]),
+        (large, expensive + [('AddW',), RETURN]),
+        (large, expensive + [whole(1)]),
+        (large, [NIL] * 66 + shifted(expensive, 66) + [RETURN]),
         (LIST_3, [NIL] * 64 + [ITEM, RETURN]),
         (LIST_3, [TRUE, ('BranchFalse', 3), TRUE, ('AddW',), RETURN]),
         (LIST_3, [TRUE, ('BranchFalse', 4), TRUE, ('Jump', 5), whole(1), ('AddW',), RETURN]),
@@ -405,7 +405,7 @@ def all_of(tests):
 
 
 def every(tests, count):
-    """So many of the tests, spread evenly."""
+    """`count` of the tests, spread evenly."""
     return [tests[len(tests) * number // count] for number in range(min(count, len(tests)))]
 
 

@@ -141,7 +141,7 @@ class Writer:
 
     def write(self, kind, depth):
         """Leaves an operand of just this scalar kind."""
-        {'bool': self.truth, 'whole': self.whole, 'decimal': self.decimal, 'text': self.text}[kind](depth)
+        {'bool': self.boolean, 'whole': self.whole, 'decimal': self.decimal, 'text': self.text}[kind](depth)
 
     def leaf(self, kind):
         if self.chance(0.6) and self.reach(lambda found: found == kind):
@@ -164,7 +164,7 @@ class Writer:
         end = Label()
         for _ in range(self.random.choice((1, 1, 1, 2, 3))):
             other = Label()
-            self.truth(depth - 2)
+            self.boolean(depth - 2)
             self.put('BranchFalse', other)
             branch()
             self.put('Jump', end)
@@ -196,7 +196,7 @@ class Writer:
             self.random.shuffle(nil)
             self.branches(lambda: nil.pop()() if nil else self.write(kind, depth - 2), depth)
 
-    def truth(self, depth):
+    def boolean(self, depth):
         second = [
             lambda: self.text_test(depth), lambda: self.text_test(depth), lambda: self.text_test(depth),
             lambda: self.loop('None', depth), lambda: self.loop('One', depth), lambda: self.loop('One', depth),
@@ -210,7 +210,7 @@ class Writer:
         ])
 
     def negated(self, depth):
-        self.truth(depth - 1)
+        self.boolean(depth - 1)
         self.put('Not')
 
     def comparison(self, depth):
@@ -258,11 +258,11 @@ class Writer:
         end = Label()
         name = self.random.choice(('AndJump', 'OrJump'))
         for _ in range(self.random.choice((1, 1, 2, 3))):
-            self.truth(depth - 1)
+            self.boolean(depth - 1)
             self.put(name, end)
             if self.chance(0.2):
                 name = 'OrJump' if name == 'AndJump' else 'AndJump'
-        self.truth(depth - 1)
+        self.boolean(depth - 1)
         self.here(end)
 
     def number(self, kind, depth):
@@ -283,10 +283,10 @@ class Writer:
 
     def decimal(self, depth):
         self.choose('decimal', depth, [
-            lambda: self.number('decimal', depth), lambda: self.turned(depth), lambda: self.quotient(depth),
+            lambda: self.number('decimal', depth), lambda: self.converted(depth), lambda: self.quotient(depth),
         ])
 
-    def turned(self, depth):
+    def converted(self, depth):
         self.whole(depth - 1)
         self.put('ToDecimal')
 
@@ -329,13 +329,13 @@ class Writer:
         self.here(enter)
         self.put(family + 'Enter', step)
         self.items.append(item)
-        self.truth(depth - 1)
+        self.boolean(depth - 1)
         self.items.pop()
         self.here(step)
         self.put(family + 'Step', enter)
 
     def literal_answer(self, family, found):
-        """What stands for a loop where there are as many as may be."""
+        """What replaces a loop where there are as many as may be."""
         if family in ('All', 'Any', 'None', 'One'):
             return self.put('PushBool', True)
         if family == 'Count':
@@ -348,7 +348,7 @@ def random_code(random, shape, depth, version=1):
     writer = Writer(random, shape, version)
     for _ in range(random.choice((0, 0, 0, 0, 1, 2))):
         writer.write(random.choice(SCALARS), 1)
-    writer.truth(depth)
+    writer.boolean(depth)
     writer.put('Return')
     return writer.finished()
 

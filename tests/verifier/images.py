@@ -150,7 +150,7 @@ class Reader:
             raise Refused(f'UnknownOp({code_at})')
         name = NAMES[code - 1]
         if name == 'PushBool':
-            return (name, self.truth())
+            return (name, self.boolean())
         if name in ('PushWhole', 'PushDecimal'):
             return (name, self.signed())
         if name == 'PushText':
@@ -161,7 +161,7 @@ class Reader:
             return (name, SCALARS[self.number(len(SCALARS) - 1)], self.number(LONGEST_LIST))
         return (name, self.number(2**32 - 1)) if has_place((name,)) else (name,)
 
-    def truth(self):
+    def boolean(self):
         """A byte that is 0 or 1."""
         begin, byte = self.at, self.byte()
         if byte > 1:

@@ -16,7 +16,7 @@ def ended(outcome):
     return f'{word} cost={outcome[1]}'
 
 
-def told(ops, verdict):
+def verdict_line(ops, verdict):
     if verdict[0] == 'accepted':
         return f'accepted operations={len(ops)} depth={verdict[1]} budget={verdict[2]}'
     return f'{verdict[0]} at {verdict[1]}'

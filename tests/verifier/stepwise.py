@@ -1,4 +1,4 @@
-"""Random code made operation by operation, each one fitting the kinds that stand there, for make_codes.
+"""Random code made operation by operation, each one fitting the kinds on the stack, for make_codes.
 
 It makes what no condition is compiled to: jumps that share an end, operands that are dropped, Returns in
 the middle, loops whose bodies branch.
@@ -32,7 +32,7 @@ class Stepwise:
         return self.loops[-1][2][1] if self.loops else None
 
     def put(self, *op):
-        """An operation that goes on to the next place."""
+        """An operation that continues at the next place."""
         count = taken(op)
         if len(self.kinds) - count < self.floor():
             return False

@@ -13,7 +13,7 @@ ENGINE = os.environ["ENGINE"]
 BUNDLE = os.path.realpath("../../../examples/bundles/success-rate.json")
 RUN = os.path.realpath("../../../examples/analysisrun.json")
 SHAPES = os.path.realpath("../analysisrun/shapes.json")
-# Each recipe's words; FIFO stands for a file that is read, and that comes from a pipe where the recipe is interrupted.
+# Each recipe's words; FIFO is replaced by the file that is read, which is a pipe where the recipe is interrupted.
 RECIPES = {
     "from-jsonl": ["--allow-empty", "--add-to", "FIFO", os.devnull],
     "from-prometheus": ["--allow-empty", "--add-to", "FIFO", os.devnull],
@@ -68,15 +68,15 @@ def interrupted(folder, recipe):
     one = started(folder, recipe, words, env={**os.environ, "PATH": f"{folder}:{os.environ['PATH']}"})
     written = opened(f"{folder}/parts/0.json")
     one.send_signal(signal.SIGINT)
-    told = one.communicate()[1]
+    errors = one.communicate()[1]
     os.close(written)
-    return one.returncode, told
+    return one.returncode, errors
 
 
 def output(folder, recipe, **more):
     one = started(folder, recipe, ready(folder, recipe, False), **more)
-    told = one.communicate()[1]
-    return one.returncode, told
+    errors = one.communicate()[1]
+    return one.returncode, errors
 
 
 def full(folder, recipe):
@@ -101,15 +101,15 @@ def input_closed(folder, recipe):
     words = [word for word in RECIPES[recipe] if word not in ("FIFO", RUN)] + ["-"]
     ready(folder, recipe, False)
     one = started(folder, recipe, words, preexec_fn=lambda: os.close(0))
-    told = one.communicate()[1]
-    return one.returncode, told
+    errors = one.communicate()[1]
+    return one.returncode, errors
 
 
 def tried(case):
     way, recipe = case
     with tempfile.TemporaryDirectory() as folder:
-        status, told = way(folder, recipe)
-    return f"{way.__name__} {recipe}: status {status}: {told}" + ("" if told.endswith("\n") else "\n")
+        status, errors = way(folder, recipe)
+    return f"{way.__name__} {recipe}: status {status}: {errors}" + ("" if errors.endswith("\n") else "\n")
 
 
 def main():

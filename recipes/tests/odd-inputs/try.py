@@ -13,7 +13,7 @@ HERE, PATH = os.path.realpath("../.."), os.environ["PATH"]
 STATUSES = {0, 1, 2, 3, 4}
 # How many changes of a good file are tried in each place where it is read; more of them by the environment.
 CHANGES, SHOWN = int(os.environ.get("CHANGES", "10")), 3
-# What a recipe tells besides what it refuses.
+# What a recipe reports besides what it refuses.
 NOTE = re.compile("from-prometheus: answer [0-9]+: |shapes: .*: no answer says of what kind|shapes: .* is too large for |"
                   "argo_judge: warning: |" + r"[\w-]+: (" + "|".join((
                       "metric .* measurements.*, by the controller's counts$", "spec.dryRun: .* is a regular expression",
@@ -47,7 +47,7 @@ event 1 stop closed Successful
 """
 ODD = [None, True, 7, -1, 0.5, "", "x\ny", "\ud800", [], [[]], [None], {}, {"name": None}, {"x": {"x": []}}]
 
-# Each recipe's words, in which a file's name stands for what it has; each file is good, and one after another is not.
+# Each recipe's words, in which a file's name says what it has; each file is good, and one after another is not.
 RECIPES = {
     "from-jsonl": [["--template", "TEMPLATE", "--shapes", "SHAPES", "SHAPES"], ["--add-to", "DOCUMENT", "SHAPES"]],
     "from-prometheus": [["--template", "TEMPLATE", "--shapes", "SHAPES", "ANSWER"],
@@ -104,7 +104,7 @@ def ended(code, words):
     """The status of a recipe in a fork, and what it wrote to standard error."""
     child = os.fork()
     if child == 0:
-        for descriptor, name in enumerate(("/dev/null", "written", "told")):
+        for descriptor, name in enumerate(("/dev/null", "written", "errors")):
             os.dup2(os.open(name, os.O_RDONLY if descriptor == 0 else os.O_WRONLY | os.O_CREAT | os.O_TRUNC), descriptor)
         sys.argv = words
         try:
@@ -112,16 +112,17 @@ def ended(code, words):
         finally:
             os._exit(99)
     status = os.waitstatus_to_exitcode(os.waitpid(child, 0)[1])
-    with open("told", encoding="utf-8", errors="replace") as file:
+    with open("errors", encoding="utf-8", errors="replace") as file:
         return status, file.read()
 
 
-def fault_of(status, told):
-    """What is wrong with how a recipe ended, if something is. What a good answer has to tell may be several lines."""
-    lines = told.splitlines()
+def fault_of(status, errors):
+    """What is wrong with how a recipe ended, if something is. What is reported of a good answer may be several lines."""
+    lines = errors.splitlines()
     ours = [line for line in lines if not NOTE.match(line)]
-    if status not in STATUSES or "Traceback" in told or len(ours) != (status > 1) or not told.endswith("\n") and told:
-        return f"status {status}: {told[-600:]}"
+    is_cut = errors != "" and not errors.endswith("\n")
+    if status not in STATUSES or "Traceback" in errors or len(ours) != (status > 1) or is_cut:
+        return f"status {status}: {errors[-600:]}"
     return None
 
 
