@@ -20,6 +20,7 @@ INSTEAD = {
     r"sees to": "ensures",
     r"at hand": "current",
     r"comes? to": "results in",
+    r"wrong bod(?:y|ies)": "mutant",
 }
 # Of names, parts between capitals and underscores; public names that others have given stay.
 IN_NAMES = {
