@@ -70,7 +70,7 @@ fn table<M: ShapeName>(
 {
     let mut arrived = Vec::new(alloc);
     try_push(&mut arrived, Ok(Operands::none(alloc)))?;
-    for _place in 0..count {
+    for _index in 0..count {
         try_push(&mut arrived, Err(Reason::Unreachable))?;
     }
     Ok(arrived)

@@ -5,4 +5,4 @@ use Rattle.ar_safety.specs.declared.error.Reason.TheVariants.{Unreachable}
 use Rattle.ar_verify.proofs.arrivals.table.Given as goal
 
 abbrev pub invariant-loop-index : goal.invariant-loop-index
-invariant-loop-index g l = table_view l.arrived.items ≡ Ok (operands [] []) ∷ replicate l._place (Err Unreachable)
+invariant-loop-index g l = table_view l.arrived.items ≡ Ok (operands [] []) ∷ replicate l._index (Err Unreachable)
