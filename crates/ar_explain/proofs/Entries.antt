@@ -1,0 +1,94 @@
+-- Entries of traces one after another, and which paths they have.
+use Rattle.std.proofs.Common.{arith, ◌≡◌, ℕ, Bool, true, false, List, Option, Some, None, refl, ap, sym, ◌∙◌, subst, true≢false}
+use Rattle.std.specs.Prelude.{if◌then◌else◌, ◌+◌, suc, ◌==◌, ◌&&◌, ◌||◌, ◌++◌, ◌∷◌, [], map, Result, Ok, Err}
+use Rattle.std.specs.List.{AllByRecursion, list_any}
+use Rattle.std.specs.Str.{bytes_eq}
+use Rattle.std.proofs.lemmas.List.Folds.{list_any-append}
+use Rattle.ar_value.specs.Answer.{◌>>=◌}
+use Rattle.ar_value.specs.Operators.{Failure, Meaning}
+use Rattle.ar_value.specs.Value.{Value}
+use Rattle.ar_tree.specs.Typed.{Typed}
+use Rattle.ar_explain.specs.Parts.{is_evaluated}
+use Rattle.ar_explain.specs.Trace.{Entry, if_value, on_item, root_entry, with_root, in_child}
+
+pub from_zero : (n : ℕ) → n ≡ 0 + n
+from_zero n = omega arith
+
+pub or_none : (b : Bool) → (b || false) ≡ b
+or_none true = refl
+or_none false = refl
+
+pub or_left : (a b : Bool) → (a || b) ≡ false → a ≡ false
+or_left false b e = refl
+or_left true b e = absurd (true≢false e)
+
+pub or_right : (a b : Bool) → (a || b) ≡ false → b ≡ false
+or_right false b e = e
+or_right true b e = absurd (true≢false e)
+
+-- ---- a child's entries
+
+pub of_child : (number : ℕ) (path : List ℕ) (entries : List Entry) → (number == number) ≡ true
+    → is_evaluated (number ∷ path) (in_child number entries) ≡ is_evaluated path entries
+of_child number path [] same = refl
+of_child number path (entry ∷ entries) same = rw (same, of_child number path entries same) refl
+
+pub of_another : (number other : ℕ) (path : List ℕ) (entries : List Entry) → (number == other) ≡ false
+    → is_evaluated (other ∷ path) (in_child number entries) ≡ false
+of_another number other path [] differ = refl
+of_another number other path (entry ∷ entries) differ = rw (differ, of_another number other path entries differ) refl
+
+-- entries on an item have the same paths
+pub of_item : (number : ℕ) (path : List ℕ) (entries : List Entry) → is_evaluated path (on_item number entries) ≡ is_evaluated path entries
+of_item number path [] = refl
+of_item number path (entry ∷ entries) = rw (of_item number path entries) refl
+
+-- the root's own entry has no path of a child
+pub of_root : (result : Value) (here : Option Value) (tree : Typed) (number : ℕ) (path : List ℕ) (entries : List Entry)
+    → is_evaluated (number ∷ path) (with_root result here tree entries) ≡ is_evaluated (number ∷ path) entries
+of_root result here tree number path entries =
+    list_any-append (λ (entry : Entry). bytes_eq entry.path (number ∷ path)) entries (root_entry result here tree ∷ [])
+    ∙ or_none (is_evaluated (number ∷ path) entries)
+
+pub of_two : (path : List ℕ) (entries later : List Entry)
+    → is_evaluated path (entries ++ later) ≡ (is_evaluated path entries || is_evaluated path later)
+of_two path entries later = list_any-append (λ (entry : Entry). bytes_eq entry.path path) entries later
+
+-- ---- after a value
+
+pub after_value : {A : Type 0} (path : List ℕ) (m : Result A Failure) (entries : A → List Entry) (value : A) → m ≡ Ok value
+    → is_evaluated path (if_value m entries) ≡ false → is_evaluated path (entries value) ≡ false
+after_value path m entries value is lacks = subst (λ m. is_evaluated path (if_value m entries) ≡ false) is lacks
+
+pub has_value : {A : Type 0} (path : List ℕ) (m : Result A Failure) (entries : A → List Entry)
+    → is_evaluated path (if_value m entries) ≡ true → (value : A) × (m ≡ Ok value) × (is_evaluated path (entries value) ≡ true)
+has_value path (Ok value) entries has = (value, refl, has)
+has_value path (Err failure) entries has = absurd (true≢false (sym has))
+
+-- the same comes after the same value
+pub same_then : {A B : Type 0} (m : Result A Failure) (f g : A → Result B Failure) → ((value : A) → m ≡ Ok value → f value ≡ g value)
+    → (m >>= f) ≡ (m >>= g)
+same_then (Ok value) f g same = same value refl
+same_then (Err failure) f g same = refl
+
+-- ---- what is true of all entries
+
+pub all_of_two : {A : Type 0} (P : A → Type 0) (xs ys : List A) → AllByRecursion P xs → AllByRecursion P ys → AllByRecursion P (xs ++ ys)
+all_of_two P [] ys all others = others
+all_of_two P (x ∷ xs) ys all others = (all.0, all_of_two P xs ys all.1 others)
+
+pub all_if_value : {A : Type 0} (P : Entry → Type 0) (m : Result A Failure) (entries : A → List Entry)
+    → ((value : A) → m ≡ Ok value → AllByRecursion P (entries value)) → AllByRecursion P (if_value m entries)
+all_if_value P (Ok value) entries all = all value refl
+all_if_value P (Err failure) entries all = tt
+
+pub all_where : (P : Entry → Type 0) (holds : Bool) (entries others : List Entry) → (holds ≡ true → AllByRecursion P entries)
+    → (holds ≡ false → AllByRecursion P others) → AllByRecursion P (if holds then entries else others)
+all_where P true entries others all more = all refl
+all_where P false entries others all more = more refl
+
+-- a value that leads to another was there
+pub value_of_two : {A B : Type 0} (m : Result A Failure) (next : A → Result B Failure) (other : B) → (m >>= next) ≡ Ok other
+    → (value : A) × (m ≡ Ok value) × (next value ≡ Ok other)
+value_of_two (Ok value) next other is = (value, refl, is)
+value_of_two (Err failure) next other is = absurd cc

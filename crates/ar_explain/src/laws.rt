@@ -1,0 +1,44 @@
+//! Laws of traces. A law is the contract of a function that does nothing.
+
+ghost use Rattle.std.specs.Prelude.{◌≡◌, ◌++◌, ◌∷◌, [], All, Err, List, Option, false, true, ℕ};
+ghost use Rattle.ar_value.specs.Operators.{Failure};
+ghost use Rattle.ar_value.specs.Value.{Value};
+ghost use Rattle.ar_tree.specs.Meaning.{mean};
+ghost use Rattle.ar_tree.specs.Typed.{Typed};
+ghost use Rattle.ar_explain.specs.Parts.{Fails, IsEntryOf, is_evaluated, with_part};
+ghost use Rattle.ar_explain.specs.Trace.{Entry, root_entry, trace};
+
+/// Each entry is of a part of the tree, and has its meaning.
+pub fn entries_are_of_parts()
+    ensures { (result : Value) (here : Option Value) (tree : Typed)
+        → All (IsEntryOf result here tree) (trace result here tree) }
+{}
+
+/// The last entry is the root's: its meaning is the condition's.
+#[tactic(auto, using(crate::proofs::Roots::root_last))]
+pub fn root_is_last()
+    ensures { (result : Value) (here : Option Value) (tree : Typed)
+        → (earlier : List Entry) × (trace result here tree ≡ earlier ++ root_entry result here tree ∷ []) }
+{}
+
+/// Where an entry's part fails, the condition fails with the same failure.
+pub fn failures_are_of_the_root()
+    ensures { (result : Value) (here : Option Value) (tree : Typed) (failure : Failure)
+        → All (λ (entry : Entry). entry.meaning ≡ Err failure → mean result here tree ≡ Err failure)
+        (trace result here tree) }
+{}
+
+/// A part without an entry isn't needed: any tree in its place leaves the meaning unchanged.
+#[tactic(auto, using(crate::proofs::LeftOut::left_out))]
+pub fn parts_left_out_arent_needed()
+    ensures { (result : Value) (here : Option Value) (tree other : Typed) (path : List ℕ)
+        → is_evaluated path (trace result here tree) ≡ false
+        → mean result here (with_part path other tree) ≡ mean result here tree }
+{}
+
+/// A part with an entry is needed: with a tree in its place that always fails, the condition fails, too.
+pub fn parts_evaluated_are_needed()
+    ensures { (result : Value) (here : Option Value) (tree broken : Typed) (path : List ℕ) (failure : Failure)
+        → Fails result failure broken → is_evaluated path (trace result here tree) ≡ true
+        → mean result here (with_part path broken tree) ≡ Err failure }
+{}
