@@ -92,3 +92,20 @@ pub value_of_two : {A B : Type 0} (m : Result A Failure) (next : A → Result B 
     → (value : A) × (m ≡ Ok value) × (next value ≡ Ok other)
 value_of_two (Ok value) next other is = (value, refl, is)
 value_of_two (Err failure) next other is = absurd cc
+
+-- ---- failures
+
+-- a failure, and all that follows it
+pub fails_on : {A B : Type 0} {failure : Failure} (m : Result A Failure) (next : A → Result B Failure) → m ≡ Err failure → (m >>= next) ≡ Err failure
+fails_on m next is = ap (λ m. m >>= next) is
+
+-- a value, and what fails after it
+pub fails_after : {A B : Type 0} {failure : Failure} (m : Result A Failure) (value : A) (next : A → Result B Failure) → m ≡ Ok value → next value ≡ Err failure → (m >>= next) ≡ Err failure
+fails_after m value next is fails = ap (λ m. m >>= next) is ∙ fails
+
+-- a value that leads to another, on which the rest fails
+pub fails_after_two : {A B C : Type 0} {failure : Failure} (m : Result A Failure) (first : A → Result B Failure) (next : B → Result C Failure) (value : B)
+    → (m >>= first) ≡ Ok value → next value ≡ Err failure → (m >>= λ x. first x >>= next) ≡ Err failure
+fails_after_two m first next value is fails =
+    let found = value_of_two m first value is in
+    fails_after m found.0 (λ x. first x >>= next) found.1 (fails_after (first found.0) value next found.2 fails)

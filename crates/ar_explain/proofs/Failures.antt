@@ -12,37 +12,12 @@ use Rattle.ar_tree.specs.Meaning.{all_hold, any_holds, items_mean, mean, none_ho
 use Rattle.ar_tree.specs.Typed.{Typed, Typeds}
 use Rattle.ar_tree.specs.Typed as typed
 use Rattle.ar_explain.specs.Trace.{Entry, continues, each_item, if_value, items_trace, on_item, root_entry, trace, with_root, in_child}
-use Rattle.ar_explain.proofs.Entries.{all_if_value, all_of_two, all_where, value_of_two}
+use Rattle.ar_explain.proofs.Entries.{all_if_value, all_of_two, all_where, fails_after, fails_after_two, fails_on}
 
 module _ (failure : Failure) where
   -- an entry's failure is a meaning's
   abbrev pub FailsAs : {A : Type 0} → Result A Failure → Entry → Type 0
   FailsAs m entry = entry.meaning ≡ Err failure → m ≡ Err failure
-
-  fails_on : {A B : Type 0} (m : Result A Failure) (next : A → Result B Failure) → m ≡ Err failure → (m >>= next) ≡ Err failure
-  fails_on m next is = ap (λ m. m >>= next) is
-
-  fails_after : {A B : Type 0} (m : Result A Failure) (value : A) (next : A → Result B Failure) → m ≡ Ok value → next value ≡ Err failure → (m >>= next) ≡ Err failure
-  fails_after m value next is fails = ap (λ m. m >>= next) is ∙ fails
-
-  -- a value that has a boolean, items or a scalar, on which the rest fails
-  after_two : {A B C : Type 0} (m : Result A Failure) (first : A → Result B Failure) (next : B → Result C Failure) (value : B) → (m >>= first) ≡ Ok value → next value ≡ Err failure
-      → (m >>= λ x. first x >>= next) ≡ Err failure
-  after_two m first next value is fails =
-      let found = value_of_two m first value is in
-      fails_after m found.0 (λ x. first x >>= next) found.1 (fails_after (first found.0) value next found.2 fails)
-
-  decided : {B : Type 0} (m : Meaning) (next : Bool → Result B Failure) (holds : Bool) → (m >>= boolean) ≡ Ok holds → next holds ≡ Err failure
-      → (m >>= λ value. boolean value >>= next) ≡ Err failure
-  decided m next holds is fails = after_two m boolean next holds is fails
-
-  decided_items : {B : Type 0} (m : Meaning) (next : Items → Result B Failure) (items : Items) → (m >>= items_in) ≡ Ok items → next items ≡ Err failure
-      → (m >>= λ value. items_in value >>= next) ≡ Err failure
-  decided_items m next items is fails = after_two m items_in next items is fails
-
-  decided_item : {B : Type 0} (m : Meaning) (next : Value → Result B Failure) (scalar : Value) → (m >>= scalar_item) ≡ Ok scalar → next scalar ≡ Err failure
-      → (m >>= λ value. scalar_item value >>= next) ≡ Err failure
-  decided_item m next scalar is fails = after_two m scalar_item next scalar is fails
 
   -- what fails before a value is made of it
   fails_before : {A B : Type 0} (m : Result A Failure) (made : A → B) → (m >>= λ value. Ok (made value)) ≡ Err failure → m ≡ Err failure
@@ -136,7 +111,7 @@ module _ (failure : Failure) where
         (all_if_value (FailsAs (mean result here tree)) (mean result here left >>= boolean) _ (λ holds is.
         all_where (FailsAs (mean result here tree)) holds (in_child 1 (trace result here right)) []
         (λ on. of_child 1 (mean result here right) (mean result here tree) _
-        (λ fails. decided (mean result here left) (λ holds. if holds then mean result here right else Ok (bool false)) holds is (rw (on, fails) refl)) (failing result here right))
+        (λ fails. fails_after_two (mean result here left) boolean (λ holds. if holds then mean result here right else Ok (bool false)) holds is (rw (on, fails) refl)) (failing result here right))
         (λ on. tt))))
     failing result here (typed.either left right) =
         let tree = typed.either left right in
@@ -146,7 +121,7 @@ module _ (failure : Failure) where
         all_where (FailsAs (mean result here tree)) holds [] (in_child 1 (trace result here right))
         (λ on. tt)
         (λ on. of_child 1 (mean result here right) (mean result here tree) _
-        (λ fails. decided (mean result here left) (λ holds. if holds then Ok (bool true) else mean result here right) holds is (rw (on, fails) refl)) (failing result here right)))))
+        (λ fails. fails_after_two (mean result here left) boolean (λ holds. if holds then Ok (bool true) else mean result here right) holds is (rw (on, fails) refl)) (failing result here right)))))
     failing result here (typed.choice condition then_branch else_branch) =
         let tree = typed.choice condition then_branch else_branch in
         root result here tree _ (all_of_two (FailsAs (mean result here tree)) _ _
@@ -154,9 +129,9 @@ module _ (failure : Failure) where
         (all_if_value (FailsAs (mean result here tree)) (mean result here condition >>= boolean) _ (λ holds is.
         all_where (FailsAs (mean result here tree)) holds (in_child 1 (trace result here then_branch)) (in_child 2 (trace result here else_branch))
         (λ on. of_child 1 (mean result here then_branch) (mean result here tree) _
-        (λ fails. decided (mean result here condition) (λ holds. if holds then mean result here then_branch else mean result here else_branch) holds is (rw (on, fails) refl)) (failing result here then_branch))
+        (λ fails. fails_after_two (mean result here condition) boolean (λ holds. if holds then mean result here then_branch else mean result here else_branch) holds is (rw (on, fails) refl)) (failing result here then_branch))
         (λ on. of_child 2 (mean result here else_branch) (mean result here tree) _
-        (λ fails. decided (mean result here condition) (λ holds. if holds then mean result here then_branch else mean result here else_branch) holds is (rw (on, fails) refl)) (failing result here else_branch)))))
+        (λ fails. fails_after_two (mean result here condition) boolean (λ holds. if holds then mean result here then_branch else mean result here else_branch) holds is (rw (on, fails) refl)) (failing result here else_branch)))))
     failing result here (typed.listed scalar items) =
         root result here (typed.listed scalar items) _
         (leads_all (items_mean result here items) (mean result here (typed.listed scalar items)) _ (fails_on (items_mean result here items) _) (failing_items result here 0 items))
@@ -166,7 +141,7 @@ module _ (failure : Failure) where
         root result here tree _ (all_of_two (FailsAs (mean result here tree)) _ _
         (of_child 0 (mean result here many) (mean result here tree) _ (fails_on (mean result here many) _) (failing result here many))
         (all_if_value (FailsAs (mean result here tree)) (mean result here many >>= items_in) _ (λ items is.
-        leads_all (over predicate holds items) (mean result here tree) _ (λ fails. decided_items (mean result here many) (over predicate holds) items is fails)
+        leads_all (over predicate holds items) (mean result here tree) _ (λ fails. fails_after_two (mean result here many) items_in (over predicate holds) items is fails)
         (each holds (λ value. in_child 1 (trace result (Some value) body)) predicate 0 items
         (λ value. of_child 1 (mean result (Some value) body) (holds value) _ (fails_on (mean result (Some value) body) boolean) (failing result (Some value) body))))))
 
@@ -177,7 +152,7 @@ module _ (failure : Failure) where
         (of_child number (mean result here first) (items_mean result here (typed.more first others)) _ (fails_on (mean result here first) _) (failing result here first))
         (all_if_value (FailsAs (items_mean result here (typed.more first others))) (mean result here first >>= scalar_item) _ (λ scalar is.
         leads_all (items_mean result here others) (items_mean result here (typed.more first others)) _
-        (λ fails. decided_item (mean result here first) (λ scalar. items_mean result here others >>= λ items. Ok (item scalar items)) scalar is (fails_on (items_mean result here others) _ fails))
+        (λ fails. fails_after_two (mean result here first) scalar_item (λ scalar. items_mean result here others >>= λ items. Ok (item scalar items)) scalar is (fails_on (items_mean result here others) _ fails))
         (failing_items result here (suc number) others)))
 
 pub failures_of_root : (result : Value) (here : Option Value) (tree : Typed) (failure : Failure)

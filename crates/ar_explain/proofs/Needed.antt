@@ -12,7 +12,7 @@ use Rattle.ar_tree.specs.Typed.{Typed, Typeds}
 use Rattle.ar_tree.specs.Typed as typed
 use Rattle.ar_explain.specs.Parts.{Fails, is_evaluated, nth_changed, change_child, with_part}
 use Rattle.ar_explain.specs.Trace.{Entry, continues, each_item, if_value, items_trace, on_item, trace, with_root, in_child}
-use Rattle.ar_explain.proofs.Entries.{from_zero, has_value, of_another, of_child, of_item, of_root, of_two, or_none, value_of_two}
+use Rattle.ar_explain.proofs.Entries.{from_zero, has_value, of_another, of_child, of_item, of_root, of_two, or_none, fails_after, fails_after_two, fails_on, value_of_two}
 use Rattle.ar_explain.proofs.LeftOut.{left_out}
 
 -- one or the other is true
@@ -22,14 +22,6 @@ either_true false b e = inr (refl, e)
 
 not_true : (b : Bool) → b ≡ false → b ≡ true → ⊥
 not_true b is has = true≢false (sym has ∙ is)
-
--- a failure, and all that follows it
-fails_on : {A B : Type 0} (m : Result A Failure) (failure : Failure) (next : A → Result B Failure) → m ≡ Err failure → (m >>= next) ≡ Err failure
-fails_on m failure next is = ap (λ m. m >>= next) is
-
--- a value, and what fails after it
-fails_after : {A B : Type 0} (m : Result A Failure) (value : A) (failure : Failure) (next : A → Result B Failure) → m ≡ Ok value → next value ≡ Err failure → (m >>= next) ≡ Err failure
-fails_after m value failure next is fails = ap (λ m. m >>= next) is ∙ fails
 
 -- ---- items that are looked at
 
@@ -51,10 +43,10 @@ module _ (path : List ℕ) (failure : Failure) (holds other : Value → Result B
         → (other first >>= next) ≡ Err failure
     with_needed next on = by (either_true (is_evaluated path (entries first)) (is_evaluated path rest) one_has) where
       by : ((is_evaluated path (entries first) ≡ true) ⊎ ((is_evaluated path (entries first) ≡ false) × (is_evaluated path rest ≡ true))) → (other first >>= next) ≡ Err failure
-      by (inl here) = fails_on (other first) failure next (fails first here)
+      by (inl here) = fails_on (other first) next (fails first here)
       by (inr later) =
           let value = has_value path (holds first) _ later.1 in
-          fails_after (other first) value.0 failure next (same first later.0 ∙ value.1) (on value.0 value.2)
+          fails_after (other first) value.0 next (same first later.0 ∙ value.1) (on value.0 value.2)
 
   on_all : (number : ℕ) (items : Items) → (is_evaluated path (each_item predicates.All holds entries number items) ≡ true → all_hold other items ≡ Err failure)
       → (it : Bool) → is_evaluated path (if continues predicates.All it then each_item predicates.All holds entries number items else []) ≡ true
@@ -91,7 +83,7 @@ module _ (path : List ℕ) (failure : Failure) (holds other : Value → Result B
       → (it : Bool) → is_evaluated path (if continues predicate it then each_item predicate holds entries number items else []) ≡ true
       → (those other items >>= λ others. Ok (if it then item first others else others)) ≡ Err failure
   on_those predicate looks number first items again it has =
-      fails_on (those other items) failure (λ others. Ok (if it then item first others else others))
+      fails_on (those other items) (λ others. Ok (if it then item first others else others))
       (again (subst (λ on. is_evaluated path (if on then each_item predicate holds entries number items else []) ≡ true) (looks it) has))
 
   those_needed : (predicate : Predicate) → ((it : Bool) → continues predicate it ≡ true) → (number : ℕ) (items : Items)
@@ -105,9 +97,9 @@ module _ (path : List ℕ) (failure : Failure) (holds other : Value → Result B
   over_needed predicates.All number items has = all_needed number items has
   over_needed predicates.Any number items has = any_needed number items has
   over_needed predicates.None number items has = none_needed number items has
-  over_needed predicates.One number items has = fails_on (those other items) failure _ (those_needed predicates.One (λ it. refl) number items has)
-  over_needed predicates.Count number items has = fails_on (those other items) failure _ (those_needed predicates.Count (λ it. refl) number items has)
-  over_needed predicates.Filter number items has = fails_on (those other items) failure _ (those_needed predicates.Filter (λ it. refl) number items has)
+  over_needed predicates.One number items has = fails_on (those other items) _ (those_needed predicates.One (λ it. refl) number items has)
+  over_needed predicates.Count number items has = fails_on (those other items) _ (those_needed predicates.Count (λ it. refl) number items has)
+  over_needed predicates.Filter number items has = fails_on (those other items) _ (those_needed predicates.Filter (λ it. refl) number items has)
 
 -- ---- one level
 
@@ -185,13 +177,6 @@ module _ (result : Value) (path : List ℕ) (failure : Failure) (change : Typed 
   not_taken q true entries others none has = absurd (not_true (is_evaluated q entries) none has)
   not_taken q false entries others none has = (refl, has)
 
-  -- the boolean on which a branch is taken, with the value that has it
-  decided : {B : Type 0} (m : Meaning) (next : Bool → Result B Failure) (holds : Bool) → (m >>= boolean) ≡ Ok holds → next holds ≡ Err failure
-      → (m >>= λ value. boolean value >>= next) ≡ Err failure
-  decided m next holds is fails =
-      let value = value_of_two m boolean holds is in
-      fails_after m value.0 failure (λ value. boolean value >>= next) value.1 (fails_after (boolean value.0) holds failure next value.2 fails)
-
   -- items have no entry of one before them
   none_before : (here : Option Value) (n number : ℕ) (items : Typeds) → n < number → is_evaluated (n ∷ path) (items_trace result here number items) ≡ false
   none_before here n number typed.none below = refl
@@ -213,7 +198,7 @@ module _ (result : Value) (path : List ℕ) (failure : Failure) (change : Typed 
       sym (of_two (number ∷ path) (in_child number (trace result here one)) later) ∙ at in
       let none : is_evaluated (number ∷ path) later ≡ false =
       none_on (number ∷ path) (mean result here one >>= scalar_item) _ (λ value. none_before here number (suc number) others (omega arith)) in
-      fails_on (mean result here (change one)) failure _
+      fails_on (mean result here (change one)) _
       (own here one number (grind (arith, nat_tests)) (sym (or_none (is_evaluated (number ∷ path) (in_child number (trace result here one))))
       ∙ subst (λ rest. (is_evaluated (number ∷ path) (in_child number (trace result here one)) || rest) ≡ true) none both))
   items_needed here number (typed.more one others) (suc k) has =
@@ -224,8 +209,8 @@ module _ (result : Value) (path : List ℕ) (failure : Failure) (change : Typed 
       subst (λ first. (first || is_evaluated ((number + suc k) ∷ path) later) ≡ true) (of_another number (number + suc k) path (trace result here one) (grind (arith, nat_tests))) both in
       let found = has_value ((number + suc k) ∷ path) (mean result here one >>= scalar_item) (λ value. items_trace result here (suc number) others) rest in
       let value = value_of_two (mean result here one) scalar_item found.0 found.1 in
-      fails_after (mean result here one) value.0 failure _ value.1 (fails_after (scalar_item value.0) found.0 failure _ value.2
-      (fails_on (items_mean result here (nth_changed change others k)) failure _
+      fails_after (mean result here one) value.0 _ value.1 (fails_after (scalar_item value.0) found.0 _ value.2
+      (fails_on (items_mean result here (nth_changed change others k)) _
       (items_needed here (suc number) others k (subst (λ n. is_evaluated (n ∷ path) (items_trace result here (suc number) others) ≡ true) (omega arith) found.2))))
 
   pub child_needed : (here : Option Value) (tree : Typed) (number : ℕ) → is_evaluated (number ∷ path) (trace result here tree) ≡ true
@@ -233,29 +218,29 @@ module _ (result : Value) (path : List ℕ) (failure : Failure) (change : Typed 
   child_needed here typed.result number has = absurd (true≢false (sym has))
   child_needed here typed.item number has = absurd (true≢false (sym has))
   child_needed here (typed.literal literal) number has = absurd (true≢false (sym has))
-  child_needed here (typed.field owner name) zero has = fails_on (mean result here (change owner)) failure _ (only here (typed.field owner name) owner has)
+  child_needed here (typed.field owner name) zero has = fails_on (mean result here (change owner)) _ (only here (typed.field owner name) owner has)
   child_needed here (typed.field owner name) (suc number) has = no_other here (typed.field owner name) owner (suc number) (grind (arith, nat_tests)) has
-  child_needed here (typed.unary operator operand) zero has = fails_on (mean result here (change operand)) failure _ (only here (typed.unary operator operand) operand has)
+  child_needed here (typed.unary operator operand) zero has = fails_on (mean result here (change operand)) _ (only here (typed.unary operator operand) operand has)
   child_needed here (typed.unary operator operand) (suc number) has = no_other here (typed.unary operator operand) operand (suc number) (grind (arith, nat_tests)) has
   child_needed here (typed.binary operator left right) zero has =
-      fails_on (mean result here (change left)) failure _
+      fails_on (mean result here (change left)) _
       (first here (typed.binary operator left right) left _ (none_on (0 ∷ path) (mean result here left) _ (λ value. of_another 1 0 path (trace result here right) (grind (arith, nat_tests)))) has)
   child_needed here (typed.binary operator left right) (suc zero) has =
       let found = has_value (1 ∷ path) (mean result here left) (λ value. in_child 1 (trace result here right)) (after here (typed.binary operator left right) left 1 _ (grind (arith, nat_tests)) has) in
-      fails_after (mean result here left) found.0 failure _ found.1 (fails_on (mean result here (change right)) failure _ (own here right 1 refl found.2))
+      fails_after (mean result here left) found.0 _ found.1 (fails_on (mean result here (change right)) _ (own here right 1 refl found.2))
   child_needed here (typed.binary operator left right) (suc (suc number)) has =
       let found = has_value (suc (suc number) ∷ path) (mean result here left) (λ value. in_child 1 (trace result here right))
       (after here (typed.binary operator left right) left (suc (suc number)) _ (grind (arith, nat_tests)) has) in
       absurd (not_true _ (of_another 1 (suc (suc number)) path (trace result here right) (grind (arith, nat_tests))) found.2)
   child_needed here (typed.both left right) zero has =
-      fails_on (mean result here (change left)) failure _
+      fails_on (mean result here (change left)) _
       (first here (typed.both left right) left _ (none_on (0 ∷ path) (mean result here left >>= boolean) _
       (λ holds. none_where (0 ∷ path) holds (in_child 1 (trace result here right)) [] (of_another 1 0 path (trace result here right) (grind (arith, nat_tests))) refl)) has)
   child_needed here (typed.both left right) (suc zero) has =
       let found = has_value (1 ∷ path) (mean result here left >>= boolean) (λ holds. if holds then in_child 1 (trace result here right) else [])
       (after here (typed.both left right) left 1 _ (grind (arith, nat_tests)) has) in
       let on = taken (1 ∷ path) found.0 (in_child 1 (trace result here right)) [] refl found.2 in
-      decided (mean result here left) (λ holds. if holds then mean result here (change right) else Ok (bool false)) found.0 found.1
+      fails_after_two (mean result here left) boolean (λ holds. if holds then mean result here (change right) else Ok (bool false)) found.0 found.1
       (rw (on.0, own here right 1 refl on.1) refl)
   child_needed here (typed.both left right) (suc (suc number)) has =
       let found = has_value (suc (suc number) ∷ path) (mean result here left >>= boolean) (λ holds. if holds then in_child 1 (trace result here right) else [])
@@ -263,14 +248,14 @@ module _ (result : Value) (path : List ℕ) (failure : Failure) (change : Typed 
       let on = taken (suc (suc number) ∷ path) found.0 (in_child 1 (trace result here right)) [] refl found.2 in
       absurd (not_true _ (of_another 1 (suc (suc number)) path (trace result here right) (grind (arith, nat_tests))) on.1)
   child_needed here (typed.either left right) zero has =
-      fails_on (mean result here (change left)) failure _
+      fails_on (mean result here (change left)) _
       (first here (typed.either left right) left _ (none_on (0 ∷ path) (mean result here left >>= boolean) _
       (λ holds. none_where (0 ∷ path) holds [] (in_child 1 (trace result here right)) refl (of_another 1 0 path (trace result here right) (grind (arith, nat_tests))))) has)
   child_needed here (typed.either left right) (suc zero) has =
       let found = has_value (1 ∷ path) (mean result here left >>= boolean) (λ holds. if holds then [] else in_child 1 (trace result here right))
       (after here (typed.either left right) left 1 _ (grind (arith, nat_tests)) has) in
       let on = not_taken (1 ∷ path) found.0 [] (in_child 1 (trace result here right)) refl found.2 in
-      decided (mean result here left) (λ holds. if holds then Ok (bool true) else mean result here (change right)) found.0 found.1
+      fails_after_two (mean result here left) boolean (λ holds. if holds then Ok (bool true) else mean result here (change right)) found.0 found.1
       (rw (on.0, own here right 1 refl on.1) refl)
   child_needed here (typed.either left right) (suc (suc number)) has =
       let found = has_value (suc (suc number) ∷ path) (mean result here left >>= boolean) (λ holds. if holds then [] else in_child 1 (trace result here right))
@@ -278,7 +263,7 @@ module _ (result : Value) (path : List ℕ) (failure : Failure) (change : Typed 
       let on = not_taken (suc (suc number) ∷ path) found.0 [] (in_child 1 (trace result here right)) refl found.2 in
       absurd (not_true _ (of_another 1 (suc (suc number)) path (trace result here right) (grind (arith, nat_tests))) on.1)
   child_needed here (typed.choice condition then_branch else_branch) zero has =
-      fails_on (mean result here (change condition)) failure _
+      fails_on (mean result here (change condition)) _
       (first here (typed.choice condition then_branch else_branch) condition _ (none_on (0 ∷ path) (mean result here condition >>= boolean) _
       (λ holds. none_where (0 ∷ path) holds (in_child 1 (trace result here then_branch)) (in_child 2 (trace result here else_branch))
       (of_another 1 0 path (trace result here then_branch) (grind (arith, nat_tests))) (of_another 2 0 path (trace result here else_branch) (grind (arith, nat_tests))))) has)
@@ -288,7 +273,7 @@ module _ (result : Value) (path : List ℕ) (failure : Failure) (change : Typed 
       (after here (typed.choice condition then_branch else_branch) condition 1 _ (grind (arith, nat_tests)) has) in
       let on = taken (1 ∷ path) found.0 (in_child 1 (trace result here then_branch)) (in_child 2 (trace result here else_branch))
       (of_another 2 1 path (trace result here else_branch) (grind (arith, nat_tests))) found.2 in
-      decided (mean result here condition) (λ holds. if holds then mean result here (change then_branch) else mean result here else_branch) found.0 found.1
+      fails_after_two (mean result here condition) boolean (λ holds. if holds then mean result here (change then_branch) else mean result here else_branch) found.0 found.1
       (rw (on.0, own here then_branch 1 refl on.1) refl)
   child_needed here (typed.choice condition then_branch else_branch) (suc (suc zero)) has =
       let found = has_value (2 ∷ path) (mean result here condition >>= boolean)
@@ -296,7 +281,7 @@ module _ (result : Value) (path : List ℕ) (failure : Failure) (change : Typed 
       (after here (typed.choice condition then_branch else_branch) condition 2 _ (grind (arith, nat_tests)) has) in
       let on = not_taken (2 ∷ path) found.0 (in_child 1 (trace result here then_branch)) (in_child 2 (trace result here else_branch))
       (of_another 1 2 path (trace result here then_branch) (grind (arith, nat_tests))) found.2 in
-      decided (mean result here condition) (λ holds. if holds then mean result here then_branch else mean result here (change else_branch)) found.0 found.1
+      fails_after_two (mean result here condition) boolean (λ holds. if holds then mean result here then_branch else mean result here (change else_branch)) found.0 found.1
       (rw (on.0, own here else_branch 2 refl on.1) refl)
   child_needed here (typed.choice condition then_branch else_branch) (suc (suc (suc number))) has =
       let q = suc (suc (suc number)) ∷ path in
@@ -306,22 +291,22 @@ module _ (result : Value) (path : List ℕ) (failure : Failure) (change : Typed 
       absurd (not_true _ (none_where q found.0 (in_child 1 (trace result here then_branch)) (in_child 2 (trace result here else_branch))
       (of_another 1 (suc (suc (suc number))) path (trace result here then_branch) (grind (arith, nat_tests))) (of_another 2 (suc (suc (suc number))) path (trace result here else_branch) (grind (arith, nat_tests)))) found.2)
   child_needed here (typed.listed scalar items) number has =
-      fails_on (items_mean result here (nth_changed change items number)) failure _
+      fails_on (items_mean result here (nth_changed change items number)) _
       (items_needed here 0 items number
       (subst (λ n. is_evaluated (n ∷ path) (items_trace result here 0 items) ≡ true) (from_zero number)
       (sym (of_root result here (typed.listed scalar items) number path (items_trace result here 0 items)) ∙ has)))
   child_needed here (typed.predicate predicate many body) zero has =
-      fails_on (mean result here (change many)) failure _
+      fails_on (mean result here (change many)) _
       (first here (typed.predicate predicate many body) many _ (none_on (0 ∷ path) (mean result here many >>= items_in) _
       (λ items. none_of_items (0 ∷ path) predicate _ _ 0 items (λ value. of_another 1 0 path (trace result (Some value) body) (grind (arith, nat_tests))))) has)
   child_needed here (typed.predicate predicate many body) (suc zero) has =
       let found = has_value (1 ∷ path) (mean result here many >>= items_in) _ (after here (typed.predicate predicate many body) many 1 _ (grind (arith, nat_tests)) has) in
       let among = value_of_two (mean result here many) items_in found.0 found.1 in
-      fails_after (mean result here many) among.0 failure _ among.1 (fails_after (items_in among.0) found.0 failure _ among.2
+      fails_after (mean result here many) among.0 _ among.1 (fails_after (items_in among.0) found.0 _ among.2
       (over_needed (1 ∷ path) failure (λ value. mean result (Some value) body >>= boolean) (λ value. mean result (Some value) (change body) >>= boolean)
       (λ value. in_child 1 (trace result (Some value) body))
       (λ value lacks. ap (λ m. m >>= boolean) (same (Some value) body (sym (of_child 1 path (trace result (Some value) body) refl) ∙ lacks)))
-      (λ value has. fails_on (mean result (Some value) (change body)) failure boolean (own (Some value) body 1 refl has)) predicate 0 found.0 found.2))
+      (λ value has. fails_on (mean result (Some value) (change body)) boolean (own (Some value) body 1 refl has)) predicate 0 found.0 found.2))
   child_needed here (typed.predicate predicate many body) (suc (suc number)) has =
       let q = suc (suc number) ∷ path in
       let found = has_value q (mean result here many >>= items_in) _ (after here (typed.predicate predicate many body) many (suc (suc number)) _ (grind (arith, nat_tests)) has) in
