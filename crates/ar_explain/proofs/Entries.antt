@@ -1,15 +1,16 @@
 -- Entries of traces one after another, and which paths they have.
-use Rattle.std.proofs.Common.{arith, ◌≡◌, ℕ, Bool, true, false, List, Option, Some, None, refl, ap, sym, ◌∙◌, subst, true≢false}
-use Rattle.std.specs.Prelude.{if◌then◌else◌, ◌+◌, suc, ◌==◌, ◌&&◌, ◌||◌, ◌++◌, ◌∷◌, [], map, Result, Ok, Err}
-use Rattle.std.specs.List.{AllByRecursion, list_any}
+use Rattle.std.proofs.Common.{arith, ◌≡◌, ℕ, Bool, true, false, List, Option, refl, ap, sym, ◌∙◌, subst, true≢false}
+use Rattle.std.specs.Prelude.{if◌then◌else◌, ◌+◌, suc, ◌==◌, ◌||◌, ◌++◌, ◌∷◌, [], Result, Ok, Err}
+use Rattle.std.specs.List.{AllByRecursion}
 use Rattle.std.specs.Str.{bytes_eq}
 use Rattle.std.proofs.lemmas.List.Folds.{list_any-append}
 use Rattle.ar_value.specs.Answer.{◌>>=◌}
-use Rattle.ar_value.specs.Operators.{Failure, Meaning}
-use Rattle.ar_value.specs.Value.{Value}
+use Rattle.ar_value.specs.Operators.{Failure}
+use Rattle.ar_value.specs.Value.{Value, Items, item}
+use Rattle.ar_value.specs.declared.operator.Predicate.{Predicate}
 use Rattle.ar_tree.specs.Typed.{Typed}
 use Rattle.ar_explain.specs.Parts.{is_evaluated}
-use Rattle.ar_explain.specs.Trace.{Entry, if_value, on_item, root_entry, with_root, in_child}
+use Rattle.ar_explain.specs.Trace.{Entry, continues, each_item, if_value, in_child, on_item, root_entry, with_root}
 
 pub from_zero : (n : ℕ) → n ≡ 0 + n
 from_zero n = omega arith
@@ -53,6 +54,14 @@ of_root result here tree number path entries =
 pub of_two : (path : List ℕ) (entries later : List Entry)
     → is_evaluated path (entries ++ later) ≡ (is_evaluated path entries || is_evaluated path later)
 of_two path entries later = list_any-append (λ (entry : Entry). bytes_eq entry.path path) entries later
+
+-- the entries of the first item, and of those after it
+pub of_items : (path : List ℕ) (predicate : Predicate) (holds : Value → Result Bool Failure) (entries : Value → List Entry) (number : ℕ) (first : Value) (items : Items)
+    → is_evaluated path (each_item predicate holds entries number (item first items))
+    ≡ (is_evaluated path (entries first) || is_evaluated path (if_value (holds first) (λ it. if continues predicate it then each_item predicate holds entries (suc number) items else [])))
+of_items path predicate holds entries number first items =
+    of_two path (on_item number (entries first)) (if_value (holds first) (λ it. if continues predicate it then each_item predicate holds entries (suc number) items else []))
+    ∙ ap (λ one. one || is_evaluated path (if_value (holds first) (λ it. if continues predicate it then each_item predicate holds entries (suc number) items else []))) (of_item number path (entries first))
 
 -- ---- after a value
 

@@ -1,17 +1,17 @@
 -- Where an entry's part fails, the condition fails with the same failure.
-use Rattle.std.proofs.Common.{◌≡◌, arith, ℕ, ℤ, Bool, true, false, List, Option, Some, None, refl, ap, sym, ◌∙◌, subst, true≢false}
-use Rattle.std.specs.Prelude.{if◌then◌else◌, zero, suc, pos, ◌==◌, ◌++◌, ◌∷◌, [], All, Result, Ok, Err}
+use Rattle.std.proofs.Common.{◌≡◌, ℕ, Bool, true, false, List, Option, Some, refl, sym, true≢false}
+use Rattle.std.specs.Prelude.{if◌then◌else◌, suc, pos, ◌==◌, ◌∷◌, [], All, Result, Ok, Err}
 use Rattle.std.specs.List.{AllByRecursion}
 use Rattle.std.proofs.lemmas.List.Elements.{All-from_recursion}
 use Rattle.ar_value.specs.Answer.{◌>>=◌}
-use Rattle.ar_value.specs.Operators.{Failure, Meaning, binary_meaning, boolean, field_in, items_in, scalar_item, unary_meaning}
+use Rattle.ar_value.specs.Operators.{Failure, boolean, items_in, scalar_item}
 use Rattle.ar_value.specs.Value.{Value, Items, bool, whole, list, no_items, item, count}
 use Rattle.ar_value.specs.declared.operator.Predicate.{Predicate}
 use Rattle.ar_value.specs.declared.operator.Predicate.TheVariants as predicates
-use Rattle.ar_tree.specs.Meaning.{all_hold, any_holds, items_mean, mean, none_holds, over, those}
+use Rattle.ar_tree.specs.Meaning.{items_mean, mean, over, those}
 use Rattle.ar_tree.specs.Typed.{Typed, Typeds}
 use Rattle.ar_tree.specs.Typed as typed
-use Rattle.ar_explain.specs.Trace.{Entry, continues, each_item, if_value, items_trace, on_item, root_entry, trace, with_root, in_child}
+use Rattle.ar_explain.specs.Trace.{Entry, continues, each_item, items_trace, on_item, root_entry, trace, with_root, in_child}
 use Rattle.ar_explain.proofs.Entries.{all_if_value, all_of_two, all_where, fails_after, fails_after_two, fails_on}
 
 module _ (failure : Failure) where

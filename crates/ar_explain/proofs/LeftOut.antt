@@ -1,6 +1,6 @@
 -- What a trace leaves out may be any tree without changing the meaning.
-use Rattle.std.proofs.Common.{arith, ◌≡◌, ℕ, ℤ, Bool, true, false, List, Option, Some, None, refl, ap, sym, ◌∙◌, subst, true≢false}
-use Rattle.std.specs.Prelude.{if◌then◌else◌, zero, suc, pos, ◌+◌, ◌==◌, ◌||◌, ◌++◌, ◌∷◌, [], Result, Ok, Err}
+use Rattle.std.proofs.Common.{arith, ◌≡◌, ℕ, Bool, true, false, List, Option, Some, refl, ap, sym, ◌∙◌, subst, true≢false}
+use Rattle.std.specs.Prelude.{if◌then◌else◌, zero, suc, pos, ◌+◌, ◌==◌, ◌||◌, ◌++◌, ◌∷◌, [], Result, Ok}
 use Rattle.std.proofs.lemmas.Bool.Decides.{nat_tests}
 use Rattle.ar_value.specs.Answer.{◌>>=◌}
 use Rattle.ar_value.specs.Operators.{Failure, Meaning, boolean, binary_meaning, field_in, items_in, scalar_item, unary_meaning}
@@ -11,9 +11,9 @@ use Rattle.ar_tree.specs.Meaning.{all_hold, any_holds, items_mean, mean, none_ho
 use Rattle.ar_tree.specs.Typed.{Typed, Typeds}
 use Rattle.ar_tree.specs.Typed as typed
 use Rattle.ar_explain.specs.Parts.{is_evaluated, nth_changed, change_child, with_part}
-use Rattle.ar_explain.specs.Trace.{Entry, continues, each_item, if_value, items_trace, on_item, trace, with_root, in_child}
+use Rattle.ar_explain.specs.Trace.{Entry, continues, each_item, if_value, items_trace, trace, with_root, in_child}
 use Rattle.ar_explain.proofs.Roots.{root_evaluated}
-use Rattle.ar_explain.proofs.Entries.{from_zero, after_value, of_child, of_item, of_root, of_two, or_left, or_right, same_then}
+use Rattle.ar_explain.proofs.Entries.{from_zero, after_value, of_child, of_items, of_root, of_two, or_left, or_right, same_then}
 
 -- ---- items that are looked at
 
@@ -26,9 +26,7 @@ module _ (path : List ℕ) (holds other : Value → Result Bool Failure) (entrie
     rest = if_value (holds first) (λ it. if continues predicate it then each_item predicate holds entries (suc number) items else [])
 
     both_lack : (is_evaluated path (entries first) || is_evaluated path rest) ≡ false
-    both_lack =
-        subst (λ one. (one || is_evaluated path rest) ≡ false) (of_item number path (entries first))
-        (sym (of_two path (on_item number (entries first)) rest) ∙ lacks)
+    both_lack = sym (of_items path predicate holds entries number first items) ∙ lacks
 
     pub with_same : {A : Type 0} (f g : Bool → Result A Failure)
         → ((it : Bool) → is_evaluated path (if continues predicate it then each_item predicate holds entries (suc number) items else []) ≡ false → f it ≡ g it)

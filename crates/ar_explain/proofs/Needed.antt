@@ -1,18 +1,18 @@
 -- Where a part that a trace has fails, the whole fails.
-use Rattle.std.proofs.Common.{◌<◌, arith, inl, inr, ◌≡◌, ℕ, ℤ, Bool, true, false, List, Option, Some, None, refl, ap, sym, ◌∙◌, subst, true≢false}
-use Rattle.std.specs.Prelude.{if◌then◌else◌, zero, suc, pos, ◌+◌, ◌==◌, ◌||◌, ◌⊎◌, ◌++◌, ◌∷◌, [], Result, Ok, Err}
+use Rattle.std.proofs.Common.{◌<◌, arith, inl, inr, ◌≡◌, ℕ, Bool, true, false, List, Option, Some, refl, ap, sym, ◌∙◌, subst, true≢false}
+use Rattle.std.specs.Prelude.{if◌then◌else◌, zero, suc, ◌+◌, ◌==◌, ◌||◌, ◌⊎◌, ◌++◌, ◌∷◌, [], Result, Ok, Err}
 use Rattle.std.proofs.lemmas.Bool.Decides.{nat_tests}
 use Rattle.ar_value.specs.Answer.{◌>>=◌}
-use Rattle.ar_value.specs.Operators.{Failure, Meaning, boolean, binary_meaning, field_in, items_in, scalar_item, unary_meaning}
-use Rattle.ar_value.specs.Value.{Value, Items, bool, whole, list, no_items, item, count}
+use Rattle.ar_value.specs.Operators.{Failure, boolean, items_in, scalar_item}
+use Rattle.ar_value.specs.Value.{Value, Items, bool, no_items, item}
 use Rattle.ar_value.specs.declared.operator.Predicate.{Predicate}
 use Rattle.ar_value.specs.declared.operator.Predicate.TheVariants as predicates
 use Rattle.ar_tree.specs.Meaning.{all_hold, any_holds, items_mean, mean, none_holds, over, those}
 use Rattle.ar_tree.specs.Typed.{Typed, Typeds}
 use Rattle.ar_tree.specs.Typed as typed
 use Rattle.ar_explain.specs.Parts.{Fails, is_evaluated, nth_changed, change_child, with_part}
-use Rattle.ar_explain.specs.Trace.{Entry, continues, each_item, if_value, items_trace, on_item, trace, with_root, in_child}
-use Rattle.ar_explain.proofs.Entries.{from_zero, has_value, of_another, of_child, of_item, of_root, of_two, or_none, fails_after, fails_after_two, fails_on, value_of_two}
+use Rattle.ar_explain.specs.Trace.{Entry, continues, each_item, if_value, items_trace, trace, with_root, in_child}
+use Rattle.ar_explain.proofs.Entries.{from_zero, has_value, of_another, of_child, of_items, of_root, of_two, or_none, fails_after, fails_after_two, fails_on, value_of_two}
 use Rattle.ar_explain.proofs.LeftOut.{left_out}
 
 -- one or the other is true
@@ -34,9 +34,7 @@ module _ (path : List ℕ) (failure : Failure) (holds other : Value → Result B
     rest = if_value (holds first) (λ it. if continues predicate it then each_item predicate holds entries (suc number) items else [])
 
     one_has : (is_evaluated path (entries first) || is_evaluated path rest) ≡ true
-    one_has =
-        subst (λ one. (one || is_evaluated path rest) ≡ true) (of_item number path (entries first))
-        (sym (of_two path (on_item number (entries first)) rest) ∙ has)
+    one_has = sym (of_items path predicate holds entries number first items) ∙ has
 
     pub with_needed : {A : Type 0} (next : Bool → Result A Failure)
         → ((it : Bool) → is_evaluated path (if continues predicate it then each_item predicate holds entries (suc number) items else []) ≡ true → next it ≡ Err failure)
@@ -159,11 +157,7 @@ module _ (result : Value) (path : List ℕ) (failure : Failure) (change : Typed 
       → ((value : Value) → is_evaluated q (entries value) ≡ false) → is_evaluated q (each_item predicate holds entries number items) ≡ false
   none_of_items q predicate holds entries number no_items none = refl
   none_of_items q predicate holds entries number (item first items) none =
-      rw (
-        of_two q (on_item number (entries first)) (if_value (holds first) (λ it. if continues predicate it then each_item predicate holds entries (suc number) items else [])),
-        of_item number q (entries first),
-        none first,
-      )
+      rw (of_items q predicate holds entries number first items, none first)
       (none_on q (holds first) _ (λ it. none_where q (continues predicate it) (each_item predicate holds entries (suc number) items) [] (none_of_items q predicate holds entries (suc number) items none) refl))
 
   -- a branch that is taken

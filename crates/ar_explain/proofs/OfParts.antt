@@ -1,18 +1,18 @@
 -- Each entry of a trace is of a part, and has its meaning.
-use Rattle.std.proofs.Common.{◌≡◌, ◌+◌, arith, ℕ, ℤ, Bool, true, false, List, Option, Some, None, refl, ap, sym, ◌∙◌, subst}
-use Rattle.std.specs.Prelude.{if◌then◌else◌, zero, suc, ◌++◌, ◌∷◌, [], All, Result, Ok, Err}
+use Rattle.std.proofs.Common.{◌≡◌, ◌+◌, arith, ℕ, List, Option, Some, refl, ap, ◌∙◌, subst}
+use Rattle.std.specs.Prelude.{suc, ◌∷◌, [], All, Ok}
 use Rattle.std.specs.List.{AllByRecursion}
 use Rattle.std.proofs.lemmas.List.Elements.{All-from_recursion}
 use Rattle.ar_value.specs.Answer.{◌>>=◌}
-use Rattle.ar_value.specs.Operators.{Failure, boolean, ill_kinded, items_in, nth_item, scalar_item, there}
+use Rattle.ar_value.specs.Operators.{boolean, items_in, nth_item, scalar_item}
 use Rattle.ar_value.specs.Value.{Value, Items, no_items, item}
 use Rattle.ar_value.specs.declared.operator.Predicate.{Predicate}
 use Rattle.ar_value.specs.declared.operator.Scalar.{Scalar}
 use Rattle.ar_tree.specs.Meaning.{mean}
 use Rattle.ar_tree.specs.Typed.{Typed, Typeds}
 use Rattle.ar_tree.specs.Typed as typed
-use Rattle.ar_explain.specs.Parts.{IsEntryOf, child, here_at, nth_tree, part_at}
-use Rattle.ar_explain.specs.Trace.{Entry, continues, each_item, if_value, items_trace, on_item, root_entry, trace, with_root, in_child}
+use Rattle.ar_explain.specs.Parts.{IsEntryOf, child, here_at, nth_tree}
+use Rattle.ar_explain.specs.Trace.{Entry, continues, each_item, items_trace, on_item, root_entry, trace, with_root, in_child}
 use Rattle.ar_explain.proofs.Entries.{all_if_value, all_of_two, all_where, value_of_two}
 
 -- a child's entries are its parent's

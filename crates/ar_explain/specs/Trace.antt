@@ -1,5 +1,5 @@
 -- The trace of a condition on a value: the parts that are evaluated, in order, each with its value or failure.
-use Rattle.std.specs.Prelude.{ℕ, zero, suc, pos, ◌≡◌, refl, Bool, true, false, not, if◌then◌else◌, List, [], ◌∷◌, ◌++◌, map, Option, Some, None, Result, Ok, Err}
+use Rattle.std.specs.Prelude.{ℕ, suc, pos, ◌≡◌, refl, Bool, true, false, not, if◌then◌else◌, List, [], ◌∷◌, ◌++◌, map, Option, Some, None, Result, Ok, Err}
 use Rattle.ar_value.specs.Answer.{◌>>=◌}
 use Rattle.ar_value.specs.Operators.{Failure, Meaning, boolean, faulted, items_in, same_boolean, scalar_item}
 use Rattle.ar_value.specs.Predicates.{ends_at}
@@ -14,7 +14,7 @@ use Rattle.ar_value.specs.declared.operator.Predicate.{Predicate}
 use Rattle.ar_value.specs.declared.operator.Predicate.TheVariants as predicates
 use Rattle.ar_value.specs.declared.operator.Scalar.TheVariants as scalars
 use Rattle.ar_tree.specs.declared.tree.Literal.TheVariants as literals
-use Rattle.ar_tree.specs.Meaning.{items_mean, mean}
+use Rattle.ar_tree.specs.Meaning.{mean}
 use Rattle.ar_tree.specs.Typed.{Typed, Typeds}
 use Rattle.ar_tree.specs.Typed as typed
 
