@@ -7,27 +7,30 @@
 //! only. Only out of memory can keep it from that, which operands, loops and the lists that code makes
 //! take. Texts and values are borrowed from the measured value and from the code.
 //!
-//! Nothing that the program runs depends on it: judges run verified code by `ar_machine`.
+//! No judge depends on it: judges run verified code by `ar_machine`.
 //!
 //! - [`outcome`]: how runs end
 //! - `runs`: runs, loops over states; `state`: those
-//! - `machine`: operations on states; `effect`: those that take operands and give one; `loops`: the
+//! - `machine`: operations on states; [`effect`]: those that take operands and give one; `loops`: the
 //!   begin and the step of a loop
-//! - `stack`, `operand`, `list`: operands, borrowed where the measured value or the code has them;
-//!   `operators`: signs, arithmetic, orders and equality of operands
+//! - `stack`, [`operand`], [`list`]: operands, borrowed where the measured value or the code has them;
+//!   `operators`: signs, arithmetic, orders and equality of operands; [`found`]: what loops find
 //! - [`laws`]: what holds of all runs
 //!
-//! `specs/Private` says what states in memory represent. Of the items that a loop found, memory keeps
-//! what its answer takes, so a state in memory represents one of the machine by a relation
-//! (`ar_machine/specs/Same`).
+//! What takes no states and no code is public, and `ar_explain`, which evaluates trees, uses it, too. It is total, but
+//! for `found::answer_of`, which asks for a number of items below 2^63.
+//! `specs/Operand` says what operands represent, `specs/Private` what states in memory do. Of the items that a
+//! loop found, memory keeps what its answer takes, so a state in memory represents one of the machine by a
+//! relation (`ar_machine/specs/Same`).
 #![tactic(auto)]
 
-mod effect;
+pub mod effect;
+pub mod found;
 pub mod laws;
-mod list;
+pub mod list;
 mod loops;
 mod machine;
-mod operand;
+pub mod operand;
 mod operators;
 pub mod outcome;
 mod runs;

@@ -7,6 +7,7 @@ pub mod Orders
 pub mod FieldLists
 pub mod Answers
 pub mod Marks
+pub mod Fractions
 pub mod WidestLemmas
 pub mod Merges
 pub mod Steps

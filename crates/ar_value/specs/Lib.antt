@@ -7,6 +7,7 @@ pub mod Digits
 pub mod Decimal
 pub mod Arithmetic
 pub mod DecimalText
+pub mod DecimalShown
 pub mod Names
 pub mod Value
 pub mod TextTests

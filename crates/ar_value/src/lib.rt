@@ -4,15 +4,15 @@
 //! the point are cut off. Arithmetic is exact, or cut toward zero, or refused by name.
 //!
 //! What is proved, for all inputs: a text is the decimal that `specs/DecimalText` defines, or
-//! refused by the one name that it gives; a value fits a shape by `specs/Fits`; arithmetic is that of
-//! `specs/Arithmetic`, and numbers compare by their exact values; the kind that two kinds have in
-//! common is that of `specs/Kind`. Only a refused allocation can keep a call from its result: copies of
-//! texts and shapes and common kinds take memory.
+//! refused by the one name that it gives, and `specs/DecimalShown` is how a decimal is written; a value
+//! fits a shape by `specs/Fits`; arithmetic is that of `specs/Arithmetic`, and numbers compare by their
+//! exact values; the kind that two kinds have in common is that of `specs/Kind`. Only a refused
+//! allocation can keep a call from its result: copies of texts and shapes and common kinds take memory.
 //!
 //! `specs/Answer` has the words for answers, a value or a refusal, that the crates above use.
 //!
-//! - [`decimal`]: decimals, and the order of numbers; `decimal_text` reads their texts, and
-//!   [`digits`] the numbers that digits spell
+//! - [`decimal`]: decimals, and the order of numbers; `decimal_text` reads their texts, `decimal_shown`
+//!   writes them, and [`digits`] reads the numbers that digits spell
 //! - [`arithmetic`]: arithmetic of decimals; [`whole`]: of wholes
 //! - [`fault`]: faults of arithmetic and of operands; [`operator`]: operators of conditions, which
 //!   `specs/Operators` defines on values, `specs/TextTests` on texts and `specs/Predicates` for loops
@@ -30,6 +30,7 @@
 
 pub mod arithmetic;
 pub mod decimal;
+mod decimal_shown;
 mod decimal_text;
 pub mod digits;
 pub mod fault;

@@ -13,7 +13,7 @@ use ar_tree::{Tree, Typed};
 use cases_of_values::fault::Written;
 use cases_of_values::members;
 use cases_of_values::output::Output;
-use cases_of_values::printing::{put_between, put_decimal, put_pair, put_quoted, put_refusal};
+use cases_of_values::printing::{put_between, put_pair, put_quoted, put_refusal};
 use serde_json::Value as Json;
 use std::alloc::Global;
 
@@ -58,10 +58,7 @@ fn put_kind(out: &mut Output, kind: &TokenKind) {
         TokenKind::Word(word) => put_pair(out, "word", word.letters()),
         TokenKind::Name(name) => put_pair(out, "name", name.as_str()),
         TokenKind::Whole(whole) => write!(out, "whole {whole}"),
-        TokenKind::Decimal(decimal) => {
-            out.put("decimal ");
-            put_decimal(out, *decimal);
-        }
+        TokenKind::Decimal(decimal) => write!(out, "decimal {decimal}"),
         TokenKind::Text(text) => {
             out.put("text ");
             put_quoted(out, text.as_str());

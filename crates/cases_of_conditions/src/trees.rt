@@ -3,14 +3,14 @@
 use ar_tree::tree::{Binary, Comparison, Literal, Tree, Unary};
 use ar_value::operator::{Predicate, TextTest};
 use cases_of_values::output::Output;
-use cases_of_values::printing::{put_boolean, put_decimal, put_quoted, put_whole};
+use cases_of_values::printing::{put_boolean, put_quoted, put_whole};
 
 pub(crate) fn put_literal(out: &mut Output, literal: &Literal) {
     match literal {
         Literal::Nil => out.put("nil"),
         Literal::Bool(boolean) => put_boolean(out, *boolean),
         Literal::Whole(whole) => put_whole(out, *whole),
-        Literal::Decimal(decimal) => put_decimal(out, *decimal),
+        Literal::Decimal(decimal) => write!(out, "{decimal}"),
         Literal::Text(text) => put_quoted(out, text.as_str()),
     }
 }

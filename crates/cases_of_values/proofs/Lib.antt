@@ -2,5 +2,4 @@ pub mod Values
 pub mod Joined
 pub mod Escapes
 pub mod Lines
-pub mod Fractions
 pub mod Given

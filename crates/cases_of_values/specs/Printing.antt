@@ -1,10 +1,10 @@
 -- How texts, numbers, values, answers and shapes are printed: as bytes in UTF-8.
-use Rattle.std.specs.Prelude.{ℕ, zero, suc, ◌*◌, ◌/◌, ◌%◌, ◌==◌, nat_lt, ℤ, unsigned_abs, Bool, true, false, if◌then◌else◌, List, [], ◌∷◌, ◌++◌, codes, decimal, flat_map, Result, Ok, Err}
+use Rattle.std.specs.Prelude.{ℕ, ◌/◌, ◌%◌, ◌==◌, nat_lt, Bool, true, false, if◌then◌else◌, List, [], ◌∷◌, ◌++◌, codes, decimal, flat_map, Result, Ok, Err}
 use Rattle.std.specs.Char.{digit_char, encode_utf8}
 use Rattle.std.specs.Fmt.{signed_decimal}
-use Rattle.std.specs.Int.{is_negative}
 use Rattle.std.specs.Str.{chars}
 use Rattle.ar_value.specs.Bytes.{byte_of}
+use Rattle.ar_value.specs.DecimalShown.{decimal_text}
 use Rattle.ar_value.specs.Shape.{Shape, FieldShapes}
 use Rattle.ar_value.specs.Shape as shapes
 use Rattle.ar_value.specs.Value.{Value, Items, Fields}
@@ -54,23 +54,6 @@ unfoldable pub lines_text : (text : List ℕ) → List ℕ
 lines_text text = in_one_line (chars text)
 
 -- ---- numbers
-
--- The digits of a number of millionths below one, `indices` at most, and none after the last that isn't zero: a digit,
--- and the digits of ten times what is left.
-abbrev pub fraction_text : (indices millionths : ℕ) → List ℕ
-fraction_text zero millionths = []
-fraction_text (suc indices) millionths =
-    decimal (millionths / 100000)
-    ++ (if millionths % 100000 == 0 then [] else fraction_text indices (millionths % 100000 * 10))
-
-abbrev pub sign_text : ℤ → List ℕ
-sign_text z = if is_negative z then codes "-" else []
-
--- a decimal by its millionths, with at least one digit after its point
-unfoldable pub decimal_text : (millionths : ℤ) → List ℕ
-decimal_text millionths =
-    sign_text millionths ++ (decimal (unsigned_abs millionths / 1000000)
-    ++ (codes "." ++ fraction_text 6 (unsigned_abs millionths % 1000000)))
 
 abbrev pub number_text : Number → List ℕ
 number_text (Whole whole) = signed_decimal whole

@@ -13,7 +13,7 @@ ghost use Rattle.cases_of_values.specs.Output.{Writes};
 use crate::fault::{CaseFault, Written};
 use crate::members;
 use crate::output::Output;
-use crate::printing::{put_boolean, put_decimal, put_number, put_or_none, put_quoted, put_refusal};
+use crate::printing::{put_boolean, put_number, put_or_none, put_quoted, put_refusal};
 use ar_value::{Decimal, Fault, Number, Text, compare, digits, whole};
 use serde_json::Value as Json;
 use std::alloc::{AllocError, Global};
@@ -44,7 +44,7 @@ pub(crate) fn put(alloc: Global, call: &str, case: &Json, out: &mut Output) -> O
 /// A decimal text.
 fn put_decimal_of(alloc: Global, case: &Json, out: &mut Output) -> Written {
     match Decimal::of_text(members::text(case, "text")?) {
-        Ok(decimal) => put_decimal(out, decimal),
+        Ok(decimal) => write!(out, "{decimal}"),
         Err(refusal) => put_refusal(alloc, case, out, refusal),
     }
     Ok(())

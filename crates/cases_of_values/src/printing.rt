@@ -11,11 +11,11 @@ ghost use Rattle.ar_value.specs.Value.{fields_from, items_of};
 ghost use Rattle.ar_value.specs.View.{shape_view, value_view};
 ghost use Rattle.cases_of_values.specs.Members.{is_true};
 ghost use Rattle.cases_of_values.specs.Output.{Extends, Writes};
-ghost use Rattle.cases_of_values.specs.Printing.{answer_text, between, code_escape, decimal_text, escaped, field_shapes_text, fields_text, fraction_text, items_text, lines_text, number_text, quoted, shape_text, boolean_text, value_text};
+ghost use Rattle.cases_of_values.specs.Printing.{answer_text, between, code_escape, escaped, field_shapes_text, fields_text, items_text, lines_text, number_text, quoted, shape_text, boolean_text, value_text};
 
 use crate::members;
 use crate::output::Output;
-use ar_value::{Decimal, Fault, Indices, Number, Shape, Text, Value};
+use ar_value::{Fault, Indices, Number, Shape, Text, Value};
 use serde_json::Value as Json;
 use std::alloc::Global;
 use std::fmt::{Debug, Display};
@@ -114,41 +114,12 @@ fn put_line_part(out: &mut Output, ended: bool, character: char)
     }
 }
 
-/// A decimal with at least one digit after its point, and no zero after that one at its end.
-#[tactic(auto, unfolding(crate::specs::Printing::decimal_text))]
-pub fn put_decimal(out: &mut Output, decimal: Decimal)
-    ensures { Writes out.old out.new (decimal_text decimal) }
-{
-    let millionths = decimal.millionths();
-    let size = millionths.unsigned_abs();
-    let sign = if millionths < 0 { "-" } else { "" };
-    write!(out, "{sign}{}.", size / 1_000_000);
-    put_fraction(out, size % 1_000_000, 6)
-}
-
-/// Millionths below one, without the zeros at their end.
-#[tactic(auto, using(crate::proofs::Fractions::last_digit, crate::proofs::Fractions::more_digits, std::proofs::Common::append_assoc))]
-fn put_fraction(out: &mut Output, millionths: u64, indices: u32)
-    requires { millionths < 1000000 }
-    ensures { Writes out.old out.new (fraction_text indices millionths) }
-{
-    if indices == 0 {
-        return;
-    }
-    write!(out, "{}", millionths / 100_000);
-    let left = millionths % 100_000;
-    if left == 0 {
-        return;
-    }
-    put_fraction(out, left * 10, indices - 1)
-}
-
 pub(crate) fn put_number(out: &mut Output, number: Number)
     ensures { Writes out.old out.new (number_text number) }
 {
     match number {
         Number::Whole(whole) => put_whole(out, whole),
-        Number::Decimal(decimal) => put_decimal(out, decimal),
+        Number::Decimal(decimal) => write!(out, "{decimal}"),
     }
 }
 
@@ -223,7 +194,7 @@ pub(crate) fn put_value(out: &mut Output, value: &Value)
         Value::Nil => out.put("null"),
         Value::Bool(boolean) => put_boolean(out, *boolean),
         Value::Whole(whole) => put_whole(out, *whole),
-        Value::Decimal(decimal) => put_decimal(out, *decimal),
+        Value::Decimal(decimal) => write!(out, "{decimal}"),
         Value::Text(text) => put_quoted(out, text.as_str()),
         Value::List(values) => put_list_value(out, &values.items),
         Value::Object(fields) => {
