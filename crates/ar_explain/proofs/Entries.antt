@@ -86,7 +86,7 @@ pub all_of_two : {A : Type 0} (P : A → Type 0) (xs ys : List A) → AllByRecur
 all_of_two P [] ys all others = others
 all_of_two P (x ∷ xs) ys all others = (all.0, all_of_two P xs ys all.1 others)
 
-pub all_if_value : {A : Type 0} (P : Entry → Type 0) (m : Result A Failure) (entries : A → List Entry)
+pub all_if_value : {A B : Type 0} (P : B → Type 0) (m : Result A Failure) (entries : A → List B)
     → ((value : A) → m ≡ Ok value → AllByRecursion P (entries value)) → AllByRecursion P (if_value m entries)
 all_if_value P (Ok value) entries all = all value refl
 all_if_value P (Err failure) entries all = tt

@@ -4,3 +4,8 @@ pub mod OfParts
 pub mod Failures
 pub mod LeftOut
 pub mod Needed
+pub mod Sources
+pub mod Keeping
+pub mod Walks
+pub mod Loops
+pub mod LastItems

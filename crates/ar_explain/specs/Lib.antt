@@ -1,2 +1,6 @@
 pub mod Trace
 pub mod Parts
+pub mod Lines
+pub mod Sources
+pub mod Views
+pub mod Private

@@ -46,7 +46,7 @@ abbrev pub on_item : ℕ → List Entry → List Entry
 on_item number entries = map (λ (entry : Entry). record entry { items = number ∷ entry.items }) entries
 
 -- what comes after a value; after a failure comes nothing
-abbrev pub if_value : {A : Type 0} → Result A Failure → (A → List Entry) → List Entry
+abbrev pub if_value : {A B : Type 0} → Result A Failure → (A → List B) → List B
 if_value (Ok value) entries = entries value
 if_value (Err failure) entries = []
 
@@ -179,7 +179,7 @@ second_item_decides : map shown (trace the_items None (typed.predicate predicate
     ∷ ([], [], Ok (bool true)) ∷ []
 second_item_decides = refl
 
--- `filter(result, 1 / # == 0)` on 0: the body fails
+-- a `filter` whose body is `1 / #`, on 0: the body fails
 body_fails : map shown (trace (list (items_of (whole (pos 0) ∷ []))) None
     (typed.predicate predicates.Filter typed.result (typed.binary (binary.Wholes Divide) (the_literal 1) typed.item)))
     ≡ (0 ∷ [], [], Ok (list (items_of (whole (pos 0) ∷ []))))

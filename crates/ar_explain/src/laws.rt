@@ -1,11 +1,14 @@
 //! Laws of traces. A law is the contract of a function that does nothing.
 
-ghost use Rattle.std.specs.Prelude.{◌≡◌, ◌++◌, ◌∷◌, [], All, Err, List, Option, false, true, ℕ};
+ghost use Rattle.std.specs.Prelude.{◌≡◌, ◌++◌, ◌∷◌, [], All, Err, List, Ok, Option, false, true, ℕ};
 ghost use Rattle.ar_value.specs.Operators.{Failure};
-ghost use Rattle.ar_value.specs.Value.{Value};
+ghost use Rattle.ar_value.specs.Value.{Items, Value, item, list};
+ghost use Rattle.ar_value.specs.declared.operator.Predicate.{Predicate};
 ghost use Rattle.ar_tree.specs.Meaning.{mean};
 ghost use Rattle.ar_tree.specs.Typed.{Typed};
+ghost use Rattle.ar_explain.specs.Lines.{Line, lines, own_line};
 ghost use Rattle.ar_explain.specs.Parts.{Fails, IsEntryOf, is_evaluated, with_part};
+ghost use Rattle.ar_explain.specs.Sources.{IsFrom, LooksLastAt};
 ghost use Rattle.ar_explain.specs.Trace.{Entry, root_entry, trace};
 
 /// Each entry is of a part of the tree, and has its meaning.
@@ -41,4 +44,25 @@ pub fn parts_evaluated_are_needed()
     ensures { (result : Value) (here : Option Value) (tree broken : Typed) (path : List ℕ) (failure : Failure)
         → Fails result failure broken → is_evaluated path (trace result here tree) ≡ true
         → mean result here (with_part path broken tree) ≡ Err failure }
+{}
+
+/// Each line that says a value or a failure is of an entry of the trace: it has the entry's part and items, and says
+/// its meaning.
+pub fn lines_are_of_entries()
+    ensures { (result : Value) (here : Option Value) (tree : Typed)
+        → All (IsFrom (trace result here tree)) (lines result here tree) }
+{}
+
+/// The last line is the root's own, with its meaning.
+pub fn root_line_is_last()
+    ensures { (result : Value) (here : Option Value) (tree : Typed)
+        → (earlier : List Line) × (lines result here tree ≡ earlier ++ own_line tree (mean result here tree) ∷ []) }
+{}
+
+/// The last item that a predicate looks at has the line of its body, if the body has one, whatever other items are
+/// left out of the lines.
+pub fn last_items_have_lines()
+    ensures { (result : Value) (here : Option Value) (predicate : Predicate) (many body : Typed) (first : Value)
+        (others : Items) → mean result here many ≡ Ok (list (item first others))
+        → (number : ℕ) × (value : Value) × LooksLastAt result here predicate many body number value }
 {}

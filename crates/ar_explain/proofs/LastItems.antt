@@ -1,0 +1,143 @@
+-- The last item that a predicate looks at has its line.
+use Rattle.std.proofs.Common.{◌≡◌, ℕ, suc, Bool, true, false, List, [], ◌∷◌, ◌++◌, Option, Some, Result, Ok, Err, refl, ap, sym, ◌∙◌, append_assoc}
+use Rattle.std.specs.Prelude.{◌||◌, if◌then◌else◌, nat_lt, not}
+use Rattle.std.proofs.lemmas.List.{append-nil, map-append}
+use Rattle.ar_value.specs.Answer.{◌>>=◌}
+use Rattle.ar_value.specs.Operators.{Failure, boolean, items_in}
+use Rattle.ar_value.specs.Value.{Value, Items, list, no_items, item}
+use Rattle.ar_value.specs.declared.operator.Predicate.{Predicate}
+use Rattle.ar_tree.specs.Meaning.{mean}
+use Rattle.ar_tree.specs.Typed.{Typed}
+use Rattle.ar_tree.specs.Typed as typed
+use Rattle.ar_explain.specs.Lines.{Line, each_item_lines, earlier_lines, few_items, is_empty, is_last, item_lines, lines_on_item, own_lines, with_own}
+use Rattle.ar_explain.specs.Sources.{LooksLastAt, body_entry}
+use Rattle.ar_explain.specs.Trace.{Entry, continues, each_item, if_value, in_child, on_item, root_entry, trace, with_root}
+use Rattle.ar_explain.proofs.Roots.{root_last}
+
+abbrev on_one : ℕ → Entry → Entry
+on_one number entry = record entry { items = number ∷ entry.items }
+
+or_true : (b : Bool) → (b || true) ≡ true
+or_true true = refl
+or_true false = refl
+
+-- the bodies' entries end with their own, and so do their lines, where they have one
+module _ (predicate : Predicate) (holds : Value → Result Bool Failure) (entries : Value → List Entry) (said : Value → List Line) (own : Value → Entry) (line : Value → List Line)
+    (entries_are : (value : Value) → (earlier : List Entry) × (entries value ≡ earlier ++ own value ∷ [])) (said_is : (value : Value) → (before : List Line) × (said value ≡ before ++ line value)) where
+  record Last (items : Items) (from : ℕ) : Type 0 where
+    number : ℕ
+    value : Value
+    earlier : List Entry
+    are : each_item predicate holds entries from items ≡ earlier ++ on_one number (own value) ∷ []
+    before : List Line
+    lines_are : each_item_lines predicate holds said from items ≡ before ++ lines_on_item number (line value)
+
+  -- an item after which comes nothing
+  ends_here : (from : ℕ) (first : Value) (items : Items) → if_value (holds first) (λ it. if continues predicate it then each_item predicate holds entries (suc from) items else []) ≡ []
+      → if_value (holds first) (λ it. if continues predicate it then each_item_lines predicate holds said (suc from) items else []) ≡ []
+      → is_last predicate (is_empty items) (holds first) ≡ true → Last (item first items) from
+  ends_here from first items no_entries no_lines last = record {
+    number = from;
+    value = first;
+    earlier = on_item from (entries_are first).0;
+    are = ap (λ later. on_item from (entries first) ++ later) no_entries ∙ append-nil (on_item from (entries first)) ∙ ap (on_item from) (entries_are first).1
+        ∙ map-append (on_one from) (entries_are first).0 (own first ∷ []);
+    before = lines_on_item from (said_is first).0;
+    lines_are = ap (λ later. item_lines predicate from (is_empty items) (holds first) (said first) ++ later) no_lines ∙ append-nil (item_lines predicate from (is_empty items) (holds first) (said first))
+        ∙ ap (λ last. if nat_lt from few_items || last then lines_on_item from (said first) else []) last
+        ∙ ap (λ b. if b then lines_on_item from (said first) else []) (or_true (nat_lt from few_items)) ∙ ap (lines_on_item from) (said_is first).1
+        ∙ map-append (λ (line : Line). record line { items = from ∷ line.items }) (said_is first).0 (line first);
+  }
+
+  -- an item after which come others
+  comes_later : (from : ℕ) (first : Value) (items : Items) (it : Bool) → holds first ≡ Ok it → continues predicate it ≡ true → Last items (suc from) → Last (item first items) from
+  comes_later from first items it is on last = record {
+    number = last.number;
+    value = last.value;
+    earlier = on_item from (entries first) ++ last.earlier;
+    are = ap (λ m. on_item from (entries first) ++ if_value m (λ it. if continues predicate it then each_item predicate holds entries (suc from) items else [])) is
+        ∙ ap (λ b. on_item from (entries first) ++ (if b then each_item predicate holds entries (suc from) items else [])) on
+        ∙ ap (λ later. on_item from (entries first) ++ later) last.are ∙ sym (append_assoc (on_item from (entries first)) last.earlier (on_one last.number (own last.value) ∷ []));
+    before = item_lines predicate from (is_empty items) (holds first) (said first) ++ last.before;
+    lines_are = ap (λ m. item_lines predicate from (is_empty items) (holds first) (said first) ++ if_value m (λ it. if continues predicate it then each_item_lines predicate holds said (suc from) items else [])) is
+        ∙ ap (λ b. item_lines predicate from (is_empty items) (holds first) (said first) ++ (if b then each_item_lines predicate holds said (suc from) items else [])) on
+        ∙ ap (λ later. item_lines predicate from (is_empty items) (holds first) (said first) ++ later) last.lines_are
+        ∙ sym (append_assoc (item_lines predicate from (is_empty items) (holds first) (said first)) last.before (lines_on_item last.number (line last.value)));
+  }
+
+  fails_here : (from : ℕ) (first : Value) (items : Items) (failure : Failure) → holds first ≡ Err failure → Last (item first items) from
+  fails_here from first items failure is =
+      ends_here from first items (ap (λ m. if_value m (λ it. if continues predicate it then each_item predicate holds entries (suc from) items else [])) is)
+      (ap (λ m. if_value m (λ it. if continues predicate it then each_item_lines predicate holds said (suc from) items else [])) is) (ap (λ m. is_last predicate (is_empty items) m) is)
+
+  decides_here : (from : ℕ) (first : Value) (items : Items) (it : Bool) → holds first ≡ Ok it → continues predicate it ≡ false → Last (item first items) from
+  decides_here from first items it is off =
+      ends_here from first items
+      (ap (λ m. if_value m (λ it. if continues predicate it then each_item predicate holds entries (suc from) items else [])) is ∙ ap (λ b. if b then each_item predicate holds entries (suc from) items else []) off)
+      (ap (λ m. if_value m (λ it. if continues predicate it then each_item_lines predicate holds said (suc from) items else [])) is ∙ ap (λ b. if b then each_item_lines predicate holds said (suc from) items else []) off)
+      (ap (λ m. is_last predicate (is_empty items) m) is ∙ ap (λ b. is_empty items || not b) off ∙ or_true (is_empty items))
+
+  abbrev none_after : {A : Type 0} → Bool → List A
+  none_after b = if b then [] else []
+
+  no_more : {A : Type 0} (b : Bool) → none_after {A = A} b ≡ []
+  no_more true = refl
+  no_more false = refl
+
+  is_at_end : (from : ℕ) (first : Value) (it : Bool) → holds first ≡ Ok it → Last (item first no_items) from
+  is_at_end from first it is =
+      ends_here from first no_items
+      (ap (λ m. if_value m (λ it. none_after {A = Entry} (continues predicate it))) is ∙ no_more (continues predicate it))
+      (ap (λ m. if_value m (λ it. none_after {A = Line} (continues predicate it))) is ∙ no_more (continues predicate it))
+      (ap (λ m. is_last predicate true m) is)
+
+  by_continuing : (from : ℕ) (first : Value) (items : Items) (it more : Bool) → holds first ≡ Ok it → continues predicate it ≡ more → Last items (suc from) → Last (item first items) from
+  by_continuing from first items it true is on last = comes_later from first items it is on last
+  by_continuing from first items it false is off last = decides_here from first items it is off
+
+  by_holding : (from : ℕ) (first next : Value) (items : Items) (m : Result Bool Failure) → holds first ≡ m → Last (item next items) (suc from) → Last (item first (item next items)) from
+  by_holding from first next items (Ok it) is last = by_continuing from first (item next items) it (continues predicate it) is refl last
+  by_holding from first next items (Err failure) is last = fails_here from first (item next items) failure is
+
+  by_end : (from : ℕ) (first : Value) (m : Result Bool Failure) → holds first ≡ m → Last (item first no_items) from
+  by_end from first (Ok it) is = is_at_end from first it is
+  by_end from first (Err failure) is = fails_here from first no_items failure is
+
+  last_item : (first : Value) (items : Items) (from : ℕ) → Last (item first items) from
+  last_item first no_items from = by_end from first (holds first) refl
+  last_item first (item next items) from = by_holding from first next items (holds first) refl (last_item next items (suc from))
+
+-- ---- predicates
+
+body_ends : (result : Value) (body : Typed) (value : Value) → (earlier : List Entry) × (in_child 1 (trace result (Some value) body) ≡ earlier ++ record (root_entry result (Some value) body) { path = 1 ∷ [] } ∷ [])
+body_ends result body value =
+    let last = root_last result (Some value) body in
+    (in_child 1 last.0, ap (in_child 1) last.1 ∙ map-append (λ (entry : Entry). record entry { path = 1 ∷ entry.path }) last.0 (root_entry result (Some value) body ∷ []))
+
+-- what comes after a list's own is what comes after that of its items
+joined : {A : Type 0} (first : List A) (m : Result Value Failure) (items : Items) (next : Items → List A) (earlier later : List A) → m ≡ Ok (list items) → next items ≡ earlier ++ later
+    → first ++ if_value (m >>= items_in) next ≡ (first ++ earlier) ++ later
+joined first m items next earlier later is are =
+    ap (λ m. first ++ if_value (m >>= items_in) next) is ∙ ap (λ more. first ++ more) are ∙ sym (append_assoc first earlier later)
+
+pub looks_last : (result : Value) (here : Option Value) (predicate : Predicate) (many body : Typed) (first : Value) (others : Items) → mean result here many ≡ Ok (list (item first others))
+    → (number : ℕ) × (value : Value) × LooksLastAt result here predicate many body number value
+looks_last result here predicate many body first others is =
+    let holds : Value → Result Bool Failure = λ value. mean result (Some value) body >>= boolean in
+    let entries : Value → List Entry = λ value. in_child 1 (trace result (Some value) body) in
+    let said : Value → List Line = λ value. with_own result (Some value) body (earlier_lines result (Some value) body) in
+    let last = last_item predicate holds entries said (λ value. record (root_entry result (Some value) body) { path = 1 ∷ [] }) (λ value. own_lines body (mean result (Some value) body))
+    (body_ends result body) (λ value. (earlier_lines result (Some value) body, refl)) first others 0 in
+    let list_entries = in_child 0 (trace result here many) in
+    let list_lines = with_own result here many (earlier_lines result here many) in (
+      last.number,
+      last.value,
+      record {
+        earlier = list_entries ++ last.earlier;
+        has_entry = ap (with_root result here (typed.predicate predicate many body))
+            (joined list_entries (mean result here many) (item first others) (each_item predicate holds entries 0) last.earlier (body_entry result body last.number last.value ∷ []) is last.are);
+        before = list_lines ++ last.before;
+        has_line = joined list_lines (mean result here many) (item first others) (each_item_lines predicate holds said 0) last.before
+            (lines_on_item last.number (own_lines body (mean result (Some last.value) body))) is last.lines_are;
+      },
+    )

@@ -1,0 +1,180 @@
+-- What functions of the walk give and say, one after another.
+use Rattle.std.proofs.Common.{◌≡◌, ℕ, Bool, true, false, List, [], ◌++◌, None, Result, Ok, Err, ap, sym, ◌∙◌, subst, true≢false}
+use Rattle.std.specs.Prelude.{◌||◌, IfOk, nat_lt, not, if◌then◌else◌}
+use Rattle.std.specs.declared.alloc.AllocError.{AllocError}
+use Rattle.std.proofs.lemmas.List.{append-nil}
+use Rattle.ar_value.specs.Answer.{◌>>=◌}
+use Rattle.ar_value.specs.Operators.{Failure, Meaning, field_in}
+use Rattle.ar_value.specs.Value.{Value}
+use Rattle.ar_value.specs.declared.operator.Predicate.{Predicate}
+use Rattle.ar_tree.specs.Meaning.{mean}
+use Rattle.ar_tree.specs.Typed.{Typed}
+use Rattle.ar_tested.specs.Operand.{Meets, failure_of}
+use Rattle.ar_tested.specs.declared.operand.Failure.{Failure as FailureCode}
+use Rattle.ar_explain.specs.Lines.{Explanation, Line, Said, earlier_lines, explained, few_items, is_last, item_lines, lines_on_item, own_lines, said_of}
+use Rattle.ar_explain.specs.Private.Keeping.{with_lines}
+use Rattle.ar_explain.specs.Private.Places.{Explains, Place, as_meant, at_item, earlier_at, holds_meant, holds_on, lines_at, lines_on, meant, with_lines_at}
+use Rattle.ar_explain.specs.Trace.{if_value}
+use Rattle.ar_explain.specs.Views.{explanation_view}
+use Rattle.ar_explain.specs.declared.explanation.Explanation.{Explanation as ExplanationCode}
+use Rattle.ar_explain.proofs.Keeping.{all_explained, explanation, with_item, with_more, with_silence}
+
+-- what was met is what is meant
+pub meets_is : {X Y : Type 0} (view : X → Y) (met : Result X FailureCode) (meaning : Result Y Failure) → Meets view met meaning → meaning ≡ as_meant view met
+meets_is view (Ok x) meaning is = is
+meets_is view (Err failure) meaning is = is
+
+-- a value that was met
+pub value_is : {X Y : Type 0} (view : X → Y) (met : Result X FailureCode) (x : X) (meaning : Result Y Failure) → met ≡ Ok x → Meets view met meaning → meaning ≡ Ok (view x)
+value_is view met x meaning is meets = subst (λ met. Meets view met meaning) is meets
+
+-- a failure that was met
+pub failure_is : {X Y : Type 0} (view : X → Y) (met : Result X FailureCode) (failure : FailureCode) (meaning : Result Y Failure) → met ≡ Err failure → Meets view met meaning
+    → meaning ≡ Err (failure_of failure)
+failure_is view met failure meaning is meets = subst (λ met. Meets view met meaning) is meets
+
+-- a field of an operand
+pub field_meets : {X : Type 0} (view : X → Value) (met : Result X FailureCode) (meaning : Meaning) (value : Value) (name text : List ℕ) → meaning ≡ Ok value → text ≡ name
+    → Meets view met (field_in text value) → Meets view met (meaning >>= field_in name)
+field_meets view met meaning value name text is same meets =
+    subst (λ meaning. Meets view met (meaning >>= field_in name)) (sym is) (subst (λ name. Meets view met (field_in name value)) same meets)
+
+-- ---- lines after others
+
+pub more : (place : Place) (old mid new : ExplanationCode) (first later : List Line) → explanation_view mid ≡ with_lines_at place old first
+    → explanation_view new ≡ with_lines_at place mid later → explanation_view new ≡ with_lines_at place old (first ++ later)
+more place old mid new first later one two =
+    two ∙ ap (λ e. with_lines place.silent place.items e later) one ∙ with_more place.silent place.items (explanation_view old) first later
+
+-- a helper's lines after others
+pub also : {X Y : Type 0} (view : X → Y) (place : Place) (old mid new : ExplanationCode) (result : Result (Result X FailureCode) AllocError) (meaning : Result Y Failure) (first later : List Line)
+    → explanation_view mid ≡ with_lines_at place old first → Explains view place mid new result meaning later → Explains view place old new result meaning (first ++ later)
+also view place old mid new (Ok met) meaning first later one is = (is.0, more place old mid new first later one is.1)
+also view place old mid new (Err error) meaning first later one is = tt
+
+-- after a value
+pub after : {A X Y : Type 0} (view : X → Y) (place : Place) (old mid new : ExplanationCode) (result : Result (Result X FailureCode) AllocError)
+    (m : Result A Failure) (x : A) (next : A → Result Y Failure) (first : List Line) (later : A → List Line)
+    → m ≡ Ok x → explanation_view mid ≡ with_lines_at place old first → Explains view place mid new result (next x) (later x)
+    → Explains view place old new result (m >>= next) (first ++ if_value m later)
+after view place old mid new result m x next first later value one is =
+    subst (λ m. Explains view place old new result (m >>= next) (first ++ if_value m later)) (sym value)
+    (also view place old mid new result (next x) first (later x) one is)
+
+-- after what is taken of a value
+pub after_taken : {A B X Y : Type 0} (view : X → Y) (place : Place) (old mid new : ExplanationCode) (result : Result (Result X FailureCode) AllocError)
+    (m : Result A Failure) (taken : A → Result B Failure) (x : B) (next : B → Result Y Failure) (first : List Line) (later : B → List Line)
+    → (m >>= taken) ≡ Ok x → explanation_view mid ≡ with_lines_at place old first → Explains view place mid new result (next x) (later x)
+    → Explains view place old new result (m >>= λ value. taken value >>= next) (first ++ if_value (m >>= taken) later)
+after_taken view place old mid new result (Ok value) taken x next first later is one said =
+    after view place old mid new result (taken value) x next first later is one said
+after_taken view place old mid new result (Err failure) taken x next first later is one said = absurd cc
+
+-- the same by the other boolean
+pub otherwise : {X Y : Type 0} (view : X → Y) (place : Place) (old new : ExplanationCode) (result : Result (Result X FailureCode) AllocError) (is : Bool) (one other : Result Y Failure) (said more : List Line)
+    → Explains view place old new result (if not is then one else other) (if not is then said else more) → Explains view place old new result (if is then other else one) (if is then more else said)
+otherwise view place old new result true one other said more explains = explains
+otherwise view place old new result false one other said more explains = explains
+
+-- after a value, of which something is taken
+pub after_operand : {A B X Y : Type 0} (view : X → Y) (place : Place) (old mid new : ExplanationCode) (result : Result (Result X FailureCode) AllocError)
+    (m : Result A Failure) (x : A) (taken : A → Result B Failure) (next : B → Result Y Failure) (first : List Line) (later : B → List Line)
+    → m ≡ Ok x → explanation_view mid ≡ with_lines_at place old first → Explains view place mid new result (taken x >>= next) (if_value (taken x) later)
+    → Explains view place old new result (m >>= λ value. taken value >>= next) (first ++ if_value (m >>= taken) later)
+after_operand view place old mid new result m x taken next first later value one is =
+    subst (λ m. Explains view place old new result (m >>= λ value. taken value >>= next) (first ++ if_value (m >>= taken) later)) (sym value)
+    (also view place old mid new result (taken x >>= next) first (if_value (taken x) later) one is)
+
+-- ---- a part's own line
+
+pub own_after : {X : Type 0} (view : X → Value) (place : Place) (old mid new : ExplanationCode) (met : Result X FailureCode) (meaning : Meaning) (tree : Typed) (earlier : List Line)
+    → Meets view met meaning → explanation_view mid ≡ with_lines_at place old earlier → explanation_view new ≡ with_lines_at place mid (own_lines tree (as_meant view met))
+    → explanation_view new ≡ with_lines_at place old (earlier ++ own_lines tree meaning)
+own_after view place old mid new met meaning tree earlier is one two =
+    more place old mid new earlier (own_lines tree meaning) one
+    (two ∙ ap (λ m. with_lines_at place mid (own_lines tree m)) (sym (meets_is view met meaning is)))
+
+-- ---- branches
+
+-- ---- items of predicates
+
+pub held_on : (place inner : Place) (number : ℕ) (value : Value) (silent : Bool) (old new : ExplanationCode) (result : Result (Result Bool FailureCode) AllocError) (body : Typed)
+    → inner ≡ at_item number value silent place → Explains (λ (it : Bool). it) inner old new result (holds_meant inner body) (lines_at inner body)
+    → IfOk result (λ holds. Meets (λ (it : Bool). it) holds (holds_on place body value)
+    × (explanation_view new ≡ with_lines silent place.items (explanation_view old) (lines_on_item number (lines_on place body value))))
+held_on place inner number value silent old new (Err error) body is said = tt
+held_on place inner number value silent old new (Ok met) body is said =
+    let at : Explains (λ (it : Bool). it) (at_item number value silent place) old new (Ok met) (holds_on place body value) (lines_on place body value) =
+    subst (λ (inner : Place). Explains (λ (it : Bool). it) inner old new (Ok met) (holds_meant inner body) (lines_at inner body)) is said in
+    (at.0, at.1 ∙ with_item silent place.items number (explanation_view old) (lines_on place body value))
+
+-- what is said of an item where it is one of the first few, or nothing is said at all, or it isn't the last
+pub one_look : (silent few last : Bool) (items : List ℕ) (e new : Explanation) (said : List Line) → (few || silent || not last) ≡ true
+    → new ≡ with_lines (silent || not few) items e said → new ≡ with_lines silent items e (if few || last then said else [])
+one_look true few last items e new said is one = one ∙ with_silence items e said ∙ sym (with_silence items e (if few || last then said else []))
+one_look false true last items e new said is one = one
+one_look false false true items e new said is one = absurd (true≢false (sym is))
+one_look false false false items e new said is one = one ∙ with_silence items e said
+
+-- what is said of an item that needs no second look
+pub look_once : (place : Place) (old new : ExplanationCode) (met : Result Bool FailureCode) (m : Result Bool Failure) (predicate : Predicate) (number : ℕ) (at_end : Bool) (said : List Line)
+    → Meets (λ (it : Bool). it) met m → (nat_lt number few_items || place.silent || not (is_last predicate at_end (as_meant (λ (it : Bool). it) met))) ≡ true
+    → explanation_view new ≡ with_lines (place.silent || not (nat_lt number few_items)) place.items (explanation_view old) (lines_on_item number said)
+    → explanation_view new ≡ with_lines_at place old (item_lines predicate number at_end m said)
+look_once place old new met m predicate number at_end said meets enough one =
+    one_look place.silent (nat_lt number few_items) (is_last predicate at_end (as_meant (λ (it : Bool). it) met)) place.items (explanation_view old) (explanation_view new) (lines_on_item number said) enough one
+    ∙ ap (λ m. with_lines_at place old (item_lines predicate number at_end m said)) (sym (meets_is (λ (it : Bool). it) met m meets))
+
+-- what is said of any other item, at the second look
+pub two_looks : (silent few last : Bool) (items : List ℕ) (e mid new : Explanation) (said : List Line) → (few || silent || not last) ≡ false
+    → mid ≡ with_lines (silent || not few) items e said → new ≡ with_lines false items mid said → new ≡ with_lines silent items e (if few || last then said else [])
+two_looks true true last items e mid new said is one two = absurd (true≢false is)
+two_looks true false last items e mid new said is one two = absurd (true≢false is)
+two_looks false true last items e mid new said is one two = absurd (true≢false is)
+two_looks false false false items e mid new said is one two = absurd (true≢false is)
+two_looks false false true items e mid new said is one two =
+    two ∙ ap (λ e. with_lines false items e said) (one ∙ with_silence items e said)
+
+pub look_twice : (place : Place) (old mid new : ExplanationCode) (met : Result Bool FailureCode) (result : Result (Result Bool FailureCode) AllocError) (m : Result Bool Failure)
+    (predicate : Predicate) (number : ℕ) (at_end : Bool) (said : List Line)
+    → Meets (λ (it : Bool). it) met m → (nat_lt number few_items || place.silent || not (is_last predicate at_end (as_meant (λ (it : Bool). it) met))) ≡ false
+    → explanation_view mid ≡ with_lines (place.silent || not (nat_lt number few_items)) place.items (explanation_view old) (lines_on_item number said)
+    → IfOk result (λ holds. Meets (λ (it : Bool). it) holds m × (explanation_view new ≡ with_lines false place.items (explanation_view mid) (lines_on_item number said)))
+    → Explains (λ (it : Bool). it) place old new result m (item_lines predicate number at_end m said)
+look_twice place old mid new met (Err error) m predicate number at_end said meets enough one two = tt
+look_twice place old mid new met (Ok again) m predicate number at_end said meets enough one two = (
+  two.0,
+  two_looks place.silent (nat_lt number few_items) (is_last predicate at_end (as_meant (λ (it : Bool). it) met)) place.items (explanation_view old) (explanation_view mid) (explanation_view new) (lines_on_item number said) enough one two.1
+      ∙ ap (λ m. with_lines_at place old (item_lines predicate number at_end m said)) (sym (meets_is (λ (it : Bool). it) met m meets)),
+)
+
+-- ---- lines that are left
+
+pub lines_go_on : {A : Type 0} (place : Place) (old new : ExplanationCode) (first : List Line) (m : Result A Failure) (x : A) (later : A → List Line) (all : Explanation) → m ≡ Ok x
+    → with_lines_at place old (first ++ if_value m later) ≡ all → explanation_view new ≡ with_lines_at place old first → with_lines_at place new (later x) ≡ all
+lines_go_on place old new first m x later all is left one =
+    ap (λ e. with_lines place.silent place.items e (later x)) one ∙ with_more place.silent place.items (explanation_view old) first (later x)
+    ∙ ap (λ m. with_lines_at place old (first ++ if_value m later)) (sym is) ∙ left
+
+pub lines_end : {A : Type 0} (place : Place) (old new : ExplanationCode) (first : List Line) (m : Result A Failure) (failure : Failure) (later : A → List Line) (all : Explanation) → m ≡ Err failure
+    → with_lines_at place old (first ++ if_value m later) ≡ all → explanation_view new ≡ with_lines_at place old first → explanation_view new ≡ all
+lines_end place old new first m failure later all is left one =
+    one ∙ ap (λ lines. with_lines_at place old lines) (sym (append-nil first)) ∙ ap (λ m. with_lines_at place old (first ++ if_value m later)) (sym is) ∙ left
+
+-- ---- the whole
+
+abbrev outside : Value → Place
+outside value = record { result = value; here = None; items = []; silent = false }
+
+pub parts_explained : (place : Place) (value : Value) (tree : Typed) (none new : ExplanationCode)
+    → place ≡ outside value → explanation_view none ≡ explanation [] 0 → explanation_view new ≡ with_lines_at place none (earlier_at place tree)
+    → explanation_view new ≡ explained (earlier_lines value None tree)
+parts_explained place value tree none new is empty are =
+    are ∙ ap (λ place. with_lines_at place none (earlier_at place tree)) is
+    ∙ ap (λ e. with_lines false [] e (earlier_lines value None tree)) empty
+    ∙ all_explained (earlier_lines value None tree)
+
+pub answer_said : {X : Type 0} (view : X → Value) (place : Place) (value : Value) (tree : Typed) (met : Result X FailureCode) (said : Said)
+    → place ≡ outside value → Meets view met (meant place tree) → said ≡ said_of (as_meant view met) → said ≡ said_of (mean value None tree)
+answer_said view place value tree met said is meets says =
+    says ∙ ap said_of (sym (meets_is view met (meant place tree) meets)) ∙ ap (λ place. said_of (meant place tree)) is

@@ -1,0 +1,361 @@
+-- What is said of an evaluation to a person, in its order: the values and failures of parts, where they are news, and
+-- which parts weren't needed.
+use Rattle.std.specs.Prelude.{ℕ, suc, pos, ◌-◌, ◌^◌, nat_lt, min, ◌≡◌, refl, Bool, true, false, not, ◌||◌, if◌then◌else◌, List, [], ◌∷◌, ◌++◌, drop, length, map, take, Option, Some, None, Result, Ok, Err}
+use Rattle.ar_value.specs.Answer.{◌>>=◌}
+use Rattle.ar_value.specs.Operators.{Failure, Meaning, boolean, faulted, items_in, scalar_item}
+use Rattle.ar_value.specs.Value.{Value, Items, bool, whole, list, nil, no_items, item, items_of}
+use Rattle.ar_value.specs.declared.fault.Fault.TheVariants.{DivisionByZero, NilOperand}
+use Rattle.ar_value.specs.declared.operator.BinaryOperator.TheVariants as binary
+use Rattle.ar_value.specs.declared.operator.Arithmetic.TheVariants.{Divide}
+use Rattle.ar_value.specs.declared.operator.Compared.TheVariants as compared
+use Rattle.ar_value.specs.declared.operator.Family.TheVariants as families
+use Rattle.ar_value.specs.declared.operator.Numbers.TheVariants as numbers
+use Rattle.ar_value.specs.declared.operator.Order.TheVariants.{Less}
+use Rattle.ar_value.specs.declared.operator.Predicate.{Predicate}
+use Rattle.ar_value.specs.declared.operator.Predicate.TheVariants as predicates
+use Rattle.ar_value.specs.declared.operator.UnaryOperator.{UnaryOperator}
+use Rattle.ar_value.specs.declared.operator.UnaryOperator.TheVariants as unary
+use Rattle.ar_value.specs.declared.operator.Scalar.TheVariants as scalars
+use Rattle.ar_tree.specs.declared.tree.Literal.TheVariants as literals
+use Rattle.ar_tree.specs.Meaning.{mean}
+use Rattle.ar_tree.specs.Typed.{Typed, Typeds}
+use Rattle.ar_tree.specs.Typed as typed
+use Rattle.ar_show.specs.Values.{shown_value}
+use Rattle.ar_explain.specs.Trace.{continues, if_value}
+
+-- what is said of a part
+pub data Said : Type 0 where
+  -- it has a value, which is shown so
+  valued : (text : List ℕ) → Said
+  failed : Failure → Said
+  -- it wasn't needed
+  unneeded : Said
+
+pub record Line : Type 0 where
+  -- the numbers of the items on which the bodies of predicates around the part are evaluated, the outermost first
+  pub items : List ℕ
+  pub part : Typed
+  pub said : Said
+
+abbrev pub said_of : Meaning → Said
+said_of (Ok value) = valued (shown_value value)
+said_of (Err failure) = failed failure
+
+-- a part's own line
+abbrev pub own_line : Typed → Meaning → Line
+own_line tree meaning = record { items = []; part = tree; said = said_of meaning }
+
+abbrev pub unneeded_line : Typed → Line
+unneeded_line tree = record { items = []; part = tree; said = unneeded }
+
+-- ---- parts that say nothing new
+
+abbrev pub is_literal : Typed → Bool
+is_literal (typed.literal literal) = true
+is_literal tree = false
+
+-- whether a value that an operator gives may differ from its operand's by more than its kind, and by more than the sign
+-- of a literal
+abbrev pub changes_value : UnaryOperator → (of_literal : Bool) → Bool
+changes_value unary.Len of_literal = true
+changes_value unary.Need of_literal = false
+changes_value unary.IsNil of_literal = true
+changes_value unary.ToDecimal of_literal = false
+changes_value unary.Not of_literal = true
+changes_value (unary.Negate of) of_literal = not of_literal
+
+-- whether the value of a part says more than the condition's text and the lines of the part's own parts
+abbrev pub says_more : Typed → Bool
+says_more typed.result = false
+says_more typed.item = true
+says_more (typed.literal literal) = false
+says_more (typed.field owner name) = true
+says_more (typed.unary operator operand) = changes_value operator (is_literal operand)
+says_more (typed.binary operator left right) = true
+says_more (typed.both left right) = true
+says_more (typed.either left right) = true
+says_more (typed.choice condition then_branch else_branch) = true
+says_more (typed.listed scalar items) = false
+says_more (typed.predicate predicate many body) = true
+
+-- whether a part has a line of its own: a failure always has
+abbrev pub has_own_line : Typed → Meaning → Bool
+has_own_line tree (Ok value) = says_more tree
+has_own_line tree (Err failure) = true
+
+abbrev pub own_lines : Typed → Meaning → List Line
+own_lines tree meaning = if has_own_line tree meaning then own_line tree meaning ∷ [] else []
+
+-- the lines of a part: those of its own parts, then its own
+abbrev pub with_own : Value → Option Value → Typed → List Line → List Line
+with_own result here tree earlier = earlier ++ own_lines tree (mean result here tree)
+
+-- ---- items of predicates
+
+-- of a predicate the first few items have lines, and the last one
+abbrev pub few_items : ℕ
+few_items = 3
+
+-- the lines of a predicate's body on an item
+abbrev pub lines_on_item : ℕ → List Line → List Line
+lines_on_item number lines = map (λ (line : Line). record line { items = number ∷ line.items }) lines
+
+-- whether an item is the last that a predicate looks at: it fails or decides, or comes at the end
+abbrev pub is_last : Predicate → (at_end : Bool) → Result Bool Failure → Bool
+is_last predicate at_end (Ok holds) = at_end || not (continues predicate holds)
+is_last predicate at_end (Err failure) = true
+
+abbrev pub is_empty : Items → Bool
+is_empty no_items = true
+is_empty (item first items) = false
+
+-- the lines of an item that is looked at, where it is among the first few or the last
+abbrev pub item_lines : Predicate → ℕ → (at_end : Bool) → Result Bool Failure → List Line → List Line
+item_lines predicate number at_end holds lines =
+    if nat_lt number few_items || is_last predicate at_end holds then lines_on_item number lines else []
+
+-- the lines of the items that are looked at, the first of which has a number
+abbrev pub each_item_lines : Predicate → (Value → Result Bool Failure) → (Value → List Line) → ℕ → Items → List Line
+each_item_lines predicate holds lines number no_items = []
+each_item_lines predicate holds lines number (item first items) =
+    item_lines predicate number (is_empty items) (holds first) (lines first) ++ if_value (holds first)
+    (λ it. if continues predicate it then each_item_lines predicate holds lines (suc number) items else [])
+
+-- ---- trees
+
+abbrev mutual
+  -- the lines before a tree's own
+  pub earlier_lines : Value → Option Value → Typed → List Line
+  earlier_lines result here typed.result = []
+  earlier_lines result here typed.item = []
+  earlier_lines result here (typed.literal literal) = []
+  earlier_lines result here (typed.field owner name) = with_own result here owner (earlier_lines result here owner)
+  earlier_lines result here (typed.unary operator operand) =
+      with_own result here operand (earlier_lines result here operand)
+  earlier_lines result here (typed.binary operator left right) =
+      with_own result here left (earlier_lines result here left)
+      ++ if_value (mean result here left) (λ value. with_own result here right (earlier_lines result here right))
+  -- the right side, or that it wasn't needed
+  earlier_lines result here (typed.both left right) =
+      with_own result here left (earlier_lines result here left)
+      ++ if_value (mean result here left >>= boolean)
+      (λ holds. if holds then with_own result here right (earlier_lines result here right)
+      else unneeded_line right ∷ [])
+  earlier_lines result here (typed.either left right) =
+      with_own result here left (earlier_lines result here left)
+      ++ if_value (mean result here left >>= boolean)
+      (λ holds. if holds then unneeded_line right ∷ []
+      else with_own result here right (earlier_lines result here right))
+  -- one branch, and that the other wasn't needed
+  earlier_lines result here (typed.choice condition then_branch else_branch) =
+      with_own result here condition (earlier_lines result here condition)
+      ++ if_value (mean result here condition >>= boolean)
+      (λ holds. if holds then with_own result here then_branch (earlier_lines result here then_branch)
+      ++ unneeded_line else_branch ∷ []
+      else unneeded_line then_branch ∷ [] ++ with_own result here else_branch (earlier_lines result here else_branch))
+  earlier_lines result here (typed.listed scalar items) = items_lines result here items
+  earlier_lines result here (typed.predicate predicate many body) =
+      with_own result here many (earlier_lines result here many)
+      ++ if_value (mean result here many >>= items_in)
+      (each_item_lines predicate (λ value. mean result (Some value) body >>= boolean)
+      (λ value. with_own result (Some value) body (earlier_lines result (Some value) body)) 0)
+
+  -- the items of a list literal
+  pub items_lines : Value → Option Value → Typeds → List Line
+  items_lines result here typed.none = []
+  items_lines result here (typed.more first others) =
+      with_own result here first (earlier_lines result here first)
+      ++ if_value (mean result here first >>= scalar_item) (λ value. items_lines result here others)
+
+-- the root's own line is the last, and always there
+abbrev pub lines : Value → Option Value → Typed → List Line
+lines result here tree = earlier_lines result here tree ++ own_line tree (mean result here tree) ∷ []
+
+-- ---- what is kept of the lines
+
+unfoldable pub most_lines : ℕ
+most_lines = 1000
+
+-- the greatest number that 64 bits have
+unfoldable pub most_left_out : ℕ
+most_left_out = 2 ^ 64 - 1
+
+-- of lines of parts the first are kept
+pub record Explanation : Type 0 where
+  pub lines : List Line
+  -- how many lines come after those; where there are more than the greatest number, that one
+  pub left_out : ℕ
+
+abbrev pub explained : List Line → Explanation
+explained lines =
+    record { lines = take most_lines lines; left_out = min most_left_out (length lines - most_lines) }
+
+-- ---- worked rows
+
+abbrev the_literal : ℕ → Typed
+the_literal value = typed.literal (literals.Whole (pos value))
+
+abbrev row_of : Line → List ℕ × Typed × Said
+row_of line = (line.items, line.part, line.said)
+
+abbrev is_below : Typed → ℕ → Typed
+is_below tree value = typed.binary (binary.Compare compared.Wholes Less) tree (the_literal value)
+
+abbrev the_true : Typed
+the_true = typed.literal (literals.Bool true)
+
+-- `1 / result`
+abbrev one_over_result : Typed
+one_over_result = typed.binary (binary.Wholes Divide) (the_literal 1) typed.result
+
+abbrev the_value : Value → Said
+the_value value = valued (shown_value value)
+
+-- `result` on 7: the root's line is there
+root_has_a_line : map row_of (lines (whole (pos 7)) None typed.result)
+    ≡ ([], typed.result, the_value (whole (pos 7))) ∷ []
+root_has_a_line = refl
+
+-- `result < 8` on 7: lines of `result` and `8` would say nothing new
+of_a_comparison : map row_of (lines (whole (pos 7)) None (is_below typed.result 8))
+    ≡ ([], is_below typed.result 8, the_value (bool true)) ∷ []
+of_a_comparison = refl
+
+-- `true or result < 8`: the right side isn't needed
+left_side_decides : map row_of (lines (whole (pos 7)) None (typed.either the_true (is_below typed.result 8)))
+    ≡ ([], is_below typed.result 8, unneeded)
+    ∷ ([], typed.either the_true (is_below typed.result 8), the_value (bool true)) ∷ []
+left_side_decides = refl
+
+-- `result < 8 and true` on 9: that a literal isn't needed is said, too
+literal_isnt_needed : map row_of (lines (whole (pos 9)) None (typed.both (is_below typed.result 8) the_true))
+    ≡ ([], is_below typed.result 8, the_value (bool false)) ∷ ([], the_true, unneeded)
+    ∷ ([], typed.both (is_below typed.result 8) the_true, the_value (bool false)) ∷ []
+literal_isnt_needed = refl
+
+-- `true and result < 8` on 7: it is needed
+both_sides : map row_of (lines (whole (pos 7)) None (typed.both the_true (is_below typed.result 8)))
+    ≡ ([], is_below typed.result 8, the_value (bool true))
+    ∷ ([], typed.both the_true (is_below typed.result 8), the_value (bool true)) ∷ []
+both_sides = refl
+
+-- `result < 8 ? 1 : 2` on 7 and on 9: the branches are in their order
+abbrev one_or_two : Typed
+one_or_two = typed.choice (is_below typed.result 8) (the_literal 1) (the_literal 2)
+
+then_branch_taken : map row_of (lines (whole (pos 7)) None one_or_two)
+    ≡ ([], is_below typed.result 8, the_value (bool true)) ∷ ([], the_literal 2, unneeded)
+    ∷ ([], one_or_two, the_value (whole (pos 1))) ∷ []
+then_branch_taken = refl
+
+else_branch_taken : map row_of (lines (whole (pos 9)) None one_or_two)
+    ≡ ([], is_below typed.result 8, the_value (bool false)) ∷ ([], the_literal 1, unneeded)
+    ∷ ([], one_or_two, the_value (whole (pos 2))) ∷ []
+else_branch_taken = refl
+
+-- `true ? 1 / result : 2` on 0: the other branch wasn't needed, also where the one taken fails
+failing_branch_taken : map row_of (lines (whole (pos 0)) None (typed.choice the_true one_over_result (the_literal 2)))
+    ≡ ([], one_over_result, failed (faulted DivisionByZero))
+    ∷ ([], the_literal 2, unneeded)
+    ∷ ([], typed.choice the_true one_over_result (the_literal 2), failed (faulted DivisionByZero)) ∷ []
+failing_branch_taken = refl
+
+-- `-1 < result` on 7: a literal with a sign says its value by itself
+abbrev is_above_minus_one : Typed
+is_above_minus_one = typed.binary (binary.Compare compared.Wholes Less)
+    (typed.unary (unary.Negate numbers.Wholes) (the_literal 1)) typed.result
+
+sign_of_a_literal : map row_of (lines (whole (pos 7)) None is_above_minus_one)
+    ≡ ([], is_above_minus_one, the_value (bool true)) ∷ []
+sign_of_a_literal = refl
+
+-- `result < 8` where `result` may be nil: that a value is needed is said where there is none
+abbrev needed : Typed
+needed = typed.unary unary.Need typed.result
+
+value_is_there : map row_of (lines (whole (pos 7)) None (is_below needed 8))
+    ≡ ([], is_below needed 8, the_value (bool true)) ∷ []
+value_is_there = refl
+
+value_is_nil : map row_of (lines nil None (is_below needed 8))
+    ≡ ([], needed, failed (faulted NilOperand)) ∷ ([], is_below needed 8, failed (faulted NilOperand)) ∷ []
+value_is_nil = refl
+
+-- `[1, 1 / result, 1 / result]` on 0: the third item isn't evaluated
+abbrev three_items : Typed
+three_items =
+    typed.listed scalars.Whole (typed.more (the_literal 1) (typed.more one_over_result
+    (typed.more one_over_result typed.none)))
+
+second_item_fails : map row_of (lines (whole (pos 0)) None three_items)
+    ≡ ([], one_over_result, failed (faulted DivisionByZero)) ∷ ([], three_items, failed (faulted DivisionByZero)) ∷ []
+second_item_fails = refl
+
+abbrev the_items : Value
+the_items =
+    list (items_of (whole (pos 9) ∷ whole (pos 8) ∷ whole (pos 9) ∷ whole (pos 8) ∷ whole (pos 1) ∷ whole (pos 2) ∷ []))
+
+abbrev of_item : ℕ → ℕ → Bool → List (List ℕ × Typed × Said)
+of_item number value holds =
+    (number ∷ [], typed.item, the_value (whole (pos value)))
+    ∷ (number ∷ [], is_below typed.item 8, the_value (bool holds)) ∷ []
+
+-- `any(result, # < 8)` on 9, 8, 9, 8, 1 and 2: the first three items, and the fifth, which decides
+fifth_item_decides : map row_of (lines the_items None (typed.predicate predicates.Any typed.result
+    (is_below typed.item 8)))
+    ≡ of_item 0 9 false ++ of_item 1 8 false ++ of_item 2 9 false ++ of_item 4 1 true
+    ++ ([], typed.predicate predicates.Any typed.result (is_below typed.item 8), the_value (bool true)) ∷ []
+fifth_item_decides = refl
+
+-- `count(result, # < 8)`: the last item is at the end
+last_item : map row_of (lines the_items None (typed.predicate predicates.Count typed.result (is_below typed.item 8)))
+    ≡ of_item 0 9 false ++ of_item 1 8 false ++ of_item 2 9 false ++ of_item 5 2 true
+    ++ ([], typed.predicate predicates.Count typed.result (is_below typed.item 8), the_value (whole (pos 2))) ∷ []
+last_item = refl
+
+-- `count(result, 1 / # == 0)` on 1, 2, 3, 0 and 5: the fourth item fails
+abbrev is_quotient : Typed
+is_quotient =
+    typed.binary (binary.Equal families.Number) (typed.binary (binary.Wholes Divide) (the_literal 1) typed.item)
+    (the_literal 0)
+
+abbrev fails_on_item : List (List ℕ × Typed × Said)
+fails_on_item =
+    (3 ∷ [], typed.item, the_value (whole (pos 0)))
+    ∷ (3 ∷ [], typed.binary (binary.Wholes Divide) (the_literal 1) typed.item, failed (faulted DivisionByZero))
+    ∷ (3 ∷ [], is_quotient, failed (faulted DivisionByZero))
+    ∷ ([], typed.predicate predicates.Count typed.result is_quotient, failed (faulted DivisionByZero)) ∷ []
+
+fourth_item_fails : drop 9 (map row_of (lines (list (items_of (whole (pos 1) ∷ whole (pos 2) ∷ whole (pos 3)
+    ∷ whole (pos 0) ∷ whole (pos 5) ∷ []))) None (typed.predicate predicates.Count typed.result is_quotient)))
+    ≡ fails_on_item
+fourth_item_fails = refl
+
+-- `any(result, any(#, # < 8))` on [9] and [9, 1]: the number of the outer item comes first
+abbrev any_below : Typed → Typed
+any_below many = typed.predicate predicates.Any many (is_below typed.item 8)
+
+abbrev two_lists : Value
+two_lists =
+    list (items_of (list (items_of (whole (pos 9) ∷ [])) ∷ list (items_of (whole (pos 9) ∷ whole (pos 1) ∷ [])) ∷ []))
+
+abbrev said_on : Line → List ℕ × Said
+said_on line = (line.items, line.said)
+
+second_of_the_second_decides : map said_on
+    (lines two_lists None (typed.predicate predicates.Any typed.result (any_below typed.item)))
+    ≡ (0 ∷ [], the_value (list (items_of (whole (pos 9) ∷ []))))
+    ∷ (0 ∷ 0 ∷ [], the_value (whole (pos 9))) ∷ (0 ∷ 0 ∷ [], the_value (bool false))
+    ∷ (0 ∷ [], the_value (bool false))
+    ∷ (1 ∷ [], the_value (list (items_of (whole (pos 9) ∷ whole (pos 1) ∷ []))))
+    ∷ (1 ∷ 0 ∷ [], the_value (whole (pos 9))) ∷ (1 ∷ 0 ∷ [], the_value (bool false))
+    ∷ (1 ∷ 1 ∷ [], the_value (whole (pos 1))) ∷ (1 ∷ 1 ∷ [], the_value (bool true))
+    ∷ (1 ∷ [], the_value (bool true))
+    ∷ ([], the_value (bool true)) ∷ []
+second_of_the_second_decides = refl
+
+-- few lines are all kept
+few_kept : explained (lines (whole (pos 7)) None (typed.both the_true (is_below typed.result 8)))
+    ≡ record { lines = lines (whole (pos 7)) None (typed.both the_true (is_below typed.result 8)); left_out = 0 }
+unfolding most_lines most_left_out
+few_kept = refl

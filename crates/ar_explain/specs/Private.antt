@@ -1,0 +1,4 @@
+-- Definitions of private contracts, which follow the code: a reader need not believe them.
+pub mod Keeping
+pub mod Places
+pub mod Loops

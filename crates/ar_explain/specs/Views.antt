@@ -1,0 +1,21 @@
+-- What explanations in memory say.
+use Rattle.std.specs.Prelude.{map, string_bytes}
+use Rattle.ar_tree.specs.Views.{typed_view}
+use Rattle.ar_tested.specs.Operand.{failure_of}
+use Rattle.ar_explain.specs.Lines.{Explanation, Line, Said, failed, unneeded, valued}
+use Rattle.ar_explain.specs.declared.explanation.Explanation.{Explanation as ExplanationCode}
+use Rattle.ar_explain.specs.declared.explanation.Line.{Line as LineCode}
+use Rattle.ar_explain.specs.declared.explanation.Said.{Said as SaidCode}
+use Rattle.ar_explain.specs.declared.explanation.Said.TheVariants as said
+
+abbrev pub said_view : SaidCode → Said
+said_view (said.Valued text) = valued (string_bytes text)
+said_view (said.Failed failure) = failed (failure_of failure)
+said_view said.Unneeded = unneeded
+
+abbrev pub line_view : LineCode → Line
+line_view line =
+    record { items = line.items.items; part = typed_view line.part.now; said = said_view line.said }
+
+abbrev pub explanation_view : ExplanationCode → Explanation
+explanation_view e = record { lines = map line_view e.lines.items; left_out = e.left_out }

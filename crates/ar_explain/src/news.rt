@@ -1,0 +1,91 @@
+//! Which parts have lines of their own.
+
+ghost use Rattle.std.specs.Prelude.{◌≡◌, ◌∷◌, [], Ok, OnOk};
+ghost use Rattle.ar_value.specs.Value.{bool};
+ghost use Rattle.ar_tree.specs.Views.{typed_view};
+ghost use Rattle.ar_tested.specs.Operand.{operand_view};
+ghost use Rattle.ar_explain.specs.Lines.{changes_value, is_literal, own_lines, said_of, says_more, unneeded_line};
+ghost use Rattle.ar_explain.specs.Private.Places.{Explains, as_meant, place_view, said_by, with_lines_at};
+ghost use Rattle.ar_explain.specs.Views.{explanation_view};
+
+use crate::explanation::{Explanation, Remark};
+use crate::place::Place;
+use ar_tested::operand::{Failure, Operand};
+use ar_tree::Typed;
+use ar_value::operator::UnaryOperator;
+use std::alloc::{AllocError, Global};
+
+fn is_literal(tree: &Typed) -> bool
+    ensures { result ≡ is_literal (typed_view tree.now) }
+{
+    matches!(tree, Typed::Literal(_))
+}
+
+fn changes_value(operator: UnaryOperator, of_literal: bool) -> bool
+    ensures { result ≡ changes_value operator of_literal }
+{
+    match operator {
+        UnaryOperator::Need | UnaryOperator::ToDecimal => false,
+        UnaryOperator::Len | UnaryOperator::IsNil | UnaryOperator::Not => true,
+        UnaryOperator::Negate(_) => !of_literal,
+    }
+}
+
+/// Whether the value of a part is news.
+fn says_more(tree: &Typed) -> bool
+    ensures { result ≡ says_more (typed_view tree.now) }
+{
+    match tree {
+        Typed::Result | Typed::Literal(_) | Typed::List { .. } => false,
+        Typed::Unary { operator, operand } => changes_value(*operator, is_literal(operand)),
+        Typed::Item
+        | Typed::Field { .. }
+        | Typed::Binary { .. }
+        | Typed::And { .. }
+        | Typed::Or { .. }
+        | Typed::Choice { .. }
+        | Typed::Predicate { .. } => true,
+    }
+}
+
+/// What came of a part.
+pub(crate) fn remark_on<'s, 'v>(met: &'s Result<Operand<'v>, Failure>) -> Remark<'s, 'v>
+    ensures { said_by result ≡ said_of (as_meant operand_view met.now) }
+{
+    match met {
+        Ok(operand) => Remark::Value(operand),
+        Err(failure) => Remark::Failure(*failure),
+    }
+}
+
+/// Says what came of a part, where it is news.
+pub(crate) fn say_own<'t>(
+    alloc: Global,
+    tree: &'t Typed,
+    met: &Result<Operand<'_>, Failure>,
+    place: &Place<'_>,
+    out: &mut Explanation<'t>,
+) -> Result<(), AllocError>
+    ensures { OnOk result (explanation_view out.new ≡ with_lines_at (place_view place.now) out.old
+        (own_lines (typed_view tree.now) (as_meant operand_view met.now))) }
+{
+    if met.is_ok() && !says_more(tree) {
+        return Ok(());
+    }
+    out.say(alloc, place, tree, remark_on(met))
+}
+
+/// Says of a part that it isn't needed, since a boolean is the answer without it.
+pub(crate) fn unneeded<'t, 'v>(
+    alloc: Global,
+    part: &'t Typed,
+    answer: bool,
+    place: &Place<'_>,
+    out: &mut Explanation<'t>,
+) -> Result<Result<Operand<'v>, Failure>, AllocError>
+    ensures { Explains operand_view (place_view place.now) out.old out.new result
+        (Ok (bool answer)) (unneeded_line (typed_view part.now) ∷ []) }
+{
+    out.say(alloc, place, part, Remark::Unneeded)?;
+    Ok(Ok(Operand::boolean(answer)))
+}

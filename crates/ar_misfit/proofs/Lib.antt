@@ -1,0 +1,4 @@
+pub mod Viewed
+pub mod Walked
+pub mod Faults
+pub mod Paths

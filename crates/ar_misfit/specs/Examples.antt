@@ -1,0 +1,68 @@
+-- Worked examples of misfits and of their texts.
+use Rattle.std.specs.Prelude.{◌≡◌, refl, [], ◌++◌, codes, true, Float, Some}
+use Rattle.std.specs.Fmt.{digits}
+use Rattle.std.specs.Str.{chars}
+use Rattle.serde_json.specs.Data as json
+use Rattle.serde_json.specs.Data.{Data}
+use Rattle.ar_value.specs.Shape.{Shape}
+use Rattle.ar_value.specs.Shape as shapes
+use Rattle.ar_json.specs.declared.value_reading.ShapeFault.TheVariants.{NotFinite}
+use Rattle.ar_quote.specs.Shown.{quoted}
+use Rattle.ar_misfit.specs.Misfit.{misfit, misfit_here}
+use Rattle.ar_misfit.specs.MisfitText.{misfit_text, misfit_text_of}
+
+-- {"list": {"record": {"rates": {"list": "whole", "max": 2}, "up": "bool"}}, "max": 2}
+hosts : Shape
+hosts = shapes.list
+    (shapes.object (shapes.field (codes "rates") (shapes.list shapes.whole 2)
+    (shapes.field (codes "up") shapes.bool shapes.no_fields))) 2
+
+rates : Data → json.Members → Data
+rates items others = json.object (json.member (codes "rates") items others)
+
+up : json.Members
+up = json.member (codes "up") (json.boolean true) json.no_members
+
+two : (first second : Data) → Data
+two first second = json.array (json.item first (json.item second json.no_items))
+
+one_item : Data → Data
+one_item d = json.array (json.item d json.no_items)
+
+three_levels_deep : misfit_text_of (misfit hosts (two (rates (one_item (json.number (json.unsigned 1))) up)
+    (rates (one_item (json.string (codes "x"))) up)))
+    ≡ codes "[1].rates[0]: WrongKind: expected a whole number, found \"x\""
+unfolding hosts rates up two one_item misfit misfit_text misfit_text_of digits quoted chars lib.Utf8.encode
+three_levels_deep = refl
+
+missing_field : misfit_text_of (misfit hosts (one_item (rates (json.array json.no_items) json.no_members)))
+    ≡ codes "[0].up: MissingField: expected true or false, found nothing"
+unfolding hosts rates one_item misfit misfit_text misfit_text_of digits
+missing_field = refl
+
+fraction : (x : Float) → misfit_text_of (misfit (shapes.optional shapes.decimal) (json.number (json.float x)))
+    ≡ codes "the value: FloatNumber: expected a decimal as a text, or a whole number or null, "
+    ++ codes "found a fraction, an exponent or a number beyond 64 bits; write it as a text, as \"0.95\""
+unfolding misfit misfit_text misfit_text_of
+fraction x = refl
+
+too_long : misfit_text_of (misfit (shapes.list shapes.bool 1) (two json.null json.null))
+    ≡ codes "the value: ListTooLong: expected a list of at most 1 items, found a list of 2 items"
+unfolding two misfit misfit_text misfit_text_of digits
+too_long = refl
+
+name_that_is_no_word : misfit_text_of (misfit (shapes.object (shapes.field (codes "p 95") shapes.bool shapes.no_fields))
+    (json.object (json.member (codes "p 95") (json.number (json.unsigned 0)) json.no_members)))
+    ≡ codes "[\"p 95\"]: WrongKind: expected true or false, found 0"
+unfolding misfit misfit_text misfit_text_of digits quoted chars lib.Utf8.encode
+name_that_is_no_word = refl
+
+not_a_number : misfit_text (misfit_here shapes.decimal (Some (json.string (codes "NaN"))) NotFinite)
+    ≡ codes "the value: NotFinite: expected a decimal as a text, or a whole number, "
+    ++ codes "found \"NaN\"; a query over nothing gives NaN, so test for it"
+unfolding misfit_text quoted chars lib.Utf8.encode
+not_a_number = refl
+
+fits : misfit_text_of (misfit hosts (one_item (rates (json.array json.no_items) up))) ≡ []
+unfolding hosts rates up one_item misfit misfit_text_of
+fits = refl

@@ -1,0 +1,3 @@
+pub mod Misfit
+pub mod MisfitText
+pub mod Examples

@@ -1,0 +1,3 @@
+pub mod Shortened
+pub mod Joined
+pub mod TypedViews
