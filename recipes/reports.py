@@ -1,51 +1,21 @@
-"""Reports of argo_judge, held to the document that they are of.
+"""Reports of argo_judge as JSON (`run --output json`), held to the document that they are of, and printed as text.
 
-A name may have spaces and line feeds in it, so a report isn't taken apart into lines: what has to come next is known by
-the document, but for phases, counts, verdicts and effects.
+What has to be there is known by the document, but for phases, counts, limits, verdicts and effects, of which each is one
+that there is.
 """
-import re
-from collections import namedtuple
+from documents import Refused, member, parsed, shown
 
-from documents import Refused, member, shown
-
-PHASE = "Pending|Running|Successful|Failed|Error|Inconclusive"
-VERDICT = r"Successful|Failed|Inconclusive|Error provider|Error shape \w+|Error success \w+|Error failure \w+"
-EFFECT = f"applied|late|closed (?:{PHASE})"
-COUNTS = r"successful=\d+ failed=\d+ inconclusive=\d+ error=\d+ consecutiveError=\d+"
-RUN = re.compile(f"({PHASE})\n", re.ASCII)
-METRIC = re.compile(f"(?:{PHASE}) {COUNTS}(?: dryRun)?\n", re.ASCII)
-MEASURED = re.compile(f"(?:{VERDICT}) (?:{EFFECT})\n", re.ASCII)
-STOPPED = re.compile(f"(?:{EFFECT})\n", re.ASCII)
-
+VERSION = 1
+PHASES = ("Pending", "Running", "Successful", "Failed", "Error", "Inconclusive")
 BAD = {"Failed", "Error", "Inconclusive"}
-
-
-# What a report has of a run: its phase, its lines up to the events, and each event's place in the document's
-# `measurements`, with its line after the number.
-RunReport = namedtuple("RunReport", "name phase head events")
-
-
-class Report:
-    """A report's text, read from its begin to its end."""
-
-    def __init__(self, text, where):
-        self.text, self.where, self.at = text, where, 0
-
-    def refuse(self, expected):
-        line = self.text.count("\n", 0, self.at) + 1
-        end = self.text.find("\n", self.at)
-        rest = self.text[self.at:] if end < 0 else self.text[self.at:end]
-        found = shown(rest) if end >= 0 else f"{shown(rest)} and the end" if rest else "its end"
-        raise Refused(f"{self.where}, line {line}: expected {expected}, found {found}")
-
-    def take(self, begin, rest, what, *names):
-        """Reads a text that begins with `begin` and continues as `rest` says; where it isn't there, `what` names it, with
-        these names."""
-        matched = self.text.startswith(begin, self.at) and rest.match(self.text, self.at + len(begin))
-        if not matched:
-            self.refuse(what.format(*map(shown, names)))
-        self.at = matched.end()
-        return matched
+COUNTS = ("successful", "failed", "inconclusive", "error", "consecutiveError")
+LIMITS = ("failureLimit", "inconclusiveLimit", "consecutiveErrorLimit")
+EFFECTS = ("applied", "closed", "late")
+VERDICTS = ("Successful", "Failed", "Inconclusive", "Error")
+MISFITS = ("WrongKind", "FloatNumber", "NotFinite", "BadDecimal", "OutOfRange", "ListTooLong", "MissingField")
+FAULTS = ("IndexOutOfRange", "NilOperand", "Overflow", "DivisionByZero")
+# The causes of the verdict Error, each with the faults that it may have.
+CAUSES = {"provider": (None,), "shape": MISFITS, "success": FAULTS, "failure": FAULTS}
 
 
 def texts(values, name):
@@ -70,19 +40,81 @@ def events_of(document, where):
     return events
 
 
-def checked_run(report, name, metrics, events):
-    """What a report has of a run."""
-    begun = report.at
-    phase = report.take(f"run {name} ", RUN, "the run {} with its phase", name)[1]
-    for metric in metrics:
-        report.take(f"metric {metric} ", METRIC, "the metric {} of run {}, with its counts", metric, name)
-    head, lines = report.text[begun:report.at], []
-    for place, metric in events:
-        begun = report.at + len(f"event {place} ")
-        called, rest = ("stop", STOPPED) if metric is None else (metric, MEASURED)
-        report.take(f"event {place} {called} ", rest, "event {} {} of run {}", place, called, name)
-        lines.append((place, report.text[begun:report.at]))
-    return RunReport(name, phase, head, lines)
+# ---- a report and its document
+
+def expect(is_so, where, expected, found):
+    if not is_so:
+        raise Refused(f"{where}: expected {expected}, found {shown(found)}")
+
+
+def is_count(value):
+    return isinstance(value, int) and not isinstance(value, bool) and value >= 0
+
+
+def items_of(value, name, expected, where):
+    """The items of a list with a name, as many as are expected, each with what is expected of it and where it is."""
+    items = member(value, name)
+    expect(isinstance(items, list), f"{where}{name}", "a list", items)
+    if len(items) != len(expected):
+        raise Refused(f"{where}{name}: expected {len(expected)} items, found {len(items)}")
+    return [(item, own, f"{where}{name}[{index}]") for index, (item, own) in enumerate(zip(items, expected))]
+
+
+def check_metric(metric, name, where):
+    expect(member(metric, "name") == name, where, f"the metric {shown(name)}", member(metric, "name"))
+    expect(member(metric, "phase") in PHASES, f"{where}.phase", "a phase", member(metric, "phase"))
+    expect(isinstance(member(metric, "dryRun"), bool), f"{where}.dryRun", "true or false", member(metric, "dryRun"))
+    for count in COUNTS:
+        expect(is_count(member(metric, "counts", count)), f"{where}.counts.{count}", "a count", member(metric, "counts", count))
+    for limit in LIMITS:
+        expect(is_count(member(metric, "limits", limit)), f"{where}.limits.{limit}", "a limit", member(metric, "limits", limit))
+
+
+def event_name(number, metric, is_stop):
+    return f"event {shown(number)}, a stop" if is_stop is True else f"event {shown(number)} of metric {shown(metric)}"
+
+
+def check_verdict(event, is_stop, where):
+    verdict, cause, fault = (member(event, name) for name in ("verdict", "cause", "fault"))
+    expect(verdict in ((None,) if is_stop else VERDICTS), f"{where}.verdict", "null" if is_stop else "a verdict", verdict)
+    causes = tuple(CAUSES) if verdict == "Error" else (None,)
+    expect(cause in causes, f"{where}.cause", "a cause" if verdict == "Error" else "null", cause)
+    faults = CAUSES.get(cause, (None,))
+    expect(fault in faults, f"{where}.fault", "null" if None in faults else "a fault of its cause", fault)
+
+
+def check_event(event, expected, where):
+    number, metric = expected
+    own = (number, metric, metric is None)
+    found = (member(event, "number"), member(event, "metric"), member(event, "stop"))
+    expect(is_count(found[0]), f"{where}.number", "an index", found[0])
+    expect(isinstance(found[2], bool), f"{where}.stop", "true or false", found[2])
+    if found != own:
+        raise Refused(f"{where}: expected {event_name(*own)}, found {event_name(*found)}")
+    effect, phase = member(event, "effect"), member(event, "phase")
+    expect(effect in EFFECTS, f"{where}.effect", "an effect", effect)
+    is_closed = effect == "closed"
+    expect(phase in (PHASES if is_closed else (None,)), f"{where}.phase", "a phase" if is_closed else "null", phase)
+    check_verdict(event, metric is None, where)
+
+
+def check_run(run, expected, metrics, where):
+    name, events = expected
+    expect(member(run, "name") == name, where, f"the run {shown(name)}", member(run, "name"))
+    expect(member(run, "phase") in PHASES, f"{where}.phase", "a phase", member(run, "phase"))
+    for metric, own, place in items_of(run, "metrics", metrics, f"{where}."):
+        check_metric(metric, own, place)
+    for event, own, place in items_of(run, "events", events, f"{where}."):
+        check_event(event, own, place)
+
+
+def report_in(text, where):
+    """The report that a text is."""
+    report = parsed(text, where)
+    if member(report, "version") != VERSION:
+        found = f"version {shown(member(report, 'version'))}" if isinstance(report, dict) else shown(report)
+        raise Refused(f"{where}: expected a report of version {VERSION} as `run --output json` writes it, found {found}")
+    return report
 
 
 def checked(document, text, document_name, report_name):
@@ -90,8 +122,38 @@ def checked(document, text, document_name, report_name):
     metrics = texts(member(document, "manifest", "spec", "metrics"), "name")
     if not metrics:
         raise Refused(f"{document_name}: expected a document with a template's metrics as `manifest`")
-    report = Report(text, report_name)
-    runs = [checked_run(report, name, metrics, events) for name, events in events_of(document, document_name).items()]
-    if report.at != len(text):
-        report.refuse("no more than the document's runs and measurements")
-    return runs
+    expected = list(events_of(document, document_name).items())
+    report = report_in(text, report_name)
+    for run, own, where in items_of(report, "runs", expected, f"{report_name}, "):
+        check_run(run, own, metrics, where)
+    return report["runs"]
+
+
+# ---- the text of a report, as `run` prints it
+
+def verdict_text(event):
+    words = (event["verdict"], member(event, "cause"), member(event, "fault"))
+    return " ".join(word for word in words if word is not None)
+
+
+def effect_text(event):
+    return f"closed {event['phase']}" if event["effect"] == "closed" else event["effect"]
+
+
+def event_line(event):
+    found = "stop" if event["stop"] else f"{event['metric']} {verdict_text(event)}"
+    return f"event {event['number']} {found} {effect_text(event)}\n"
+
+
+def metric_line(metric):
+    counts = " ".join(f"{count}={metric['counts'][count]}" for count in COUNTS)
+    return f"metric {metric['name']} {metric['phase']} {counts}{' dryRun' if metric['dryRun'] else ''}\n"
+
+
+def text_of(runs):
+    lines = []
+    for run in runs:
+        lines.append(f"run {run['name']} {run['phase']}\n")
+        lines.extend(map(metric_line, run["metrics"]))
+        lines.extend(map(event_line, run["events"]))
+    return "".join(lines)

@@ -7,7 +7,7 @@ import threading
 import time
 from functools import partial
 
-from documents import BUNDLES, CONDITIONS, DECIMAL, RATES, STOPPED, Answer, is_answer
+from documents import AS_JSON, BUNDLES, CONDITIONS, DECIMAL, RATES, STOPPED, Answer, is_answer
 from errors import TOO_LARGE, has_failed_to_read, has_failed_to_write
 from program import HERE, Ended
 
@@ -34,6 +34,7 @@ def jobs(program):
 def cases():
     """Command lines with their documents and answers, of all commands that read."""
     made = [(words, document.text, document.answer(words)) for words in ALL for document in BUNDLES.values()]
+    made += [(words, text, answer) for words, (text, answer) in AS_JSON.items()]
     return made + [('eval', text, answer) for text, answer, _ in CONDITIONS.values()]
 
 
@@ -45,6 +46,7 @@ def shown(program):
 def outputs(program):
     """The runs whose output is cut at each byte."""
     made = [(words, STOPPED.text, STOPPED.answer(words)) for words in ALL]
+    made += [(words, text, answer) for words, (text, answer) in AS_JSON.items()]
     return made + [('eval', DECIMAL, Answer(0, 'true\n'))] + shown(program)[1:]
 
 

@@ -184,3 +184,31 @@ CONDITIONS = {
     'texts': (condition('one(["a b", "c"], # contains result) and none([result], # endsWith "c")', 'text', 'b'),
               Answer(0, 'true\n'), 30),
 }
+
+
+# Answers as JSON
+
+
+def as_json(answer):
+    return Answer(0, json.dumps({**answer, 'version': 1}, separators=(',', ':'), sort_keys=True) + '\n')
+
+
+def successful(run, number):
+    """A run of RATES, which the event of this number closed."""
+    counts = dict.fromkeys(('failed', 'inconclusive', 'error', 'consecutiveError'), 0)
+    limits = {'count': 1, 'failureLimit': 0, 'inconclusiveLimit': 0, 'consecutiveErrorLimit': 4}
+    metric = {'name': 'm', 'phase': 'Successful', 'dryRun': False, 'counts': {**counts, 'successful': 1}, 'limits': limits}
+    event = {'number': number, 'stop': False, 'metric': 'm', 'verdict': 'Successful', 'cause': None, 'fault': None,
+             'effect': 'closed', 'phase': 'Successful'}
+    return {'name': run, 'phase': 'Successful', 'metrics': [metric], 'events': [event]}
+
+
+BOUNDS = {'metric': 'm', 'condition': 'success', 'operations': 6, 'depth': 2, 'budget': 6}
+OF_RATES = as_json({'runs': [successful('r0', 0), successful('r1', 1)]})
+# By their command lines: the document and its answer.
+AS_JSON = {
+    'run --plain --output json': (RATES.text, OF_RATES),
+    'run --ordered --workers 2 --output json': (RATES.text, OF_RATES),
+    'check --output json': (RATES.text, as_json({'conditions': [{'run': run, **BOUNDS} for run in ('r0', 'r1')]})),
+    'eval --output json': (DECIMAL, as_json({'answer': True, 'fault': None})),
+}

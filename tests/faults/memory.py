@@ -4,7 +4,7 @@ import itertools
 from functools import partial
 from typing import NamedTuple
 
-from documents import BUNDLES, CONDITIONS, SHAPELESS, Answer, is_answer, repeated
+from documents import AS_JSON, BUNDLES, CONDITIONS, SHAPELESS, Answer, is_answer, repeated
 from errors import is_out_of_memory, is_without_thread, is_without_warnings
 from program import ROOT
 
@@ -32,7 +32,7 @@ class Case(NamedTuple):
 def jobs(program):
     """What is refused, each as a job that can run at the same time as the others; the longest first."""
     made = [partial(refuse_workers, program, words) for words in WITH_WORKERS]
-    cases = cases_of_bundles() + cases_of_eval() + other_cases(program)
+    cases = cases_of_bundles() + cases_of_eval() + cases_of_json() + other_cases(program)
     made += [partial(refuse_growths, program, case) for case in cases]
     return made + [partial(refuse_threads, program, words) for words in ('run', 'run --ordered')]
 
@@ -44,6 +44,10 @@ def cases_of_bundles():
 
 def cases_of_eval():
     return [Case(f'eval, {name}', 'eval', text, answer, least) for name, (text, answer, least) in CONDITIONS.items()]
+
+
+def cases_of_json():
+    return [Case(words, words, text, answer, 20) for words, (text, answer) in AS_JSON.items()]
 
 
 def other_cases(program):
@@ -62,6 +66,7 @@ def other_cases(program):
 
 def has_ended_as_it_may(ended, words, answer):
     """Whether a run to which something was refused reported that, or answered where it may carry on."""
+    words = words.removesuffix(' --output json')
     if is_out_of_memory(ended) or (words in WITH_WORKERS and is_without_thread(ended)):
         return True
     if words == 'check' and is_without_warnings(ended, answer):

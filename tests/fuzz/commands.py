@@ -1,17 +1,20 @@
 """What the commands of the program have to write of a document, by docs/use/formats.md, read apart from the program."""
 
+import json
 import re
 
 from answers import eval_answer
 from bundles import read_bundle
 from jsontext import read_json
 from refused import Refused
-from reports import BAD, bounds_lines, list_lines, report, run_phases
+from reports import BAD, bounds_lines, bounds_object, list_lines, report, report_object, run_phases
 from cautions import cautions
 
 PLAIN = ('run', '--plain')
 ORDERED = ('run', '--ordered', '--workers', '2')
-COMMANDS = (PLAIN, ORDERED, ('check',), ('list',))
+AS_JSON = ('--output', 'json')
+COMMANDS = (PLAIN, ORDERED, PLAIN + AS_JSON, ORDERED + AS_JSON, ('check',), ('check',) + AS_JSON, ('list',))
+EVALS = (('eval',), ('eval',) + AS_JSON)
 MEMBERS = {'UnknownRun': r'\[{}\]\.run', 'UnknownMetric': r'\[{}\]\.metric', 'BadEntry': r'(?:\[{}\])?'}
 NAME = r'"(?:[^"\\]|\\.)*"(?:\.\.)?'
 
@@ -56,35 +59,49 @@ def text_of(lines):
     return ''.join(f'{line}\n' for line in lines).encode()
 
 
+def line_of(written):
+    """An object without blanks, its members in the order of their names, and a line feed."""
+    return (json.dumps(written, ensure_ascii=False, separators=(',', ':'), sort_keys=True) + '\n').encode()
+
+
+def answer_line(words, line):
+    """What a condition says, in the line that `eval` writes."""
+    if words[1:] != AS_JSON:
+        return f'{line}\n'.encode()
+    fault = line.removeprefix('fault ') if line.startswith('fault ') else None
+    return line_of({'answer': None if fault else line == 'true', 'fault': fault, 'version': 1})
+
+
 def expected_of_bundle(words, document):
     """The status of a command, its output, and the regular expression of its line on standard error."""
     try:
         bundle = read_bundle(document)
     except Refused as refused:
         return refusal(*where_of(refused))
+    is_json = words[-2:] == AS_JSON
     if words[0] == 'run':
         status = 1 if any(phase in BAD for phase in run_phases(bundle)) else 0
-        return status, text_of(report(bundle)), ''
+        return status, line_of(report_object(bundle)) if is_json else text_of(report(bundle)), ''
     if words[0] == 'check':
-        return 0, text_of(bounds_lines(bundle)), re.escape(text_of(cautions(read_json(document))).decode())
+        return 0, line_of(bounds_object(bundle)) if is_json else text_of(bounds_lines(bundle)), re.escape(text_of(cautions(read_json(document))).decode())
     return 0, text_of(list_lines(bundle)), ''
 
 
-def expected_of_eval(document):
+def expected_of_eval(words, document):
     try:
-        json = read_json(document)
+        read = read_json(document)
     except Refused as refused:
         return refusal('document', refused.name)
-    if not isinstance(json, dict) or not isinstance(json.get('condition'), str) or not {'shape', 'value'} <= set(json):
+    if not isinstance(read, dict) or not isinstance(read.get('condition'), str) or not {'shape', 'value'} <= set(read):
         return refusal('document', 'BadDocument')
-    line, is_refused = eval_answer(json['condition'], json['shape'], json['value'])
+    line, is_refused = eval_answer(read['condition'], read['shape'], read['value'])
     if is_refused:
         return refusal(*(re.escape(part) for part in line.rsplit(': ', 1)))
-    return 0, f'{line}\n'.encode(), ''
+    return 0, answer_line(words, line), ''
 
 
 def expected_of(words, document):
-    return expected_of_eval(document) if words == ('eval',) else expected_of_bundle(words, document)
+    return expected_of_eval(words, document) if words[0] == 'eval' else expected_of_bundle(words, document)
 
 
 def is_right(expected, got):

@@ -75,29 +75,65 @@ def report(bundle):
     return lines
 
 
+def metric_object(metric, phase, marks):
+    failure, inconclusive, errors = metric['limits']
+    counts = {mark.lower(): marks.count(mark) for mark in (*COUNTED, 'Error')}
+    return {'counts': counts | {'consecutiveError': succession(marks)}, 'dryRun': metric['dry'], 'name': metric['name'],
+            'limits': {'consecutiveErrorLimit': errors, 'count': metric['count'], 'failureLimit': failure,
+                       'inconclusiveLimit': inconclusive}, 'phase': phase}
+
+
+def event_object(number, what, effect, run):
+    is_stop = what == 'stop'
+    words = [None] if is_stop else what[1].split(' ')
+    effects = effect.split(' ')
+    return {'cause': words[1] if words[1:] else None, 'effect': effects[0], 'fault': words[2] if words[2:] else None,
+            'metric': None if is_stop else run['metrics'][what[0]]['name'], 'number': number,
+            'phase': effects[1] if effects[1:] else None, 'stop': is_stop, 'verdict': words[0]}
+
+
+def report_object(bundle):
+    """The object of `run --plain --output json`."""
+    return {'runs': [{
+        'events': [event_object(number, what, effect, run) for (number, what), effect in zip(history, effects)],
+        'metrics': [metric_object(metric, own, done) for metric, own, done in zip(run['metrics'], phases, marks)],
+        'name': run['name'], 'phase': phase,
+    } for run, history, (effects, phase, phases, marks) in outcomes(bundle)], 'version': 1}
+
+
 def run_phases(bundle):
     return [phase for _, _, (_, phase, _, _) in outcomes(bundle)]
 
 
 def conditions(bundle):
-    """For each condition the beginning of its line, its code and its bounds."""
+    """For each condition its run, its metric and which of the two it is, its code and its bounds."""
     for run in bundle['runs']:
         for metric, judges in zip(run['metrics'], run['judges']):
-            begin = f'run {run["name"]} metric {metric["name"]}'
             for judge, side in zip(judges, ('success', 'failure')):
                 if judge:
-                    yield f'{begin} {side}', judge[1], judge[2]
+                    yield (run['name'], metric['name'], side), judge[1], judge[2]
+
+
+def condition_line(names):
+    return 'run {} metric {} {}'.format(*names)
 
 
 def bounds_lines(bundle):
     """What `check` writes."""
-    return [f'{begin} operations={len(ops)} depth={bounds[0]} budget={bounds[1]}'
-            for begin, ops, bounds in conditions(bundle)]
+    return [f'{condition_line(names)} operations={len(ops)} depth={bounds[0]} budget={bounds[1]}'
+            for names, ops, bounds in conditions(bundle)]
+
+
+def bounds_object(bundle):
+    """The object of `check --output json`."""
+    return {'conditions': [{'run': names[0], 'metric': names[1], 'condition': names[2], 'operations': len(ops),
+                            'depth': bounds[0], 'budget': bounds[1]} for names, ops, bounds in conditions(bundle)],
+            'version': 1}
 
 
 def list_lines(bundle):
     """What `list` writes."""
     lines = []
-    for begin, ops, _ in conditions(bundle):
-        lines += [begin] + listing(image_of(ops))
+    for names, ops, _ in conditions(bundle):
+        lines += [condition_line(names)] + listing(image_of(ops))
     return lines

@@ -17,6 +17,7 @@ use Rattle.ar_eval.specs.declared.eval.EvalError.{EvalError}
 use Rattle.ar_command.specs.declared.serving.Closing.{Closing}
 use Rattle.ar_command_line.specs.declared.command_line.Command.{Command}
 use Rattle.ar_command_line.specs.declared.command_line.Command.TheVariants as commands
+use Rattle.ar_command_line.specs.declared.command_line.Format.{Format}
 use Rattle.ar_command.specs.declared.serving.Refusal.{Refusal}
 use Rattle.ar_value.specs.Answer.{IfRefused}
 use Rattle.ar_command.specs.Private.Refusing.{Names, is_serve_memory}
@@ -52,31 +53,31 @@ module _ (input bytes : List ℕ) (same : json_in input ≡ json_in bytes) where
   reads_too : (answer : Result Bundle BundleError) → bundles.ReadsInput bytes answer → bundles.ReadsInput input answer
   reads_too answer is = record { follows = subst (λ json. bundles.FollowsJson json answer) (sym same) is.follows }
 
-  reports_too : (text : List ℕ) (closing : Closing) → Reports bytes text closing → Reports input text closing
-  reports_too text closing says = record { bundle = says.bundle; reads = reads_too (Ok says.bundle) says.reads; histories = says.histories; reported = says.reported }
+  reports_too : (format : Format) (text : List ℕ) (closing : Closing) → Reports format bytes text closing → Reports format input text closing
+  reports_too format text closing says = record { bundle = says.bundle; reads = reads_too (Ok says.bundle) says.reads; histories = says.histories; reported = says.reported }
 
   says_too : (command : Command) (text : List ℕ) (closing : Closing) → Says command bytes text closing → Says command input text closing
   unfolding reports_too
-  says_too commands.Eval text closing says = (record { answer = says.0.answer; evaluates = evaluates_too (Ok says.0.answer) says.0.evaluates; is = says.0.is }, says.1)
-  says_too commands.Check text closing says = (record { bundle = says.0.bundle; reads = reads_too (Ok says.0.bundle) says.0.reads; is = says.0.is }, says.1)
+  says_too (commands.Eval format) text closing says = (record { answer = says.0.answer; evaluates = evaluates_too (Ok says.0.answer) says.0.evaluates; is = says.0.is }, says.1)
+  says_too (commands.Check format) text closing says = (record { bundle = says.0.bundle; reads = reads_too (Ok says.0.bundle) says.0.reads; is = says.0.is }, says.1)
   says_too commands.List text closing says = (record { bundle = says.0.bundle; reads = reads_too (Ok says.0.bundle) says.0.reads; is = says.0.is }, says.1)
-  says_too (commands.Run workers) text closing says = reports_too text closing says
-  says_too commands.Plain text closing says = record { reports = reports_too text closing says.reports; rise = says.rise }
-  says_too (commands.Ordered workers) text closing says = record { reports = reports_too text closing says.reports; rise = says.rise }
+  says_too (commands.Run workers format) text closing says = reports_too format text closing says
+  says_too (commands.Plain format) text closing says = record { reports = reports_too format text closing says.reports; rise = says.rise }
+  says_too (commands.Ordered workers format) text closing says = record { reports = reports_too format text closing says.reports; rise = says.rise }
 
   refuses_too : (command : Command) (refusal : Refusal) → RefusesInput command bytes refusal → RefusesInput command input refusal
-  refuses_too commands.Eval (refusals.Eval fault) refuses = evaluates_too (Err fault) refuses
-  refuses_too commands.Eval (refusals.Bundle error) refuses = absurd refuses
-  refuses_too commands.Check (refusals.Bundle error) refuses = reads_too (Err error) refuses
-  refuses_too commands.Check (refusals.Eval fault) refuses = absurd refuses
+  refuses_too (commands.Eval format) (refusals.Eval fault) refuses = evaluates_too (Err fault) refuses
+  refuses_too (commands.Eval format) (refusals.Bundle error) refuses = absurd refuses
+  refuses_too (commands.Check format) (refusals.Bundle error) refuses = reads_too (Err error) refuses
+  refuses_too (commands.Check format) (refusals.Eval fault) refuses = absurd refuses
   refuses_too commands.List (refusals.Bundle error) refuses = reads_too (Err error) refuses
   refuses_too commands.List (refusals.Eval fault) refuses = absurd refuses
-  refuses_too (commands.Run workers) (refusals.Bundle error) refuses = reads_too (Err error) refuses
-  refuses_too (commands.Run workers) (refusals.Eval fault) refuses = absurd refuses
-  refuses_too commands.Plain (refusals.Bundle error) refuses = reads_too (Err error) refuses
-  refuses_too commands.Plain (refusals.Eval fault) refuses = absurd refuses
-  refuses_too (commands.Ordered workers) (refusals.Bundle error) refuses = reads_too (Err error) refuses
-  refuses_too (commands.Ordered workers) (refusals.Eval fault) refuses = absurd refuses
+  refuses_too (commands.Run workers format) (refusals.Bundle error) refuses = reads_too (Err error) refuses
+  refuses_too (commands.Run workers format) (refusals.Eval fault) refuses = absurd refuses
+  refuses_too (commands.Plain format) (refusals.Bundle error) refuses = reads_too (Err error) refuses
+  refuses_too (commands.Plain format) (refusals.Eval fault) refuses = absurd refuses
+  refuses_too (commands.Ordered workers format) (refusals.Bundle error) refuses = reads_too (Err error) refuses
+  refuses_too (commands.Ordered workers format) (refusals.Eval fault) refuses = absurd refuses
 
 of_known : (P : List ℕ → Type 0) (bytes : List ℕ) (known : Option (List ℕ)) → IfSome known (λ input. json_in input ≡ json_in bytes) → ((input : List ℕ) → json_in input ≡ json_in bytes → P input) → IfSome known P
 of_known P bytes None same says = tt

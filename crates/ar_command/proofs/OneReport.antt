@@ -24,14 +24,18 @@ use Rattle.ar_bundle.specs.declared.finding.Finding.TheVariants.{Judged}
 use Rattle.ar_bundle.specs.declared.finding.Finding.TheVariants as findings
 use Rattle.ar_document.specs.Entries.{Entry, entry_view, what_view}
 use Rattle.ar_document.specs.Opening.{Metric, metric_view}
-use Rattle.ar_report.specs.Report.{event_lines, finding_text, found_text, metric_lines, name_at, phases_of, report, run_phases, run_text, run_texts}
+use Rattle.ar_report.specs.Facts.{facts_found, facts_of_events, facts_of_metrics, facts_of_runs, finding_facts, name_at, phases_of, report_facts, run_facts, stopped}
+use Rattle.ar_report.specs.Report.{report_text}
+use Rattle.ar_report.specs.ReportData.{report_data}
 use Rattle.ar_command.proofs.OneNumbering.{same_numbers}
-use Rattle.ar_command.proofs.OneText.{one_bundle, one_check, one_line, one_listing}
-use Rattle.ar_command.specs.Alike.{AreSameConditions, AreSameJudges, AreSameRuns, IsSameBundle, IsSameRun}
+use Rattle.ar_command.proofs.OneText.{one_bundle, one_check, one_line, one_listing, one_printed}
+use Rattle.ar_command.specs.Alike.{AreOfSameRuns, AreSameConditions, AreSameJudges, AreSameRuns, IsSameBundle, IsSameRun}
 use Rattle.ar_command.specs.Serving.{ReportsInOrder, Says, closing_of}
 use Rattle.ar_command.specs.declared.serving.Closing.{Closing}
 use Rattle.ar_command_line.specs.declared.command_line.Command.{Command}
 use Rattle.ar_command_line.specs.declared.command_line.Command.TheVariants as commands
+use Rattle.ar_command_line.specs.declared.command_line.Format.{Format}
+use Rattle.ar_command_line.specs.declared.command_line.Format.TheVariants as formats
 
 -- ---- verdicts
 
@@ -150,71 +154,61 @@ module _ (one other : Bundle) (same : IsSameBundle one other) where
   name_by (metric ∷ metrics) (own ∷ its) zero view = let head : metric_view metric ≡ metric_view own = cc in ap (λ (m : Metric). m.name) head
   name_by (metric ∷ metrics) (own ∷ its) (suc place) view = name_by metrics its place cc
 
-  same_finding_text : (what its : What) (finding : Finding) → what_view what ≡ what_view its → finding_text one.metrics what finding ≡ finding_text other.metrics its finding
-  same_finding_text (Measure metric sample) (Measure place also) (findings.Judged verdict) view = let metric_is : metric ≡ place = cc in rw metric_is (rw (name_by one.metrics other.metrics place same.metrics) refl)
-  same_finding_text (Measure metric sample) (Measure place also) findings.Stop view = refl
-  same_finding_text (Measure metric sample) Stop finding view = absurd cc
-  same_finding_text Stop (Measure place also) finding view = absurd cc
-  same_finding_text Stop Stop finding view = refl
+  same_finding_facts : (what its : What) (finding : Finding) → what_view what ≡ what_view its → finding_facts one.metrics what finding ≡ finding_facts other.metrics its finding
+  same_finding_facts (Measure metric sample) (Measure place also) (findings.Judged verdict) view = let metric_is : metric ≡ place = cc in rw metric_is (rw (name_by one.metrics other.metrics place same.metrics) refl)
+  same_finding_facts (Measure metric sample) (Measure place also) findings.Stop view = refl
+  same_finding_facts (Measure metric sample) Stop finding view = absurd cc
+  same_finding_facts Stop (Measure place also) finding view = absurd cc
+  same_finding_facts Stop Stop finding view = refl
 
-  found_text_by : (entry its : Option EventPart) → AreSameEntries entry its
-      → option_and_then (λ (e : EventPart). option_map (finding_text one.metrics e.what) (found_of one e.run e.what)) entry
-      ≡ option_and_then (λ (e : EventPart). option_map (finding_text other.metrics e.what) (found_of other e.run e.what)) its
-  found_text_by (Some entry) (Some its) view =
+  facts_found_by : (entry its : Option EventPart) → AreSameEntries entry its
+      → option_and_then (λ (e : EventPart). option_map (finding_facts one.metrics e.what) (found_of one e.run e.what)) entry
+      ≡ option_and_then (λ (e : EventPart). option_map (finding_facts other.metrics e.what) (found_of other e.run e.what)) its
+  facts_found_by (Some entry) (Some its) view =
       let run : entry.run ≡ its.run = ap (λ (e : Entry). e.run) view in
       let what : what_view entry.what ≡ what_view its.what = ap (λ (e : Entry). e.what) view in
-      rw run (mapped (finding_text one.metrics entry.what) (finding_text other.metrics its.what) (found_of one its.run entry.what) (found_of other its.run its.what)
-      (λ finding. same_finding_text entry.what its.what finding what) (same_found its.run entry.what its.what what))
-  found_text_by (Some entry) None view = absurd view
-  found_text_by None (Some its) view = absurd view
-  found_text_by None None view = refl
+      rw run (mapped (finding_facts one.metrics entry.what) (finding_facts other.metrics its.what) (found_of one its.run entry.what) (found_of other its.run its.what)
+      (λ finding. same_finding_facts entry.what its.what finding what) (same_found its.run entry.what its.what what))
+  facts_found_by (Some entry) None view = absurd view
+  facts_found_by None (Some its) view = absurd view
+  facts_found_by None None view = refl
 
-  same_found_text : (number : ℕ) → found_text one number ≡ found_text other number
-  same_found_text number = ap (λ text. unwrap_or text []) (found_text_by (slice_get one.entries number) (slice_get other.entries number) (same_entry one.entries other.entries number same.entries))
+  same_facts_found : (number : ℕ) → facts_found one number ≡ facts_found other number
+  same_facts_found number = ap (λ facts. unwrap_or facts stopped) (facts_found_by (slice_get one.entries number) (slice_get other.entries number) (same_entry one.entries other.entries number same.entries))
 
-  same_event_lines : (numbers : List ℕ) (some : List Effect) → event_lines one numbers some ≡ event_lines other numbers some
-  same_event_lines [] some = refl
-  same_event_lines (number ∷ numbers) [] = refl
-  same_event_lines (number ∷ numbers) (effect ∷ some) = rw (same_found_text number) (rw (same_event_lines numbers some) refl)
+  same_facts_of_events : (numbers : List ℕ) (some : List Effect) → facts_of_events one numbers some ≡ facts_of_events other numbers some
+  same_facts_of_events [] some = refl
+  same_facts_of_events (number ∷ numbers) [] = refl
+  same_facts_of_events (number ∷ numbers) (effect ∷ some) = rw (same_facts_found number) (rw (same_facts_of_events numbers some) refl)
 
-  same_metric_lines : (metrics its : List MetricPart) (limits : List Limits) (phases : List Phase) (counts : List Counts) → map metric_view metrics ≡ map metric_view its → metric_lines metrics limits phases counts ≡ metric_lines its limits phases counts
-  same_metric_lines [] [] limits phases counts view = refl
-  same_metric_lines [] (own ∷ its) limits phases counts view = absurd cc
-  same_metric_lines (metric ∷ metrics) [] limits phases counts view = absurd cc
-  same_metric_lines (metric ∷ metrics) (own ∷ its) [] phases counts view = refl
-  same_metric_lines (metric ∷ metrics) (own ∷ its) (limit ∷ limits) [] counts view = refl
-  same_metric_lines (metric ∷ metrics) (own ∷ its) (limit ∷ limits) (phase ∷ phases) [] view = refl
-  same_metric_lines (metric ∷ metrics) (own ∷ its) (limit ∷ limits) (phase ∷ phases) (count ∷ counts) view =
+  same_facts_of_metrics : (metrics its : List MetricPart) (limits : List Limits) (phases : List Phase) (counts : List Counts) → map metric_view metrics ≡ map metric_view its → facts_of_metrics metrics limits phases counts ≡ facts_of_metrics its limits phases counts
+  same_facts_of_metrics [] [] limits phases counts view = refl
+  same_facts_of_metrics [] (own ∷ its) limits phases counts view = absurd cc
+  same_facts_of_metrics (metric ∷ metrics) [] limits phases counts view = absurd cc
+  same_facts_of_metrics (metric ∷ metrics) (own ∷ its) [] phases counts view = refl
+  same_facts_of_metrics (metric ∷ metrics) (own ∷ its) (limit ∷ limits) [] counts view = refl
+  same_facts_of_metrics (metric ∷ metrics) (own ∷ its) (limit ∷ limits) (phase ∷ phases) [] view = refl
+  same_facts_of_metrics (metric ∷ metrics) (own ∷ its) (limit ∷ limits) (phase ∷ phases) (count ∷ counts) view =
       let head : metric_view metric ≡ metric_view own = cc in
       let name : metric.name ≡ own.name = ap (λ (m : Metric). m.name) head in
-      rw name (rw (same_metric_lines metrics its limits phases counts cc) refl)
+      rw name (rw (same_facts_of_metrics metrics its limits phases counts cc) refl)
 
-  same_run_text : (run its : RunPart) (numbers : List ℕ) → IsSameRun run its → run_text one run numbers ≡ run_text other its numbers
-  same_run_text run its numbers is =
+  same_run_facts : (run its : RunPart) (numbers : List ℕ) → IsSameRun run its → run_facts one run numbers ≡ run_facts other its numbers
+  same_run_facts run its numbers is =
       let name = is.name in
       let limits = is.limits in
       let events = same_events numbers in
-      let metrics = same_metric_lines one.metrics other.metrics its.limits (metric_phases its.limits (events_of other numbers)) (metric_counts its.limits (events_of other numbers)) same.metrics in
-      let lines = same_event_lines numbers (effects its.limits (events_of other numbers)) in
-      rw name (rw limits (rw events (rw metrics (rw lines refl))))
+      let metrics = same_facts_of_metrics one.metrics other.metrics its.limits (metric_phases its.limits (events_of other numbers)) (metric_counts its.limits (events_of other numbers)) same.metrics in
+      let facts = same_facts_of_events numbers (effects its.limits (events_of other numbers)) in
+      rw name (rw limits (rw events (rw metrics (rw facts refl))))
 
-  same_run_texts : (runs its : List RunPart) (numbers : List (List ℕ)) → AreSameRuns runs its → run_texts one runs numbers ≡ run_texts other its numbers
-  same_run_texts [] [] numbers are = refl
-  same_run_texts [] (own ∷ its) numbers are = absurd are
-  same_run_texts (run ∷ runs) [] numbers are = absurd are
-  same_run_texts (run ∷ runs) (own ∷ its) [] are = refl
-  same_run_texts (run ∷ runs) (own ∷ its) (some ∷ numbers) are =
-      ap (λ text. text ++ run_texts one runs numbers) (same_run_text run own some are.0) ∙ ap (λ more. run_text other own some ++ more) (same_run_texts runs its numbers are.1)
-
-  same_phases : (runs its : List RunPart) (numbers : List (List ℕ)) → AreSameRuns runs its → phases_of one runs numbers ≡ phases_of other its numbers
-  same_phases [] [] numbers are = refl
-  same_phases [] (own ∷ its) numbers are = absurd are
-  same_phases (run ∷ runs) [] numbers are = absurd are
-  same_phases (run ∷ runs) (own ∷ its) [] are = refl
-  same_phases (run ∷ runs) (own ∷ its) (some ∷ numbers) are =
-      let limits = are.0.limits in
-      let events = same_events some in
-      rw limits (rw events (rw (same_phases runs its numbers are.1) refl))
+  same_facts_of_runs : (runs its : List RunPart) (numbers : List (List ℕ)) → AreSameRuns runs its → facts_of_runs one runs numbers ≡ facts_of_runs other its numbers
+  same_facts_of_runs [] [] numbers are = refl
+  same_facts_of_runs [] (own ∷ its) numbers are = absurd are
+  same_facts_of_runs (run ∷ runs) [] numbers are = absurd are
+  same_facts_of_runs (run ∷ runs) (own ∷ its) [] are = refl
+  same_facts_of_runs (run ∷ runs) (own ∷ its) (some ∷ numbers) are =
+      ap (λ facts. facts ∷ facts_of_runs one runs numbers) (same_run_facts run own some are.0) ∙ ap (λ more. run_facts other own some ∷ more) (same_facts_of_runs runs its numbers are.1)
 
   as_many_runs : (runs its : List RunPart) → AreSameRuns runs its → length runs ≡ length its
   as_many_runs [] [] are = refl
@@ -222,32 +216,48 @@ module _ (one other : Bundle) (same : IsSameBundle one other) where
   as_many_runs (run ∷ runs) [] are = absurd are
   as_many_runs (run ∷ runs) (own ∷ its) are = ap suc (as_many_runs runs its are.1)
 
-  pub same_report : (numbers : List (List ℕ)) → report one numbers ≡ report other numbers
-  same_report numbers = same_run_texts one.runs other.runs numbers same.runs
+  pub same_facts : (numbers : List (List ℕ)) → report_facts one numbers ≡ report_facts other numbers
+  same_facts numbers = same_facts_of_runs one.runs other.runs numbers same.runs
 
-  pub same_closing : (numbers : List (List ℕ)) → closing_of (run_phases one numbers) ≡ closing_of (run_phases other numbers)
-  same_closing numbers = ap closing_of (same_phases one.runs other.runs numbers same.runs)
-
-one_report : (input text other : List ℕ) (closing closing_of_other : Closing) → ReportsInOrder input text closing → ReportsInOrder input other closing_of_other → (text ≡ other) × (closing ≡ closing_of_other)
-one_report input text other closing closing_of_other says also =
+-- the facts of two reports of an input are the same
+one_report_facts : (format its_format : Format) (input text other : List ℕ) (closing closing_of_other : Closing) (says : ReportsInOrder format input text closing) (also : ReportsInOrder its_format input other closing_of_other)
+    → report_facts says.reports.bundle (map numbers_of says.reports.histories) ≡ report_facts also.reports.bundle (map numbers_of also.reports.histories)
+one_report_facts format its_format input text other closing closing_of_other says also =
     let one = says.reports in
     let its = also.reports in
     let same = one_bundle input one.bundle its.bundle one.reads its.reads in
     let as_many : length one.bundle.entries ≡ length its.bundle.entries = sym (length-map one.bundle.entries entry_view) ∙ (ap length same.entries ∙ length-map its.bundle.entries entry_view) in
-    let numbers = same_numbers one.bundle its.bundle (same_run one.bundle its.bundle same) one.histories its.histories (as_many_runs one.bundle its.bundle same one.bundle.runs its.bundle.runs same.runs) as_many one.reported.lawful says.rise its.reported.lawful also.rise in (
-      one.reported.is ∙ (same_report one.bundle its.bundle same (map numbers_of one.histories) ∙ (ap (report its.bundle) numbers ∙ sym its.reported.is)),
-      one.reported.closes ∙ (same_closing one.bundle its.bundle same (map numbers_of one.histories) ∙ (ap (λ n. closing_of (run_phases its.bundle n)) numbers ∙ sym its.reported.closes)),
+    let numbers = same_numbers one.bundle its.bundle (same_run one.bundle its.bundle same) one.histories its.histories (as_many_runs one.bundle its.bundle same one.bundle.runs its.bundle.runs same.runs) as_many one.reported.lawful says.rise its.reported.lawful also.rise in
+    same_facts one.bundle its.bundle same (map numbers_of one.histories) ∙ ap (report_facts its.bundle) numbers
+
+one_report : (format : Format) (input text other : List ℕ) (closing closing_of_other : Closing) → ReportsInOrder format input text closing → ReportsInOrder format input other closing_of_other → (text ≡ other) × (closing ≡ closing_of_other)
+one_report format input text other closing closing_of_other says also =
+    let facts = one_report_facts format format input text other closing closing_of_other says also in (
+      one_printed format _ _ _ _ text other (ap report_text facts) (ap report_data facts) says.reports.reported.is also.reports.reported.is,
+      says.reports.reported.closes ∙ (ap (λ facts. closing_of (phases_of facts)) facts ∙ sym also.reports.reported.closes),
     )
 
-pub one_text : (command : Command) (input text other : List ℕ) (closing closing_of_other : Closing) → ((workers : ℕ) → command ≢ commands.Run workers) → Says command input text closing → Says command input other closing_of_other
+pub one_text : (command : Command) (input text other : List ℕ) (closing closing_of_other : Closing) → ((workers : ℕ) (format : Format) → command ≢ commands.Run workers format) → Says command input text closing → Says command input other closing_of_other
     → (text ≡ other) × (closing ≡ closing_of_other)
-one_text commands.Eval input text other closing closing_of_other not_run says also = (one_line input text other closing closing_of_other says also, says.1 ∙ sym also.1)
-one_text commands.Check input text other closing closing_of_other not_run says also = (one_check input text other closing closing_of_other says also, says.1 ∙ sym also.1)
+one_text (commands.Eval format) input text other closing closing_of_other not_run says also = (one_line format input text other closing closing_of_other says also, says.1 ∙ sym also.1)
+one_text (commands.Check format) input text other closing closing_of_other not_run says also = (one_check format input text other closing closing_of_other says also, says.1 ∙ sym also.1)
 one_text commands.List input text other closing closing_of_other not_run says also = (one_listing input text other closing closing_of_other says also, says.1 ∙ sym also.1)
-one_text (commands.Run workers) input text other closing closing_of_other not_run says also = absurd (not_run workers refl)
-one_text commands.Plain input text other closing closing_of_other not_run says also = one_report input text other closing closing_of_other says also
-one_text (commands.Ordered workers) input text other closing closing_of_other not_run says also = one_report input text other closing closing_of_other says also
+one_text (commands.Run workers format) input text other closing closing_of_other not_run says also = absurd (not_run workers format refl)
+one_text (commands.Plain format) input text other closing closing_of_other not_run says also = one_report format input text other closing closing_of_other says also
+one_text (commands.Ordered workers format) input text other closing closing_of_other not_run says also = one_report format input text other closing closing_of_other says also
 
-pub ordered_is_plain : (workers : ℕ) (input text other : List ℕ) (closing closing_of_other : Closing) → Says (commands.Ordered workers) input text closing → Says commands.Plain input other closing_of_other
+pub ordered_is_plain : (workers : ℕ) (format : Format) (input text other : List ℕ) (closing closing_of_other : Closing) → Says (commands.Ordered workers format) input text closing → Says (commands.Plain format) input other closing_of_other
     → (text ≡ other) × (closing ≡ closing_of_other)
-ordered_is_plain workers input text other closing closing_of_other says also = one_report input text other closing closing_of_other says also
+ordered_is_plain workers format input text other closing closing_of_other says also = one_report format input text other closing closing_of_other says also
+
+pub same_facts_in_formats : (input words written : List ℕ) (closing closing_of_other : Closing) → Says (commands.Plain formats.Text) input words closing → Says (commands.Plain formats.Json) input written closing_of_other
+    → AreOfSameRuns words written × (closing ≡ closing_of_other)
+same_facts_in_formats input words written closing closing_of_other says also =
+    let facts = one_report_facts formats.Text formats.Json input words written closing closing_of_other says also in (
+      record {
+        runs = report_facts also.reports.bundle (map numbers_of also.reports.histories);
+        as_words = says.reports.reported.is ∙ ap report_text facts;
+        as_object = also.reports.reported.is;
+      },
+      says.reports.reported.closes ∙ (ap (λ facts. closing_of (phases_of facts)) facts ∙ sym also.reports.reported.closes),
+    )

@@ -26,11 +26,16 @@ use Rattle.serde_json.specs.Data.{Data}
 use Rattle.ar_eval.specs.Evaluation.{Prepared}
 use Rattle.ar_eval.specs.Evaluation as evaluation
 use Rattle.ar_eval.specs.declared.eval.EvalError.{EvalError}
-use Rattle.ar_report.specs.Check.{bounds_text, condition_name, condition_text, judge_text, judges_text, listed_text, runs_text, verified_if_there}
+use Rattle.serde_json.specs.Written.{compact_text}
+use Rattle.ar_report.specs.Check.{check_text, list_text}
+use Rattle.ar_report.specs.Facts.{check_facts, facts_if_there, facts_of_conditions, facts_of_judges, judge_facts, verified_if_there}
+use Rattle.ar_report.specs.ReportData.{answer_data, check_data}
 use Rattle.ar_command.specs.Alike.{AreSameConditions, AreSameJudges, AreSameRuns, IsSameBundle, IsSameCondition, IsSameRun}
-use Rattle.ar_command.specs.Serving.{Says, line_of}
+use Rattle.ar_command.specs.Serving.{IsPrinted, Says, line_of}
 use Rattle.ar_command.specs.declared.serving.Closing.{Closing}
 use Rattle.ar_command_line.specs.declared.command_line.Command.TheVariants as commands
+use Rattle.ar_command_line.specs.declared.command_line.Format.{Format}
+use Rattle.ar_command_line.specs.declared.command_line.Format.TheVariants as formats
 
 -- ---- one bundle
 
@@ -110,66 +115,63 @@ one_bundle input one other is also = of_json (json_in input) one other is.follow
 
 -- ---- what is shown of it
 
-module _ (text : Verified → List ℕ) (alike : (one other : Condition) → IsSameCondition one other → text one.verified ≡ text other.verified) where
-  same_condition_text : (name : List ℕ) (one other : Option Condition) → AreSameConditions one other → condition_text text name (verified_if_there one) ≡ condition_text text name (verified_if_there other)
-  same_condition_text name (Some one) (Some other) same = ap (λ shown. name ++ shown) (alike one other same)
-  same_condition_text name (Some one) None same = absurd same
-  same_condition_text name None (Some other) same = absurd same
-  same_condition_text name None None same = refl
+same_facts_if_there : (run metric which : List ℕ) (one other : Option Condition) → AreSameConditions one other → facts_if_there run metric which (verified_if_there one) ≡ facts_if_there run metric which (verified_if_there other)
+same_facts_if_there run metric which (Some one) (Some other) same = let code = same.code in let budget = same.budget in let depth = same.depth in rw (code, budget, depth) refl
+same_facts_if_there run metric which (Some one) None same = absurd same
+same_facts_if_there run metric which None (Some other) same = absurd same
+same_facts_if_there run metric which None None same = refl
 
-  same_judges_text : (run : List ℕ) (metrics others : List MetricPart) (one other : List Judge) → map metric_view metrics ≡ map metric_view others → AreSameJudges one other
-      → judges_text text run metrics one ≡ judges_text text run others other
-  same_judges_text run [] [] one other named same = refl
-  same_judges_text run [] (metric ∷ others) one other named same = absurd cc
-  same_judges_text run (metric ∷ metrics) [] one other named same = absurd cc
-  same_judges_text run (metric ∷ metrics) (its ∷ others) [] [] named same = refl
-  same_judges_text run (metric ∷ metrics) (its ∷ others) [] (judge ∷ other) named same = absurd same
-  same_judges_text run (metric ∷ metrics) (its ∷ others) (judge ∷ one) [] named same = absurd same
-  same_judges_text run (metric ∷ metrics) (its ∷ others) (judge ∷ one) (also ∷ other) named same =
-      let head : metric_view metric ≡ metric_view its = cc in
-      let rest : map metric_view metrics ≡ map metric_view others = cc in
-      let name : metric.name ≡ its.name = ap (λ (m : Metric). m.name) head in
-      let success = same_condition_text (condition_name run its.name (codes "success")) judge.success also.success same.0.0 in
-      let failure = same_condition_text (condition_name run its.name (codes "failure")) judge.failure also.failure same.0.1 in
-      let own : judge_text text run metric.name judge ≡ judge_text text run its.name also = rw name (rw success (rw failure refl)) in
-      let later = same_judges_text run metrics others one other rest same.1 in
-      rw own (rw later refl)
+same_facts_of_judges : (run : List ℕ) (metrics others : List MetricPart) (one other : List Judge) → map metric_view metrics ≡ map metric_view others → AreSameJudges one other → facts_of_judges run metrics one ≡ facts_of_judges run others other
+same_facts_of_judges run [] [] one other named same = refl
+same_facts_of_judges run [] (metric ∷ others) one other named same = absurd cc
+same_facts_of_judges run (metric ∷ metrics) [] one other named same = absurd cc
+same_facts_of_judges run (metric ∷ metrics) (its ∷ others) [] [] named same = refl
+same_facts_of_judges run (metric ∷ metrics) (its ∷ others) [] (judge ∷ other) named same = absurd same
+same_facts_of_judges run (metric ∷ metrics) (its ∷ others) (judge ∷ one) [] named same = absurd same
+same_facts_of_judges run (metric ∷ metrics) (its ∷ others) (judge ∷ one) (also ∷ other) named same =
+    let head : metric_view metric ≡ metric_view its = cc in
+    let rest : map metric_view metrics ≡ map metric_view others = cc in
+    let name : metric.name ≡ its.name = ap (λ (m : Metric). m.name) head in
+    let success = same_facts_if_there run its.name (codes "success") judge.success also.success same.0.0 in
+    let failure = same_facts_if_there run its.name (codes "failure") judge.failure also.failure same.0.1 in
+    let own : judge_facts run metric.name judge ≡ judge_facts run its.name also = rw name (rw success (rw failure refl)) in
+    let later = same_facts_of_judges run metrics others one other rest same.1 in
+    rw own (rw later refl)
 
-  same_runs_text : (metrics others : List MetricPart) (one other : List RunPart) → map metric_view metrics ≡ map metric_view others → AreSameRuns one other → runs_text text metrics one ≡ runs_text text others other
-  same_runs_text metrics others [] [] named same = refl
-  same_runs_text metrics others [] (also ∷ other) named same = absurd same
-  same_runs_text metrics others (run ∷ one) [] named same = absurd same
-  same_runs_text metrics others (run ∷ one) (also ∷ other) named same =
-      let name = same.0.name in
-      let own : judges_text text run.name metrics run.judges ≡ judges_text text also.name others also.judges = rw name (same_judges_text also.name metrics others run.judges also.judges named same.0.judges) in
-      let later = same_runs_text metrics others one other named same.1 in
-      rw own (rw later refl)
+same_facts_of_conditions : (metrics others : List MetricPart) (one other : List RunPart) → map metric_view metrics ≡ map metric_view others → AreSameRuns one other → facts_of_conditions metrics one ≡ facts_of_conditions others other
+same_facts_of_conditions metrics others [] [] named same = refl
+same_facts_of_conditions metrics others [] (also ∷ other) named same = absurd same
+same_facts_of_conditions metrics others (run ∷ one) [] named same = absurd same
+same_facts_of_conditions metrics others (run ∷ one) (also ∷ other) named same =
+    let name = same.0.name in
+    let own : facts_of_judges run.name metrics run.judges ≡ facts_of_judges also.name others also.judges = rw name (same_facts_of_judges also.name metrics others run.judges also.judges named same.0.judges) in
+    let later = same_facts_of_conditions metrics others one other named same.1 in
+    rw own (rw later refl)
 
-  pub same_shown : (one other : Bundle) → IsSameBundle one other → runs_text text one.metrics one.runs ≡ runs_text text other.metrics other.runs
-  same_shown one other same = same_runs_text one.metrics other.metrics one.runs other.runs same.metrics same.runs
-
-same_bounds_text : (one other : Condition) → IsSameCondition one other → bounds_text one.verified ≡ bounds_text other.verified
-unfolding bounds_text
-same_bounds_text one other same = let code = same.code in let budget = same.budget in let depth = same.depth in rw (code, budget, depth) refl
-
-same_listed_text : (one other : Condition) → IsSameCondition one other → listed_text one.verified ≡ listed_text other.verified
-unfolding listed_text
-same_listed_text one other same = let code = same.code in rw code refl
+same_check_facts : (one other : Bundle) → IsSameBundle one other → check_facts one ≡ check_facts other
+same_check_facts one other same = same_facts_of_conditions one.metrics other.metrics one.runs other.runs same.metrics same.runs
 
 -- ---- one text
 
-pub one_check : (input text other : List ℕ) (closing closing_of_other : Closing) → Says commands.Check input text closing → Says commands.Check input other closing_of_other → text ≡ other
-one_check input text other closing closing_of_other says also =
-    says.0.is ∙ same_shown bounds_text same_bounds_text says.0.bundle also.0.bundle (one_bundle input says.0.bundle also.0.bundle says.0.reads also.0.reads) ∙ sym also.0.is
+-- what is printed of the same is the same
+pub one_printed : (format : Format) (words its_words : List ℕ) (written its_written : Data) (text other : List ℕ) → words ≡ its_words → written ≡ its_written → IsPrinted format words written text → IsPrinted format its_words its_written other → text ≡ other
+one_printed formats.Text words its_words written its_written text other same same_written is also = is ∙ (same ∙ sym also)
+one_printed formats.Json words its_words written its_written text other same same_written is also = is.is ∙ (ap (λ written. compact_text written ++ codes "\n") same_written ∙ sym also.is)
+
+pub one_check : (format : Format) (input text other : List ℕ) (closing closing_of_other : Closing) → Says (commands.Check format) input text closing → Says (commands.Check format) input other closing_of_other → text ≡ other
+one_check format input text other closing closing_of_other says also =
+    let same = same_check_facts says.0.bundle also.0.bundle (one_bundle input says.0.bundle also.0.bundle says.0.reads also.0.reads) in
+    one_printed format _ _ _ _ text other (ap check_text same) (ap check_data same) says.0.is also.0.is
 
 pub one_listing : (input text other : List ℕ) (closing closing_of_other : Closing) → Says commands.List input text closing → Says commands.List input other closing_of_other → text ≡ other
 one_listing input text other closing closing_of_other says also =
-    says.0.is ∙ same_shown listed_text same_listed_text says.0.bundle also.0.bundle (one_bundle input says.0.bundle also.0.bundle says.0.reads also.0.reads) ∙ sym also.0.is
+    says.0.is ∙ (ap list_text (same_check_facts says.0.bundle also.0.bundle (one_bundle input says.0.bundle also.0.bundle says.0.reads also.0.reads)) ∙ sym also.0.is)
 
 one_answer : (given : Result Prepared EvalError) (one other : Result Bool Fault) → evaluation.Follows given (Ok one) → evaluation.Follows given (Ok other) → one ≡ other
 one_answer (Ok given) one other is also = let meant = is.1 in let meant_also = also.1 in cc
 one_answer (Err fault) one other is also = absurd cc
 
-pub one_line : (input text other : List ℕ) (closing closing_of_other : Closing) → Says commands.Eval input text closing → Says commands.Eval input other closing_of_other → text ≡ other
-one_line input text other closing closing_of_other says also =
-    says.0.is ∙ ap line_of (one_answer (evaluation.prepared_input input) says.0.answer also.0.answer says.0.evaluates.follows also.0.evaluates.follows) ∙ sym also.0.is
+pub one_line : (format : Format) (input text other : List ℕ) (closing closing_of_other : Closing) → Says (commands.Eval format) input text closing → Says (commands.Eval format) input other closing_of_other → text ≡ other
+one_line format input text other closing closing_of_other says also =
+    let same = one_answer (evaluation.prepared_input input) says.0.answer also.0.answer says.0.evaluates.follows also.0.evaluates.follows in
+    one_printed format _ _ _ _ text other (ap line_of same) (ap answer_data same) says.0.is also.0.is

@@ -15,21 +15,22 @@ use Rattle.ar_command.specs.declared.serving.ServeError.{ServeError}
 use Rattle.ar_command.specs.declared.serving.ServeError.TheVariants.{OutOfMemory, Read, Refused, Work, Write}
 use Rattle.ar_command_line.specs.declared.command_line.Command.{Command}
 use Rattle.ar_command_line.specs.declared.command_line.Command.TheVariants as commands
+use Rattle.ar_command_line.specs.declared.command_line.Format.{Format}
 
 pub lawful : (bundle : Bundle) (histories : List (List Entry)) → AreLawful bundle histories → AreHistoriesSoFar bundle histories
 lawful = lawful_are_so_far
 
-pub in_order : (input text : List ℕ) (closing : Closing) (bundle : Bundle) (histories : List (List Entry)) → ReadsInput input (Ok bundle) → AllRise histories → IsReported bundle histories text closing → ReportsInOrder input text closing
-in_order input text closing bundle histories reads rise reported = record { reports = record { bundle = bundle; reads = reads; histories = histories; reported = reported }; rise = rise }
+pub in_order : (format : Format) (input text : List ℕ) (closing : Closing) (bundle : Bundle) (histories : List (List Entry)) → ReadsInput input (Ok bundle) → AllRise histories → IsReported format bundle histories text closing → ReportsInOrder format input text closing
+in_order format input text closing bundle histories reads rise reported = record { reports = record { bundle = bundle; reads = reads; histories = histories; reported = reported }; rise = rise }
 
 -- what is said of the bundle of an input is said of the input
-module _ (command : Command) (workers : ℕ) (input : List ℕ) (bundle : Bundle) (reads : ReadsInput input (Ok bundle)) where
-  pub posted_says : command ≡ commands.Run workers → (result : Result Said ServeError) → IfOk result (λ said. (histories : List (List Entry)) × IsReported bundle histories (string_bytes said.text) said.closing) → IfOk result (λ said. Says command input (string_bytes said.text) said.closing)
+module _ (command : Command) (workers : ℕ) (format : Format) (input : List ℕ) (bundle : Bundle) (reads : ReadsInput input (Ok bundle)) where
+  pub posted_says : command ≡ commands.Run workers format → (result : Result Said ServeError) → IfOk result (λ said. (histories : List (List Entry)) × IsReported format bundle histories (string_bytes said.text) said.closing) → IfOk result (λ said. Says command input (string_bytes said.text) said.closing)
   posted_says is (Ok said) run = subst (λ command. Says command input (string_bytes said.text) said.closing) (sym is) (record { bundle = bundle; reads = reads; histories = run.0; reported = run.1 })
   posted_says is (Err error) run = tt
 
-  pub in_order_says : command ≡ commands.Ordered workers → (result : Result Said ServeError) → IfOk result (λ said. (histories : List (List Entry)) × AllRise histories × IsReported bundle histories (string_bytes said.text) said.closing) → IfOk result (λ said. Says command input (string_bytes said.text) said.closing)
-  in_order_says is (Ok said) run = subst (λ command. Says command input (string_bytes said.text) said.closing) (sym is) (in_order input (string_bytes said.text) said.closing bundle run.0 reads run.1 run.2)
+  pub in_order_says : command ≡ commands.Ordered workers format → (result : Result Said ServeError) → IfOk result (λ said. (histories : List (List Entry)) × AllRise histories × IsReported format bundle histories (string_bytes said.text) said.closing) → IfOk result (λ said. Says command input (string_bytes said.text) said.closing)
+  in_order_says is (Ok said) run = subst (λ command. Says command input (string_bytes said.text) said.closing) (sym is) (in_order format input (string_bytes said.text) said.closing bundle run.0 reads run.1 run.2)
   in_order_says is (Err error) run = tt
 
 -- and why its workers ended

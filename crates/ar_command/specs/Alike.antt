@@ -1,4 +1,4 @@
--- Bundles that are the same but for where their parts are in memory.
+-- Bundles that are the same but for where their parts are in memory, and reports that are of the same runs.
 use Rattle.std.specs.Prelude.{◌≡◌, List, [], ◌∷◌, Option, map}
 use Rattle.ar_value.specs.Answer.{BothOrNeither}
 use Rattle.ar_value.specs.View.{shape_view}
@@ -8,6 +8,10 @@ use Rattle.ar_bundle.specs.Bundle.{Bundle}
 use Rattle.ar_bundle.specs.declared.bundle.RunPart.{RunPart}
 use Rattle.ar_document.specs.Entries.{entry_view}
 use Rattle.ar_document.specs.Opening.{metric_view}
+use Rattle.ar_report.specs.Facts.{RunFacts}
+use Rattle.ar_value.specs.Terms.{Text}
+use Rattle.ar_command.specs.Serving.{IsReport}
+use Rattle.ar_command_line.specs.declared.command_line.Format.TheVariants as formats
 
 -- conditions with one text, code and shape, and with the same bounds
 pub record IsSameCondition (one other : Condition) : Type 0 where
@@ -41,3 +45,9 @@ pub record IsSameBundle (one other : Bundle) : Type 0 where
   pub metrics : map metric_view one.metrics ≡ map metric_view other.metrics
   pub runs : AreSameRuns one.runs other.runs
   pub entries : map entry_view one.entries ≡ map entry_view other.entries
+
+-- a text report and a JSON report of the same facts of runs
+pub record AreOfSameRuns (words object : Text) : Type 0 where
+  pub runs : List RunFacts
+  pub as_words : IsReport formats.Text runs words
+  pub as_object : IsReport formats.Json runs object

@@ -10,8 +10,11 @@ use Rattle.ar_limits.specs.declared.phase.Phase.{Phase}
 use Rattle.ar_bundle.specs.Bundle.{Bundle}
 use Rattle.ar_bundle.specs.Lawful.{AllRise, AreLawful, numbers_of}
 use Rattle.ar_bundle.specs.declared.history.Entry.{Entry}
+use Rattle.serde_json.specs.Data.{Data}
 use Rattle.ar_report.specs.Check.{check_text, list_text}
-use Rattle.ar_report.specs.Report.{report, run_phases}
+use Rattle.ar_report.specs.Facts.{RunFacts, check_facts, phases_of, report_facts}
+use Rattle.ar_report.specs.Report.{report_text}
+use Rattle.ar_report.specs.ReportData.{IsJsonLine, answer_data, check_data, report_data}
 use Rattle.ar_document.specs.Document as document
 use Rattle.ar_document.specs.declared.error.BundleError.{BundleError}
 use Rattle.ar_document.specs.declared.error.BundleError.TheVariants as bundle
@@ -25,6 +28,8 @@ use Rattle.ar_command.specs.declared.serving.Closing.{Closing}
 use Rattle.ar_command.specs.declared.serving.Closing.TheVariants.{Good, Bad}
 use Rattle.ar_command_line.specs.declared.command_line.Command.{Command}
 use Rattle.ar_command_line.specs.declared.command_line.Command.TheVariants as commands
+use Rattle.ar_command_line.specs.declared.command_line.Format.{Format}
+use Rattle.ar_command_line.specs.declared.command_line.Format.TheVariants as formats
 use Rattle.ar_command.specs.declared.serving.Refusal.{Refusal}
 use Rattle.ar_command.specs.declared.serving.Refusal.TheVariants as refusals
 use Rattle.ar_command.specs.declared.serving.ServeError.{ServeError}
@@ -41,48 +46,63 @@ line_of (Ok true) = codes "true\n"
 line_of (Ok false) = codes "false\n"
 line_of (Err fault) = codes "fault " ++ (fault_name fault ++ codes "\n")
 
+-- the text of what has these words, and as JSON is this object
+abbrev pub IsPrinted : Format → (words : Text) → (as_json : Data) → (text : Text) → Type 0
+IsPrinted formats.Text words as_json text = text ≡ words
+IsPrinted formats.Json words as_json text = IsJsonLine as_json text
+
 -- a line is written for an input
-pub record Writes (input line : List ℕ) : Type 0 where
+pub record Writes (format : Format) (input : Bytes) (line : Text) : Type 0 where
   pub answer : Result Bool Fault
   pub evaluates : Evaluates input (Ok answer)
-  pub is : line ≡ line_of answer
+  pub is : IsPrinted format (line_of answer) (answer_data answer) line
 
 -- a text that shows the bundle of an input
-pub record Shows (show : Bundle → List ℕ) (input : Bytes) (text : Text) : Type 0 where
+pub record Shows (IsShown : Bundle → Text → Type 0) (input : Bytes) (text : Text) : Type 0 where
   pub bundle : Bundle
   pub reads : document.ReadsInput input (Ok bundle)
-  pub is : text ≡ show bundle
+  pub is : IsShown bundle text
+
+abbrev pub IsChecked : Format → Bundle → (text : Text) → Type 0
+IsChecked format bundle text = IsPrinted format (check_text (check_facts bundle)) (check_data (check_facts bundle)) text
+
+abbrev pub IsListed : Bundle → (text : Text) → Type 0
+IsListed bundle text = text ≡ list_text (check_facts bundle)
 
 -- Bad where a run is Failed, Error or Inconclusive
 abbrev pub closing_of : List Phase → Closing
 closing_of phases = if list_any is_unsuccessful phases then Bad else Good
 
+abbrev pub IsReport : Format → List RunFacts → (text : Text) → Type 0
+IsReport format runs text = IsPrinted format (report_text runs) (report_data runs) text
+
 -- the report of lawful histories of a bundle, and the closing by the phases in it
-pub record IsReported (bundle : Bundle) (histories : List (List Entry)) (text : Text) (closing : Closing) : Type 0 where
+pub record IsReported (format : Format) (bundle : Bundle) (histories : List (List Entry)) (text : Text)
+    (closing : Closing) : Type 0 where
   pub lawful : AreLawful bundle histories
-  pub is : text ≡ report bundle (map numbers_of histories)
-  pub closes : closing ≡ closing_of (run_phases bundle (map numbers_of histories))
+  pub is : IsReport format (report_facts bundle (map numbers_of histories)) text
+  pub closes : closing ≡ closing_of (phases_of (report_facts bundle (map numbers_of histories)))
 
 -- a report of the bundle of an input, for some lawful histories
-pub record Reports (input : Bytes) (text : Text) (closing : Closing) : Type 0 where
+pub record Reports (format : Format) (input : Bytes) (text : Text) (closing : Closing) : Type 0 where
   pub bundle : Bundle
   pub reads : document.ReadsInput input (Ok bundle)
   pub histories : List (List Entry)
-  pub reported : IsReported bundle histories text closing
+  pub reported : IsReported format bundle histories text closing
 
 -- for some in which numbers rise
-pub record ReportsInOrder (input : Bytes) (text : Text) (closing : Closing) : Type 0 where
-  pub reports : Reports input text closing
+pub record ReportsInOrder (format : Format) (input : Bytes) (text : Text) (closing : Closing) : Type 0 where
+  pub reports : Reports format input text closing
   pub rise : AllRise reports.histories
 
 -- what a command writes for an input, and how it closes
 abbrev pub Says : Command → (input : Bytes) (text : Text) → Closing → Type 0
-Says commands.Eval input text closing = Writes input text × (closing ≡ Good)
-Says commands.Check input text closing = Shows check_text input text × (closing ≡ Good)
-Says commands.List input text closing = Shows list_text input text × (closing ≡ Good)
-Says (commands.Run workers) input text closing = Reports input text closing
-Says commands.Plain input text closing = ReportsInOrder input text closing
-Says (commands.Ordered workers) input text closing = ReportsInOrder input text closing
+Says (commands.Eval format) input text closing = Writes format input text × (closing ≡ Good)
+Says (commands.Check format) input text closing = Shows (IsChecked format) input text × (closing ≡ Good)
+Says commands.List input text closing = Shows IsListed input text × (closing ≡ Good)
+Says (commands.Run workers format) input text closing = Reports format input text closing
+Says (commands.Plain format) input text closing = ReportsInOrder format input text closing
+Says (commands.Ordered workers format) input text closing = ReportsInOrder format input text closing
 
 -- a command was carried out: what it says of the bytes that were taken was written
 pub record IsCarriedOut (command : Command) (taken_before taken_after contents_before contents_after : Option (List ℕ))
@@ -115,8 +135,8 @@ pub record WritesFront (command : Command) (contents_before contents_after : Opt
 
 -- the first fault of an input for a command
 abbrev pub RefusesInput : Command → (input : Bytes) → Refusal → Type 0
-RefusesInput commands.Eval input (refusals.Eval fault) = Evaluates input (Err fault)
-RefusesInput commands.Eval input (refusals.Bundle error) = ⊥
+RefusesInput (commands.Eval format) input (refusals.Eval fault) = Evaluates input (Err fault)
+RefusesInput (commands.Eval format) input (refusals.Bundle error) = ⊥
 RefusesInput command input (refusals.Bundle error) = document.ReadsInput input (Err error)
 RefusesInput command input (refusals.Eval fault) = ⊥
 
@@ -131,19 +151,19 @@ pub record RefusesTaken (command : Command) (taken_before taken_after : Option (
 
 -- a command for workers, and how many
 abbrev pub RunsWith : Command → (most_workers : ℕ) → Type 0
-RunsWith (commands.Run workers) most_workers = (1 ≤ workers) × (workers ≤ most_workers)
-RunsWith (commands.Ordered workers) most_workers = (1 ≤ workers) × (workers ≤ most_workers)
+RunsWith (commands.Run workers format) most_workers = (1 ≤ workers) × (workers ≤ most_workers)
+RunsWith (commands.Ordered workers format) most_workers = (1 ≤ workers) × (workers ≤ most_workers)
 RunsWith command most_workers = ⊥
 
 -- a command for one thread
 abbrev pub RunsAlone : Command → Type 0
-RunsAlone (commands.Run workers) = ⊥
-RunsAlone (commands.Ordered workers) = ⊥
+RunsAlone (commands.Run workers format) = ⊥
+RunsAlone (commands.Ordered workers format) = ⊥
 RunsAlone command = Unit {0}
 
 -- why the workers of a command give no histories: where a number was lost this is shown, and an ordered run loses none
 abbrev pub IsCauseOf : Command → Bundle → WorkError → Type 0
-IsCauseOf (commands.Ordered workers) bundle error = IsNotLost error
+IsCauseOf (commands.Ordered workers format) bundle error = IsNotLost error
 IsCauseOf command bundle error = IsWorkCause bundle error
 
 -- and so no report of the bundle of an input; out of memory is returned as such

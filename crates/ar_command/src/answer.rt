@@ -3,24 +3,25 @@
 ghost use Rattle.std.specs.Prelude.{◌≡◌, ◌≤◌, Err, IfOk, List, map, string_bytes};
 ghost use Rattle.std.specs.List.{list_any};
 ghost use Rattle.ar_value.specs.Answer.{IfRefused};
-ghost use Rattle.ar_bundle.specs.Lawful.{AllRise, AreLawful};
+ghost use Rattle.ar_bundle.specs.Lawful.{AllRise, AreLawful, numbers_of};
 ghost use Rattle.ar_bundle.specs.declared.history.Entry.{Entry};
 ghost use Rattle.ar_limits.specs.Metric.{is_unsuccessful};
-ghost use Rattle.ar_report.specs.Check.{check_text, list_text};
+ghost use Rattle.ar_report.specs.Facts.{report_facts};
+ghost use Rattle.ar_report.specs.ReportData.{answer_data};
 ghost use Rattle.ar_command.specs.Private.Refusing.{Names, NamesRefusal, NamesWork, is_serve_memory};
-ghost use Rattle.ar_command.specs.Serving.{Breaks, IsCauseOf, IsReported, RefusesInput, ReportsInOrder, RunsAlone, RunsWith, Says, closing_of, line_of};
+ghost use Rattle.ar_command.specs.Serving.{Breaks, IsCauseOf, IsChecked, IsPrinted, IsReport, IsReported, RefusesInput, ReportsInOrder, RunsAlone, RunsWith, Says, closing_of, line_of};
 ghost use Rattle.ar_command.specs.declared.serving.Closing.TheVariants.{Good};
 ghost use Rattle.ar_command_line.specs.declared.command_line.Command.TheVariants as commands;
 
 use crate::serving::{Closing, ServeError};
 use ar_board::MOST_WORKERS;
 use ar_bundle::{Bundle, Histories, run_plain};
-use ar_command_line::Command;
+use ar_command_line::{Command, Format};
 use ar_document::read_bundle;
 use ar_eval::evaluate;
 use ar_limits::Phase;
 use ar_machine::Answer;
-use ar_report::{check_text, list_text, report, run_phases};
+use ar_report::{answer_json, check_json, check_text, list_text, report, report_json, run_phases};
 use ar_workers::{Gate, run_all, run_ordered};
 use std::alloc::{AllocError, Global};
 use std::sync::Wait;
@@ -40,11 +41,11 @@ pub(crate) fn answer(alloc: Global, command: Command, input: &[u8]) -> Result<Sa
     ensures refused { IfRefused is_serve_memory result (NamesRefusal (RefusesInput command input.now)) }
 {
     match command {
-        Command::Eval => evaluated(alloc, input),
-        Command::Check => checked(alloc, input),
+        Command::Eval(format) => evaluated(alloc, format, input),
+        Command::Check(format) => checked(alloc, format, input),
         Command::List => listed(alloc, input),
-        Command::Plain => reported_in_order(alloc, input),
-        Command::Run(_) | Command::Ordered(_) => unreachable!(),
+        Command::Plain(format) => reported_in_order(alloc, format, input),
+        Command::Run(..) | Command::Ordered(..) => unreachable!(),
     }
 }
 
@@ -63,9 +64,11 @@ pub(crate) fn judged<G: Gate, R: Threads + Wait + Sync>(
 {
     let bundle = read_bundle(alloc, input)?;
     match command {
-        Command::Run(workers) => posted(rt, alloc, workers, &bundle, gate),
-        Command::Ordered(workers) => put_in_order(rt, alloc, workers, &bundle, gate),
-        Command::Eval | Command::Check | Command::List | Command::Plain => unreachable!(),
+        Command::Run(workers, format) => posted(rt, alloc, workers, format, &bundle, gate),
+        Command::Ordered(workers, format) => {
+            put_in_order(rt, alloc, workers, format, &bundle, gate)
+        }
+        Command::Eval(_) | Command::Check(_) | Command::List | Command::Plain(_) => unreachable!(),
     }
 }
 
@@ -74,16 +77,18 @@ fn posted<G: Gate, R: Threads + Wait + Sync>(
     rt: &R,
     alloc: Global,
     workers: usize,
+    format: Format,
     bundle: &Bundle,
     gate: &G,
 ) -> Result<Said, ServeError>
     requires { (1 ≤ workers) × (workers ≤ MOST_WORKERS) }
     ensures said { IfOk result (λ said. (histories : List (List Entry))
-        × IsReported bundle.now histories (string_bytes said.text) said.closing) }
-    ensures ends { IfRefused is_serve_memory result (NamesWork (IsCauseOf (commands.Run workers) bundle.now)) }
+        × IsReported format bundle.now histories (string_bytes said.text) said.closing) }
+    ensures ends { IfRefused is_serve_memory result
+        (NamesWork (IsCauseOf (commands.Run workers format) bundle.now)) }
 {
     let histories = run_all(rt, alloc, bundle, workers, gate)?;
-    Ok(report_of(alloc, bundle, &histories)?)
+    Ok(report_of(alloc, format, bundle, &histories)?)
 }
 
 /// What a run says whose workers judge and whose numbers are applied in their order.
@@ -91,16 +96,18 @@ fn put_in_order<G: Gate, R: Threads + Wait + Sync>(
     rt: &R,
     alloc: Global,
     workers: usize,
+    format: Format,
     bundle: &Bundle,
     gate: &G,
 ) -> Result<Said, ServeError>
     requires { (1 ≤ workers) × (workers ≤ MOST_WORKERS) }
     ensures said { IfOk result (λ said. (histories : List (List Entry)) × AllRise histories
-        × IsReported bundle.now histories (string_bytes said.text) said.closing) }
-    ensures ends { IfRefused is_serve_memory result (NamesWork (IsCauseOf (commands.Ordered workers) bundle.now)) }
+        × IsReported format bundle.now histories (string_bytes said.text) said.closing) }
+    ensures ends { IfRefused is_serve_memory result
+        (NamesWork (IsCauseOf (commands.Ordered workers format) bundle.now)) }
 {
     let histories = run_ordered(rt, alloc, bundle, workers, gate)?;
-    Ok(report_of(alloc, bundle, &histories)?)
+    Ok(report_of(alloc, format, bundle, &histories)?)
 }
 
 /// The line of what a condition says.
@@ -120,24 +127,48 @@ fn line(alloc: Global, answer: Answer) -> Result<String, AllocError>
     Ok(out)
 }
 
-fn evaluated(alloc: Global, input: &[u8]) -> Result<Said, ServeError>
-    ensures said { IfOk result (λ said. Says commands.Eval input.now (string_bytes said.text) said.closing) }
-    ensures refused { IfRefused is_serve_memory result (NamesRefusal (RefusesInput commands.Eval input.now)) }
+/// What a condition says, as it is to be written.
+fn answer_text(alloc: Global, format: Format, answer: Answer) -> Result<String, AllocError>
+    ensures { IfOk result
+        (λ text. IsPrinted format (line_of answer) (answer_data answer) (string_bytes text)) }
+{
+    match format {
+        Format::Text => line(alloc, answer),
+        Format::Json => answer_json(alloc, answer),
+    }
+}
+
+fn evaluated(alloc: Global, format: Format, input: &[u8]) -> Result<Said, ServeError>
+    ensures said { IfOk result
+        (λ said. Says (commands.Eval format) input.now (string_bytes said.text) said.closing) }
+    ensures refused { IfRefused is_serve_memory result (NamesRefusal (RefusesInput (commands.Eval format) input.now)) }
 {
     let answer = evaluate(alloc, input)?;
     Ok(Said {
-        text: line(alloc, answer)?,
+        text: answer_text(alloc, format, answer)?,
         closing: Closing::Good,
     })
 }
 
-fn checked(alloc: Global, input: &[u8]) -> Result<Said, ServeError>
-    ensures said { IfOk result (λ said. Says commands.Check input.now (string_bytes said.text) said.closing) }
-    ensures refused { IfRefused is_serve_memory result (NamesRefusal (RefusesInput commands.Check input.now)) }
+/// The bounds of a bundle's conditions, as they are to be written.
+fn bounds_text(alloc: Global, format: Format, bundle: &Bundle) -> Result<String, AllocError>
+    ensures { IfOk result (λ text. IsChecked format bundle.now (string_bytes text)) }
+{
+    match format {
+        Format::Text => check_text(alloc, bundle),
+        Format::Json => check_json(alloc, bundle),
+    }
+}
+
+fn checked(alloc: Global, format: Format, input: &[u8]) -> Result<Said, ServeError>
+    ensures said { IfOk result
+        (λ said. Says (commands.Check format) input.now (string_bytes said.text) said.closing) }
+    ensures refused { IfRefused is_serve_memory result
+        (NamesRefusal (RefusesInput (commands.Check format) input.now)) }
 {
     let bundle = read_bundle(alloc, input)?;
     Ok(Said {
-        text: check_text(alloc, &bundle)?,
+        text: bounds_text(alloc, format, &bundle)?,
         closing: Closing::Good,
     })
 }
@@ -153,30 +184,56 @@ fn listed(alloc: Global, input: &[u8]) -> Result<Said, ServeError>
     })
 }
 
-fn reported_in_order(alloc: Global, input: &[u8]) -> Result<Said, ServeError>
-    ensures said { IfOk result (λ said. ReportsInOrder input.now (string_bytes said.text) said.closing) }
-    ensures refused { IfRefused is_serve_memory result (NamesRefusal (RefusesInput commands.Plain input.now)) }
+fn reported_in_order(alloc: Global, format: Format, input: &[u8]) -> Result<Said, ServeError>
+    ensures said { IfOk result
+        (λ said. ReportsInOrder format input.now (string_bytes said.text) said.closing) }
+    ensures refused { IfRefused is_serve_memory result
+        (NamesRefusal (RefusesInput (commands.Plain format) input.now)) }
 {
     let bundle = read_bundle(alloc, input)?;
-    Ok(plain_report(alloc, &bundle)?)
+    Ok(plain_report(alloc, format, &bundle)?)
 }
 
 /// The report of a bundle's plain run.
-fn plain_report(alloc: Global, bundle: &Bundle) -> Result<Said, AllocError>
+fn plain_report(alloc: Global, format: Format, bundle: &Bundle) -> Result<Said, AllocError>
     ensures { IfOk result (λ said. (histories : List (List Entry)) × AllRise histories
-        × IsReported bundle.now histories (string_bytes said.text) said.closing) }
+        × IsReported format bundle.now histories (string_bytes said.text) said.closing) }
 {
     let histories = run_plain(alloc, bundle)?;
-    report_of(alloc, bundle, &histories)
+    report_of(alloc, format, bundle, &histories)
 }
 
-/// The report of lawful histories.
+/// The report of lawful histories, as it is to be written.
 #[tactic(auto, using(crate::proofs::Reporting::lawful))]
-fn report_of(alloc: Global, bundle: &Bundle, histories: &Histories) -> Result<Said, AllocError>
+fn report_text(
+    alloc: Global,
+    format: Format,
+    bundle: &Bundle,
+    histories: &Histories,
+) -> Result<String, AllocError>
     requires lawful { AreLawful bundle.now histories.now }
-    ensures { IfOk result (λ said. IsReported bundle.now histories.now (string_bytes said.text) said.closing) }
+    ensures { IfOk result
+        (λ text. IsReport format (report_facts bundle.now (map numbers_of histories.now)) (string_bytes text)) }
 {
-    let text = report(alloc, bundle, histories)?;
+    match format {
+        Format::Text => report(alloc, bundle, histories),
+        Format::Json => report_json(alloc, bundle, histories),
+    }
+}
+
+/// The report of lawful histories, and how it closes.
+#[tactic(auto, using(crate::proofs::Reporting::lawful))]
+fn report_of(
+    alloc: Global,
+    format: Format,
+    bundle: &Bundle,
+    histories: &Histories,
+) -> Result<Said, AllocError>
+    requires lawful { AreLawful bundle.now histories.now }
+    ensures { IfOk result
+        (λ said. IsReported format bundle.now histories.now (string_bytes said.text) said.closing) }
+{
+    let text = report_text(alloc, format, bundle, histories)?;
     let phases = run_phases(alloc, bundle, histories)?;
     Ok(Said {
         text,

@@ -4,14 +4,15 @@
 //! any reader and writer, and their contracts are the program's promise: what is written is what the
 //! command says of the bytes that were taken, or the input is refused by the first fault that is
 //! in it and nothing is written. Only out of memory, a failed read or write, a thread that can't be
-//! started and a lost number can keep them from that; after a failed write a front of it is written.
+//! started and a lost number can keep them from that; after a failed write a front of it is written. A command
+//! that has a [`Format`] says the facts of its lines of words as one JSON object, too.
 //! What is left to the program are the words of refusals and the exit status. What `eval` returns is
 //! `ar_eval`'s.
 //!
 //! - [`serving`]: a command, from the bytes read to the bytes written
 //! - `answer`: what each command says of an input
 //! - [`status`]: exit statuses
-//! - [`laws`]: that an input is one bundle, and has one text
+//! - [`laws`]: that an input is one bundle, and has one text in a format, and both formats the same facts of runs
 #![tactic(auto)]
 
 mod answer;
@@ -19,6 +20,6 @@ pub mod laws;
 pub mod serving;
 pub mod status;
 
-pub use ar_command_line::{Command, Device, DeviceFault, Kept, Sink, Source, write_output};
+pub use ar_command_line::{Command, Device, DeviceFault, Format, Kept, Sink, Source, write_output};
 pub use ar_eval::{EvalError, eval};
 pub use serving::{Closing, Refusal, ServeError, serve, serve_plain};

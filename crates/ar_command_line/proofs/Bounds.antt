@@ -9,11 +9,12 @@ use Rattle.clap.specs.Words.{Row, Text, first_of}
 use Rattle.clap.specs.ValueTests.{is_unsigned_in}
 use Rattle.clap.specs.declared.builder.value_parser.ValueParser.TheVariants as vp
 use Rattle.clap.proofs.ValueTestLemmas.{accepts-Accepts}
-use Rattle.ar_command_line.specs.CommandLine.{command_named, has_flag, named, number_of_workers, run_command, run_of, workers_of}
+use Rattle.ar_command_line.specs.CommandLine.{command_named, format_of, formatted, has_flag, named, number_of_workers, run_command, run_of, workers_of}
+use Rattle.ar_command_line.specs.declared.command_line.Format.{Format}
 use Rattle.ar_command_line.specs.declared.command_line.Command.{Command}
 use Rattle.ar_command_line.specs.declared.command_line.Command.TheVariants.{Eval, Check, List as ListCodes, Run, Plain, Ordered}
 use Rattle.ar_command_line.specs.declared.command_line.UsageError.{UsageError}
-use Rattle.ar_command_line.specs.declared.command_line.UsageError.TheVariants.{Words, Workers}
+use Rattle.ar_command_line.specs.declared.command_line.UsageError.TheVariants.{Words, Workers, Output}
 
 abbrev Bounds : ℕ → Type 0
 Bounds n = (1 ≤ n) × (n ≤ most_workers)
@@ -36,22 +37,23 @@ given_bounds (Some text) n is = number_bounds text n is
 
 -- a command that is one with n workers
 abbrev HasWorkers : Command → ℕ → Type 0
-HasWorkers Eval n = ⊥
-HasWorkers Check n = ⊥
+HasWorkers (Eval format) n = ⊥
+HasWorkers (Check format) n = ⊥
 HasWorkers ListCodes n = ⊥
-HasWorkers Plain n = ⊥
-HasWorkers (Run workers) n = workers ≡ n
-HasWorkers (Ordered workers) n = workers ≡ n
+HasWorkers (Plain format) n = ⊥
+HasWorkers (Run workers format) n = workers ≡ n
+HasWorkers (Ordered workers format) n = workers ≡ n
 
 abbrev Names : Result Command UsageError → ℕ → Type 0
 Names (Ok command) n = HasWorkers command n
 Names (Err error) n = ⊥
 
-run_of_bounds : (plain ordered : Bool) (workers n : ℕ) → Names (run_of plain ordered workers) n → workers ≡ n
-run_of_bounds false false workers n is = is
-run_of_bounds true false workers n is = absurd is
-run_of_bounds false true workers n is = is
-run_of_bounds true true workers n is = absurd is
+run_of_bounds : (plain ordered : Bool) (workers n : ℕ) (format : Option Format) → Names (option_map_or (run_of plain ordered workers) format (Err Output)) n → workers ≡ n
+run_of_bounds plain ordered workers n None is = absurd is
+run_of_bounds false false workers n (Some format) is = is
+run_of_bounds true false workers n (Some format) is = absurd is
+run_of_bounds false true workers n (Some format) is = is
+run_of_bounds true true workers n (Some format) is = absurd is
 
 run_bounds : (rows : List Row) (n : ℕ) → Names (run_command rows) n → Bounds n
 run_bounds rows n = go (workers_of rows) refl
@@ -62,18 +64,23 @@ run_bounds rows n = go (workers_of rows) refl
     ordered : Bool
     ordered = has_flag (codes "ordered") rows
 
-    go : (o : Option ℕ) → workers_of rows ≡ o → Names (option_map_or (run_of plain ordered) o (Err Workers)) n → Bounds n
+    go : (o : Option ℕ) → workers_of rows ≡ o → Names (option_map_or (λ workers. option_map_or (run_of plain ordered workers) (format_of rows) (Err Output)) o (Err Workers)) n → Bounds n
     go None are is = absurd is
-    go (Some k) are is = given_bounds (first_of (codes "workers") rows) n (are ∙ ap Some (run_of_bounds plain ordered k n is))
+    go (Some k) are is = given_bounds (first_of (codes "workers") rows) n (are ∙ ap Some (run_of_bounds plain ordered k n (format_of rows) is))
+
+-- a command that has a format and no workers
+none_named : (command : Format → Command) (n : ℕ) → ((format : Format) → HasWorkers (command format) n → ⊥) → (format : Option Format) → Names (option_map_or (λ format. Ok (command format)) format (Err Output)) n → ⊥
+none_named command n none None is = is
+none_named command n none (Some format) is = none format is
 
 named_bounds : (name : Text) (rows : List Row) (n : ℕ) → Names (named name rows) n → Bounds n
 named_bounds name rows n =
     go (bytes_eq name (codes "eval")) (bytes_eq name (codes "check")) (bytes_eq name (codes "list")) (bytes_eq name (codes "run")) (run_bounds rows n)
   where
     go : (a b c d : Bool) → (Names (run_command rows) n → Bounds n)
-        → Names (cond a (Ok Eval) (cond b (Ok Check) (cond c (Ok ListCodes) (cond d (run_command rows) (Err Words))))) n → Bounds n
-    go true b c d known is = absurd is
-    go false true c d known is = absurd is
+        → Names (cond a (formatted Eval rows) (cond b (formatted Check rows) (cond c (Ok ListCodes) (cond d (run_command rows) (Err Words))))) n → Bounds n
+    go true b c d known is = absurd (none_named Eval n (λ format has. has) (format_of rows) is)
+    go false true c d known is = absurd (none_named Check n (λ format has. has) (format_of rows) is)
     go false false true d known is = absurd is
     go false false false true known is = known is
     go false false false false known is = absurd is
@@ -88,10 +95,10 @@ in_bounds : (subcommand : Option (Text × List Row)) (r : Result Command UsageEr
 in_bounds subcommand (Ok own) command n reported is has = command_bounds subcommand n (subst (λ (named : Result Command UsageError). Names named n) (sym (reported ∙ is)) has)
 in_bounds subcommand (Err error) command n reported is has = cc
 
-pub run_in_bounds : (subcommand : Option (Text × List Row)) (r : Result Command UsageError) (n : ℕ)
-    → IfOk r (λ command. command_named subcommand ≡ Ok command) → r ≡ Ok (Run n) → Bounds n
-run_in_bounds subcommand r n reported is = in_bounds subcommand r (Run n) n reported is refl
+pub run_in_bounds : (subcommand : Option (Text × List Row)) (r : Result Command UsageError) (n : ℕ) (format : Format)
+    → IfOk r (λ command. command_named subcommand ≡ Ok command) → r ≡ Ok (Run n format) → Bounds n
+run_in_bounds subcommand r n format reported is = in_bounds subcommand r (Run n format) n reported is refl
 
-pub ordered_in_bounds : (subcommand : Option (Text × List Row)) (r : Result Command UsageError) (n : ℕ)
-    → IfOk r (λ command. command_named subcommand ≡ Ok command) → r ≡ Ok (Ordered n) → Bounds n
-ordered_in_bounds subcommand r n reported is = in_bounds subcommand r (Ordered n) n reported is refl
+pub ordered_in_bounds : (subcommand : Option (Text × List Row)) (r : Result Command UsageError) (n : ℕ) (format : Format)
+    → IfOk r (λ command. command_named subcommand ≡ Ok command) → r ≡ Ok (Ordered n format) → Bounds n
+ordered_in_bounds subcommand r n format reported is = in_bounds subcommand r (Ordered n format) n reported is refl

@@ -5,9 +5,10 @@ use Rattle.clap.specs.declared.error.kind.ErrorKind.TheVariants as kind
 use Rattle.clap.proofs.OnLiterals.{clap_on_literals}
 use Rattle.ar_command_line.specs.CommandLine.{application, command_named}
 use Rattle.ar_command_line.specs.declared.command_line.Command.{Command}
-use Rattle.ar_command_line.specs.declared.command_line.Command.TheVariants.{Eval, Run, Plain, Ordered}
+use Rattle.ar_command_line.specs.declared.command_line.Command.TheVariants.{Eval, Check, Run, Plain, Ordered}
+use Rattle.ar_command_line.specs.declared.command_line.Format.TheVariants as formats
 use Rattle.ar_command_line.specs.declared.command_line.UsageError.{UsageError}
-use Rattle.ar_command_line.specs.declared.command_line.UsageError.TheVariants.{Workers, Conflict}
+use Rattle.ar_command_line.specs.declared.command_line.UsageError.TheVariants.{Workers, Output, Conflict}
 
 -- what is returned for the words after the program's name, where `clap` finds no fault in them
 abbrev asked : List Text → Result Command UsageError
@@ -19,27 +20,27 @@ faults words = fault_of application (codes "argo_judge" ∷ words)
 abbrev run_with : Text → List Text
 run_with number = codes "run" ∷ codes "--workers" ∷ number ∷ []
 
-eval : (faults (codes "eval" ∷ []) ≡ []) × (asked (codes "eval" ∷ []) ≡ Ok Eval)
+eval : (faults (codes "eval" ∷ []) ≡ []) × (asked (codes "eval" ∷ []) ≡ Ok (Eval formats.Text))
 unfolding application clap_on_literals
 eval = (refl, refl)
 
-four : (faults (codes "run" ∷ []) ≡ []) × (asked (codes "run" ∷ []) ≡ Ok (Run 4))
+four : (faults (codes "run" ∷ []) ≡ []) × (asked (codes "run" ∷ []) ≡ Ok (Run 4 formats.Text))
 unfolding application clap_on_literals
 four = (refl, refl)
 
-two : (faults (run_with (codes "2")) ≡ []) × (asked (run_with (codes "2")) ≡ Ok (Run 2))
+two : (faults (run_with (codes "2")) ≡ []) × (asked (run_with (codes "2")) ≡ Ok (Run 2 formats.Text))
 unfolding application clap_on_literals
 two = (refl, refl)
 
-sixteen : (faults (codes "run" ∷ codes "--workers=16" ∷ []) ≡ []) × (asked (codes "run" ∷ codes "--workers=16" ∷ []) ≡ Ok (Run 16))
+sixteen : (faults (codes "run" ∷ codes "--workers=16" ∷ []) ≡ []) × (asked (codes "run" ∷ codes "--workers=16" ∷ []) ≡ Ok (Run 16 formats.Text))
 unfolding application clap_on_literals
 sixteen = (refl, refl)
 
-plain : (faults (codes "run" ∷ codes "--plain" ∷ []) ≡ []) × (asked (codes "run" ∷ codes "--plain" ∷ []) ≡ Ok Plain)
+plain : (faults (codes "run" ∷ codes "--plain" ∷ []) ≡ []) × (asked (codes "run" ∷ codes "--plain" ∷ []) ≡ Ok (Plain formats.Text))
 unfolding application clap_on_literals
 plain = (refl, refl)
 
-ordered : (asked (codes "run" ∷ codes "--ordered" ∷ []) ≡ Ok (Ordered 4)) × (asked (codes "run" ∷ codes "--workers" ∷ codes "2" ∷ codes "--ordered" ∷ []) ≡ Ok (Ordered 2))
+ordered : (asked (codes "run" ∷ codes "--ordered" ∷ []) ≡ Ok (Ordered 4 formats.Text)) × (asked (codes "run" ∷ codes "--workers" ∷ codes "2" ∷ codes "--ordered" ∷ []) ≡ Ok (Ordered 2 formats.Text))
 unfolding application clap_on_literals
 ordered = (refl, refl)
 
@@ -47,7 +48,7 @@ both : (faults (codes "run" ∷ codes "--ordered" ∷ codes "--plain" ∷ []) �
 unfolding application clap_on_literals
 both = (refl, refl)
 
-number_unused : asked (codes "run" ∷ codes "--plain" ∷ codes "--workers" ∷ codes "3" ∷ []) ≡ Ok Plain
+number_unused : asked (codes "run" ∷ codes "--plain" ∷ codes "--workers" ∷ codes "3" ∷ []) ≡ Ok (Plain formats.Text)
 unfolding application clap_on_literals
 number_unused = refl
 
@@ -75,3 +76,19 @@ twice = refl
 requests : (faults (codes "run" ∷ codes "--help" ∷ []) ≡ kind.DisplayHelp ∷ []) × (faults (codes "--version" ∷ []) ≡ kind.DisplayVersion ∷ [])
 unfolding application clap_on_literals
 requests = (refl, refl)
+
+as_json : (asked (codes "eval" ∷ codes "--output" ∷ codes "json" ∷ []) ≡ Ok (Eval formats.Json))
+    × (asked (codes "check" ∷ codes "--output=text" ∷ []) ≡ Ok (Check formats.Text))
+    × (asked (codes "run" ∷ codes "--ordered" ∷ codes "--output=json" ∷ []) ≡ Ok (Ordered 4 formats.Json))
+unfolding application clap_on_literals
+as_json = (refl, refl, refl)
+
+no_format : (asked (codes "check" ∷ codes "--output" ∷ codes "xml" ∷ []) ≡ Err Output)
+    × (asked (codes "run" ∷ codes "--workers=0" ∷ codes "--output=" ∷ []) ≡ Err Workers)
+    × (asked (codes "run" ∷ codes "--plain" ∷ codes "--ordered" ∷ codes "--output=JSON" ∷ []) ≡ Err Output)
+unfolding application clap_on_literals
+no_format = (refl, refl, refl)
+
+lists_have_none : faults (codes "list" ∷ codes "--output" ∷ codes "json" ∷ []) ≡ kind.UnknownArgument ∷ []
+unfolding application clap_on_literals
+lists_have_none = refl

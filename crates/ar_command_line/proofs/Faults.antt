@@ -1,6 +1,7 @@
 -- Where `clap` finds no fault in the words, they name a command, but for the number of workers.
 use Rattle.std.proofs.Common.{◌≡◌, ◌≢◌, Bool, true, false, List, [], ◌∷◌, Option, Some, None, Ok, Err, option_map, is_some, refl, ap, cond, find, ◌∙◌, sym, subst, Result, inl, inr, IfOk, codes, ℕ}
 use Rattle.std.specs.Prelude.{⊤, unwrap_or, IsErr}
+use Rattle.std.specs.Option.{option_map_or}
 use Rattle.std.specs.Result.{result_err}
 use Rattle.std.proofs.lemmas.Result.{IfOk-weaker}
 use Rattle.clap.specs.Words.{App, HasKind, HasMatchesOf, IsAmong, FailsBy, Kinds, Row, Shape, Text, fault_of, is_simple, is_simple_and_free, kind_of, subcommand_of, subcommand_rows_of}
@@ -13,10 +14,12 @@ use Rattle.clap.specs.declared.error.kind.ErrorKind.{ErrorKind}
 use Rattle.clap.specs.declared.error.kind.ErrorKind.TheVariants.{OutOfMemory}
 use Rattle.clap.specs.declared.parser.matches.ArgMatches.{ArgMatches}
 use Rattle.ar_command_line.proofs.Bounds.{ordered_in_bounds, run_in_bounds}
-use Rattle.ar_command_line.specs.CommandLine.{AsksForCommand, AsksForText, application, command_named, has_flag, is_request, named, of_kind, run_command, run_of, workers_of}
+use Rattle.ar_command_line.specs.CommandLine.{AsksForCommand, AsksForText, application, command_named, format_of, has_flag, is_request, named, of_kind, run_command, run_of, workers_of}
 use Rattle.ar_command_line.specs.declared.command_line.Command.{Command}
 use Rattle.ar_command_line.specs.declared.command_line.UsageError.{UsageError}
-use Rattle.ar_command_line.specs.declared.command_line.UsageError.TheVariants.{Words}
+use Rattle.ar_command_line.specs.declared.command_line.Command.TheVariants.{Eval, Check}
+use Rattle.ar_command_line.specs.declared.command_line.Format.{Format}
+use Rattle.ar_command_line.specs.declared.command_line.UsageError.TheVariants.{Words, Output}
 
 -- ---- the command line is one of those of which `clap` says what a parse gives
 
@@ -43,22 +46,27 @@ abbrev AllKnown : List Shape → Type 0
 AllKnown [] = ⊤
 AllKnown (s ∷ rest) = ((rows : List Row) → named s.name rows ≢ Err Words) × AllKnown rest
 
-no_words : (plain ordered : Bool) (workers : ℕ) → run_of plain ordered workers ≢ Err Words
-no_words false false workers bad = cc
-no_words true false workers bad = cc
-no_words false true workers bad = cc
-no_words true true workers bad = cc
+no_words : (plain ordered : Bool) (workers : ℕ) (format : Option Format) → option_map_or (run_of plain ordered workers) format (Err Output) ≢ Err Words
+no_words plain ordered workers None bad = cc
+no_words false false workers (Some format) bad = cc
+no_words true false workers (Some format) bad = cc
+no_words false true workers (Some format) bad = cc
+no_words true true workers (Some format) bad = cc
 
 run_known : (rows : List Row) → run_command rows ≢ Err Words
 run_known rows = go (workers_of rows) refl
   where
     go : (o : Option _) → workers_of rows ≡ o → run_command rows ≢ Err Words
-    go (Some n) is bad = let bad2 = rw is at bad in no_words (has_flag (codes "plain") rows) (has_flag (codes "ordered") rows) n bad2
+    go (Some n) is bad = let bad2 = rw is at bad in no_words (has_flag (codes "plain") rows) (has_flag (codes "ordered") rows) n (format_of rows) bad2
     go None is bad = let bad2 = rw is at bad in cc
+
+formatted_known : (command : Format → Command) (format : Option Format) → option_map_or (λ format. Ok (command format)) format (Err Output) ≢ Err Words
+formatted_known command None bad = cc
+formatted_known command (Some format) bad = cc
 
 all_known : AllKnown (built application).subs
 unfolding application
-all_known = (λ rows bad. cc, (λ rows bad. cc, (λ rows bad. cc, (run_known, tt))))
+all_known = (λ rows. formatted_known Eval (format_of rows), (λ rows. formatted_known Check (format_of rows), (λ rows bad. cc, (run_known, tt))))
 
 known : (f : Shape → Bool) (words : List Text) (subs : List Shape) → AllKnown subs
     → is_some (option_map (λ s. rows_at s words) (find f subs)) ≡ true → command_named (option_map (λ s. rows_at s words) (find f subs)) ≢ Err Words
@@ -136,10 +144,11 @@ answers a words m r is parses matches answer =
     let reported : IfOk r (λ command. command_named (subcommand_of application words) ≡ Ok command) = IfOk-weaker r _ _ (λ command both. both.1) named in
     record {
       named = named;
-      bounds = λ n. run_in_bounds (subcommand_of application words) r n reported;
-      ordered_bounds = λ n. ordered_in_bounds (subcommand_of application words) r n reported;
+      bounds = λ n format. run_in_bounds (subcommand_of application words) r n format reported;
+      ordered_bounds = λ n format. ordered_in_bounds (subcommand_of application words) r n format reported;
       words = λ bad _. named_or_workers words free (sym same ∙ bad);
       workers = λ bad. (free, sym same ∙ bad);
+      output = λ bad. (free, sym same ∙ bad);
       conflict = λ bad. (free, sym same ∙ bad);
     }
 

@@ -2,8 +2,9 @@
 use Rattle.std.proofs.Common.{◌≡◌, ◌<◌, ◌≤◌, ℕ, suc, ◌+◌, arith, List, [], ◌∷◌, length, map, drop, Option, Some, None, refl, sym, ◌∙◌, ap, add-one, drop-cons}
 use Rattle.std.specs.Prelude.{slice_index_or}
 use Rattle.std.proofs.Math.ListN.{drop_of_length-le}
-use Rattle.ar_command_line.specs.Usage.{after, at_end, first_refused, number_of, workers_given}
+use Rattle.ar_command_line.specs.Usage.{after, at_end, first_refused, value_given, value_of}
 use Rattle.ar_command_line.specs.declared.usage.Next.{Next}
+use Rattle.ar_command_line.specs.declared.usage.Valued.{Valued}
 
 module _ {B : Type 0} (text : B → List ℕ) (words : List B) (index : ℕ) (word : B) (within : index < length words) (is : word ≡ slice_index_or words index word) where
   left : drop index words ≡ word ∷ drop (suc index) words
@@ -28,22 +29,23 @@ pub none_left : {B : Type 0} (text : B → List ℕ) (words : List B) (index : �
 unfolding first_refused
 none_left text words index next total past so_far = ap (λ rest. first_refused next (map text rest)) (sym (drop_of_length-le words past)) ∙ so_far
 
--- ---- the number of workers
+-- ---- the value of an option
 
-module _ {B : Type 0} (text : B → List ℕ) (words following : List B) (word : B) (first : words ≡ word ∷ following) (name : List ℕ) (is : name ≡ text word) (total : Option (List ℕ)) (so_far : workers_given (map text words) ≡ total) where
-  pub number_found : (number : List ℕ) → Some number ≡ number_of name (map text following) → Some number ≡ total
-  unfolding workers_given
-  number_found number found =
-      let now : workers_given (text word ∷ map text following) ≡ Some number = rw (sym (found ∙ ap (λ name. number_of name (map text following)) is)) refl in
-      sym now ∙ ap (λ words. workers_given (map text words)) (sym first) ∙ so_far
+module _ {B : Type 0} (text : B → List ℕ) (option : Valued) where
+  module _ (words following : List B) (word : B) (first : words ≡ word ∷ following) (name : List ℕ) (is : name ≡ text word) (total : Option (List ℕ)) (so_far : value_given option (map text words) ≡ total) where
+    pub value_found : (value : List ℕ) → Some value ≡ value_of option name (map text following) → Some value ≡ total
+    unfolding value_given
+    value_found value found =
+        let now : value_given option (text word ∷ map text following) ≡ Some value = rw (sym (found ∙ ap (λ name. value_of option name (map text following)) is)) refl in
+        sym now ∙ ap (λ words. value_given option (map text words)) (sym first) ∙ so_far
 
-  pub no_number_yet : None ≡ number_of name (map text following) → workers_given (map text following) ≡ total
-  unfolding workers_given
-  no_number_yet missing =
-      let now : workers_given (text word ∷ map text following) ≡ workers_given (map text following) = rw (sym (missing ∙ ap (λ name. number_of name (map text following)) is)) refl in
-      sym now ∙ ap (λ words. workers_given (map text words)) (sym first) ∙ so_far
+    pub no_value_yet : None ≡ value_of option name (map text following) → value_given option (map text following) ≡ total
+    unfolding value_given
+    no_value_yet missing =
+        let now : value_given option (text word ∷ map text following) ≡ value_given option (map text following) = rw (sym (missing ∙ ap (λ name. value_of option name (map text following)) is)) refl in
+        sym now ∙ ap (λ words. value_given option (map text words)) (sym first) ∙ so_far
 
-pub no_number : {B : Type 0} (text : B → List ℕ) (words : List B) (total : Option (List ℕ)) → length words ≡ 0 → workers_given (map text words) ≡ total → None ≡ total
-unfolding workers_given
-no_number text [] total past so_far = so_far
-no_number text (word ∷ words) total past so_far = absurd (omega arith)
+  pub no_value : (words : List B) (total : Option (List ℕ)) → length words ≡ 0 → value_given option (map text words) ≡ total → None ≡ total
+  unfolding value_given
+  no_value [] total past so_far = so_far
+  no_value (word ∷ words) total past so_far = absurd (omega arith)

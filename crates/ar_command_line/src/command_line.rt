@@ -2,7 +2,7 @@
 
 ghost use Rattle.std.specs.Prelude.{◌≡◌, ◌≢◌, ◌≤◌, [], codes, false, is_some, Err, IfOk, IsErr, Ok};
 ghost use Rattle.clap.specs.Words.{app_of, fault_of, found_of, kind_of, new_app, rows_of, rule_of, subcommand_rows_of, with_rule};
-ghost use Rattle.ar_command_line.specs.CommandLine.{AsksForText, application, command_named, flag_named, has_flag, is_request, named, number_of_workers, program, run_app, run_command, texts_of, without_run, workers_of, workers_option, AsksForCommand};
+ghost use Rattle.ar_command_line.specs.CommandLine.{AsksForText, application, command_named, flag_named, has_flag, is_request, format_named, format_of, named, number_of_workers, output_option, program, run_app, run_command, texts_of, with_output, without_run, workers_of, workers_option, AsksForCommand};
 
 use crate::help::{CHECK_HELP, EVAL_HELP, HELP, LIST_HELP, RUN_HELP};
 use ar_value::limits::MOST_WORKERS;
@@ -14,22 +14,31 @@ use thiserror::Error;
 /// How many workers judge where the words name no number.
 pub const DEFAULT_WORKERS: usize = 4;
 
+/// How an answer is written.
+#[derive(Clone, Copy, Debug)]
+pub enum Format {
+    /// Lines of words.
+    Text,
+    /// One JSON object, in one line.
+    Json,
+}
+
 /// What the program can be asked to do.
 #[derive(Clone, Copy, Debug)]
 pub enum Command {
     /// Judge one condition on one value.
-    Eval,
+    Eval(Format),
     /// Report the bounds of each condition of a bundle.
-    Check,
+    Check(Format),
     /// List the code of each condition of a bundle.
     List,
     /// Run a bundle with n workers, from 1 to 16, and report its runs.
-    Run(usize),
+    Run(usize, Format),
     /// Run a bundle in one thread, and report its runs.
-    Plain,
+    Plain(Format),
     /// Judge a bundle's measurements with n workers, from 1 to 16, apply them in their order, and
     /// report its runs.
-    Ordered(usize),
+    Ordered(usize, Format),
 }
 
 /// Why a command line asks for nothing.
@@ -40,6 +49,8 @@ pub enum UsageError {
     Words,
     #[error("command line, --workers: Workers: expected a whole number from 1 to 16")]
     Workers,
+    #[error("command line, --output: Output: expected text or json")]
+    Output,
     #[error("command line, --ordered: Conflict: expected --ordered or --plain, not both")]
     Conflict,
     #[error("out of memory")]
@@ -77,8 +88,8 @@ impl From<clap::Error> for UsageError {
 /// # Errors
 ///
 /// `Words` where they are no command line of the program's, or ask for a text by `--help` or
-/// `--version`; then `Workers` where `--workers` names no number from 1 to 16; then `Conflict` where both
-/// `--ordered` and `--plain` are given; `OutOfMemory` for out of memory.
+/// `--version`; then `Workers` where `--workers` names no number from 1 to 16; then `Output` where `--output` names no
+/// format; then `Conflict` where both `--ordered` and `--plain` are given; `OutOfMemory` for out of memory.
 pub fn command_of(alloc: Global, words: Vec<String>) -> Result<Command, UsageError>
     ensures { AsksForCommand (texts_of words.items) result }
 {
@@ -131,8 +142,8 @@ fn named(name: &str, matches: &ArgMatches<'_>) -> Result<Command, UsageError>
     ensures { result ≡ named name.now (rows_of (found_of matches.now)) }
 {
     match name {
-        "eval" => Ok(Command::Eval),
-        "check" => Ok(Command::Check),
+        "eval" => Ok(Command::Eval(format_of(matches).ok_or(UsageError::Output)?)),
+        "check" => Ok(Command::Check(format_of(matches).ok_or(UsageError::Output)?)),
         "list" => Ok(Command::List),
         "run" => run_command(matches),
         _ => Err(UsageError::Words),
@@ -145,10 +156,11 @@ fn run_command(matches: &ArgMatches<'_>) -> Result<Command, UsageError>
     ensures { result ≡ run_command (rows_of (found_of matches.now)) }
 {
     let workers = workers_of(matches).ok_or(UsageError::Workers)?;
+    let format = format_of(matches).ok_or(UsageError::Output)?;
     match (has_flag(matches, "plain"), has_flag(matches, "ordered")) {
-        (false, false) => Ok(Command::Run(workers)),
-        (true, false) => Ok(Command::Plain),
-        (false, true) => Ok(Command::Ordered(workers)),
+        (false, false) => Ok(Command::Run(workers, format)),
+        (true, false) => Ok(Command::Plain(format)),
+        (false, true) => Ok(Command::Ordered(workers, format)),
         (true, true) => Err(UsageError::Conflict),
     }
 }
@@ -179,6 +191,28 @@ fn number_of_workers(text: &str) -> Option<usize>
     }
 }
 
+/// The format that a command is asked for, and text where it is asked for none.
+#[tactic(auto, using(crate::proofs::Parsing::first_text))]
+fn format_of(matches: &ArgMatches<'_>) -> Option<Format>
+    ensures { result ≡ format_of (rows_of (found_of matches.now)) }
+{
+    match matches.get_str("output") {
+        Some(name) => format_named(name),
+        None => Some(Format::Text),
+    }
+}
+
+/// The format of a name.
+fn format_named(name: &str) -> Option<Format>
+    ensures { result ≡ format_named name.now }
+{
+    match name {
+        "text" => Some(Format::Text),
+        "json" => Some(Format::Json),
+        _ => None,
+    }
+}
+
 /// Whether `run` is given a flag.
 #[tactic(auto, using(crate::proofs::Parsing::flag_is_read))]
 fn has_flag(matches: &ArgMatches<'_>, name: &str) -> bool
@@ -201,13 +235,13 @@ fn without_run<'a>(alloc: Global) -> Result<clap::Command<'a>, AllocError>
     ensures { IfOk result (λ command. app_of command ≡ without_run) }
 {
     program(alloc)
-        .subcommand(subcommand(alloc, "eval", "Judge one condition on one value", EVAL_HELP))?
-        .subcommand(subcommand(
+        .subcommand(with_output(alloc, "eval", "Judge one condition on one value", EVAL_HELP)?)?
+        .subcommand(with_output(
             alloc,
             "check",
             "Check a document, and print what its conditions cost at most",
             CHECK_HELP,
-        ))?
+        )?)?
         .subcommand(subcommand(
             alloc,
             "list",
@@ -237,9 +271,34 @@ fn subcommand<'a>(alloc: Global, name: &'a str, about: &'a str, help: &'a str) -
         .after_help(help)
 }
 
-/// The subcommand `run`, as far as it has `--workers`.
+/// `--output FORMAT`.
+fn output<'a>(alloc: Global) -> Arg<'a>
+    ensures rule { rule_of result ≡ output_option }
+    ensures local { result.global ≡ false }
+{
+    Arg::new(alloc, "output")
+        .long("output")
+        .value_name("FORMAT")
+        .help(
+            "How the answer is written: `text`, which is the default, or `json`, one object in one line",
+        )
+}
+
+/// A subcommand whose answer has a format.
+fn with_output<'a>(
+    alloc: Global,
+    name: &'a str,
+    about: &'a str,
+    help: &'a str,
+) -> Result<clap::Command<'a>, AllocError>
+    ensures { IfOk result (λ command. app_of command ≡ with_output name.entry.now) }
+{
+    subcommand(alloc, name, about, help).arg(output(alloc))
+}
+
+/// The subcommand `run`, as far as it has `--output` and `--workers`.
 fn run_with_workers<'a>(alloc: Global) -> Result<clap::Command<'a>, AllocError>
-    ensures { IfOk result (λ command. app_of command ≡ with_rule (new_app (codes "run")) workers_option) }
+    ensures { IfOk result (λ command. app_of command ≡ with_rule (with_output (codes "run")) workers_option) }
 {
     let workers = Arg::new(alloc, "workers")
         .long("workers")
@@ -247,12 +306,12 @@ fn run_with_workers<'a>(alloc: Global) -> Result<clap::Command<'a>, AllocError>
         .help(
             "How many workers judge, 1 to 16, 4 unless it is given; workers are threads that judge side by side",
         );
-    subcommand(
+    with_output(
         alloc,
         "run",
         "Judge a document's measurements, and report its runs",
         RUN_HELP,
-    )
+    )?
     .arg(workers)
 }
 

@@ -12,6 +12,8 @@ A fault is one line on standard error: where it is, its name, and what was found
 A document for check, list and run has a template, the shapes of its metrics' measured values, runs
 and measurements; `argo_judge run --help` shows one.
 
+With --output json, eval, check and run write one JSON object in one line, with the same facts.
+
 Exit status:
   0  the command was carried out
   1  run: a run is Failed, Error or Inconclusive
@@ -40,7 +42,7 @@ pub(crate) const EVAL_HELP: &str =
              {\"record\":{NAME:SHAPE,..}} or {\"optional\":SHAPE}
   value      JSON of that shape; a decimal is a text, as \"0.9523\", or a whole number
 Standard output is true, false, or `fault` and a name: IndexOutOfRange, NilOperand, Overflow or
-DivisionByZero.
+DivisionByZero. With --output json it is {\"answer\":ANSWER,\"fault\":NAME,\"version\":1}, one of the two null.
 
 Examples:
   echo '{\"condition\":\"result >= 0.95\",\"shape\":\"decimal\",\"value\":\"0.9523\"}' | argo_judge eval

@@ -4,9 +4,9 @@
 //! for none. `specs/CommandLine` has the command line as `clap`'s specifications see it,
 //! `application`, and the command that a subcommand with its matches names, `command_named`. Where
 //! `clap` finds no fault in the words, that command is returned, or `Workers` where its number of
-//! workers is none from 1 to 16, or else `Conflict` where `run` is to be both ordered and plain; where
-//! it finds one, `Words`. Only out of memory can keep it from that. [`shown`] is the text of `--help`
-//! or `--version`, where the words ask for one.
+//! workers is none from 1 to 16, `Output` where its [`Format`] is none, or else `Conflict` where `run` is to be
+//! both ordered and plain; where it finds one, `Words`. Only out of memory can keep it from that. [`shown`] is
+//! the text of `--help` or `--version`, where the words ask for one.
 //!
 //! A [`Source`] and a [`Sink`] report what was read and written and whether that failed. A [`Device`] makes
 //! either of a reader or a writer of the standard library, and keeps the first fault; [`Kept`] is a source
@@ -17,8 +17,8 @@
 //! - `command_line`: the calls, and the command line as `clap` builds it
 //! - `help`: the texts of `--help`
 //! - [`usage`]: what is said of words that are refused (`specs/Usage`, which reads the words without
-//!   `clap`): the first that isn't taken, and why ([`words_text`]), or the number of workers
-//!   ([`workers_text`])
+//!   `clap`): the first that isn't taken, and why ([`words_text`]), the number of workers
+//!   ([`workers_text`]) or the format ([`output_text`])
 //! - [`stream`]: what an input is read from and what an output is written to; [`input`]: reading a whole
 //!   document; [`output`]: writing a whole output
 //! - [`device`]: readers and writers of the standard library, over `retrying`; [`kept`]: a reader that keeps
@@ -35,10 +35,10 @@ mod retrying;
 pub mod stream;
 pub mod usage;
 
-pub use command_line::{Command, DEFAULT_WORKERS, UsageError, command_of, shown};
+pub use command_line::{Command, DEFAULT_WORKERS, Format, UsageError, command_of, shown};
 pub use device::Device;
 pub use input::{InputError, read_input};
 pub use kept::Kept;
 pub use output::write_output;
 pub use stream::{DeviceFault, Sink, Source};
-pub use usage::{words_text, workers_text};
+pub use usage::{output_text, words_text, workers_text};

@@ -1,4 +1,6 @@
+pub mod Determined
 pub mod Lines
+pub mod Objects
 pub mod Replaying
 pub mod Runs
 pub mod Shown

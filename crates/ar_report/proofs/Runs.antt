@@ -1,8 +1,7 @@
 -- Runs with their histories, one after another.
-use Rattle.std.proofs.Common.{◌≡◌, ◌<◌, ◌≤◌, ℕ, zero, suc, ◌+◌, ◌==◌, List, [], ◌∷◌, ◌++◌, length, map, drop, Some, refl, sym, ◌∙◌, ap, subst, arith, append-nil}
+use Rattle.std.proofs.Common.{◌≡◌, ◌<◌, ◌≤◌, ℕ, zero, suc, ◌+◌, ◌==◌, List, [], ◌∷◌, ◌++◌, flat_map, length, map, drop, Some, refl, ap, subst, arith}
 use Rattle.std.specs.Prelude.{slice_get, slice_index_or}
 use Rattle.std.specs.List.{AllByRecursion}
-use Rattle.std.proofs.lemmas.List.{append_assoc}
 use Rattle.std.proofs.lemmas.List.Sums.{count_by-le-length}
 use Rattle.std.proofs.lemmas.Option.{slice_get_read, slice_get_within}
 use Rattle.ar_limits.specs.Run.{effects, run_phase}
@@ -17,44 +16,40 @@ use Rattle.ar_bundle.specs.declared.bundle.EventPart.{EventPart}
 use Rattle.ar_bundle.specs.declared.bundle.RunPart.{RunPart}
 use Rattle.ar_bundle.specs.declared.history.Entry.{Entry}
 use Rattle.ar_report.specs.Private.Entries.{AreFound}
-use Rattle.ar_report.specs.Report.{phases_of, run_text, run_texts}
-use Rattle.ar_report.proofs.Lines.{none_left, rest_at}
+use Rattle.ar_report.specs.Facts.{RunFacts, facts_of_runs, phases_of, run_facts}
+use Rattle.ar_report.specs.Report.{run_text}
+use Rattle.ar_report.proofs.Lines.{no_item, no_more, none_left, one_item, one_more, read_at}
 
 -- ---- one run after another
 
-pub next_run : (bundle : Bundle) (runs : List RunPart) (histories : List (List Entry)) (index : ℕ) (run : RunPart) (history : List Entry) (written total : List ℕ) → index < length runs → run ≡ slice_index_or runs index run → index < length histories → history ≡ slice_index_or histories index history
-    → written ++ run_texts bundle (drop index runs) (map numbers_of (drop index histories)) ≡ total → (written ++ run_text bundle run (numbers_of history)) ++ run_texts bundle (drop (index + 1) runs) (map numbers_of (drop (index + 1) histories)) ≡ total
-next_run bundle runs histories index run history written total inside read history_inside history_read so_far =
-    let there = slice_get_read runs (length runs) index run refl inside read in
-    let history_there = slice_get_read histories (length histories) index history refl history_inside history_read in
-    let rest : run_texts bundle (drop index runs) (map numbers_of (drop index histories)) ≡ run_text bundle run (numbers_of history) ++ run_texts bundle (drop (suc index) runs) (map numbers_of (drop (suc index) histories)) =
-    rw (rest_at runs index run there, rest_at histories index history history_there) refl in
-    let next : index + 1 ≡ suc index = omega arith in
-    subst (λ after. (written ++ run_text bundle run (numbers_of history)) ++ run_texts bundle (drop after runs) (map numbers_of (drop after histories)) ≡ total) (sym next)
-    (append_assoc written (run_text bundle run (numbers_of history)) (run_texts bundle (drop (suc index) runs) (map numbers_of (drop (suc index) histories))) ∙ (ap (λ lines. written ++ lines) (sym rest) ∙ so_far))
+-- the facts of a run that was read come before those of the runs that are left
+pub run_read : (bundle : Bundle) (runs : List RunPart) (histories : List (List Entry)) (index : ℕ) (run : RunPart) (history : List Entry) → index < length runs → run ≡ slice_index_or runs index run → index < length histories → history ≡ slice_index_or histories index history
+    → facts_of_runs bundle (drop index runs) (map numbers_of (drop index histories)) ≡ run_facts bundle run (numbers_of history) ∷ facts_of_runs bundle (drop (index + 1) runs) (map numbers_of (drop (index + 1) histories))
+run_read bundle runs histories index run history inside read history_inside history_read =
+    rw (read_at runs index run inside read, read_at histories index history history_inside history_read) refl
 
-pub no_run : (bundle : Bundle) (runs : List RunPart) (histories : List (List Entry)) (index : ℕ) (written total : List ℕ) → length runs ≤ index → written ++ run_texts bundle (drop index runs) (map numbers_of (drop index histories)) ≡ total → written ≡ total
+pub no_run_read : (bundle : Bundle) (runs : List RunPart) (histories : List (List Entry)) (index : ℕ) → length runs ≤ index → facts_of_runs bundle (drop index runs) (map numbers_of (drop index histories)) ≡ []
+no_run_read bundle runs histories index past = ap (λ runs. facts_of_runs bundle runs (map numbers_of (drop index histories))) (none_left runs index past)
+
+pub next_run : (bundle : Bundle) (runs : List RunPart) (histories : List (List Entry)) (index : ℕ) (run : RunPart) (history : List Entry) (written total : List ℕ) → index < length runs → run ≡ slice_index_or runs index run → index < length histories → history ≡ slice_index_or histories index history
+    → written ++ flat_map run_text (facts_of_runs bundle (drop index runs) (map numbers_of (drop index histories))) ≡ total → (written ++ run_text (run_facts bundle run (numbers_of history))) ++ flat_map run_text (facts_of_runs bundle (drop (index + 1) runs) (map numbers_of (drop (index + 1) histories))) ≡ total
+next_run bundle runs histories index run history written total inside read history_inside history_read so_far =
+    one_more run_text _ _ (run_facts bundle run (numbers_of history)) written total (run_read bundle runs histories index run history inside read history_inside history_read) so_far
+
+pub no_run : (bundle : Bundle) (runs : List RunPart) (histories : List (List Entry)) (index : ℕ) (written total : List ℕ) → length runs ≤ index → written ++ flat_map run_text (facts_of_runs bundle (drop index runs) (map numbers_of (drop index histories))) ≡ total → written ≡ total
 no_run bundle runs histories index written total past so_far =
-    let none : run_texts bundle (drop index runs) (map numbers_of (drop index histories)) ≡ [] = ap (λ runs. run_texts bundle runs (map numbers_of (drop index histories))) (none_left runs index past) in
-    sym (append-nil written) ∙ (ap (λ lines. written ++ lines) (sym none) ∙ so_far)
+    no_more run_text (facts_of_runs bundle (drop index runs) (map numbers_of (drop index histories))) written total (no_run_read bundle runs histories index past) so_far
 
 -- ---- one phase after another
 
 pub next_phase : (bundle : Bundle) (runs : List RunPart) (histories : List (List Entry)) (index : ℕ) (run : RunPart) (history : List Entry) (found total : List Phase) (phase : Phase) → index < length runs → run ≡ slice_index_or runs index run → index < length histories → history ≡ slice_index_or histories index history
-    → phase ≡ run_phase run.limits (events_of bundle (numbers_of history)) → found ++ phases_of bundle (drop index runs) (map numbers_of (drop index histories)) ≡ total → (found ++ phase ∷ []) ++ phases_of bundle (drop (index + 1) runs) (map numbers_of (drop (index + 1) histories)) ≡ total
+    → phase ≡ run_phase run.limits (events_of bundle (numbers_of history)) → found ++ phases_of (facts_of_runs bundle (drop index runs) (map numbers_of (drop index histories))) ≡ total → (found ++ phase ∷ []) ++ phases_of (facts_of_runs bundle (drop (index + 1) runs) (map numbers_of (drop (index + 1) histories))) ≡ total
 next_phase bundle runs histories index run history found total phase inside read history_inside history_read is so_far =
-    let there = slice_get_read runs (length runs) index run refl inside read in
-    let history_there = slice_get_read histories (length histories) index history refl history_inside history_read in
-    let rest : phases_of bundle (drop index runs) (map numbers_of (drop index histories)) ≡ phase ∷ phases_of bundle (drop (suc index) runs) (map numbers_of (drop (suc index) histories)) =
-    rw (rest_at runs index run there, rest_at histories index history history_there, is) refl in
-    let next : index + 1 ≡ suc index = omega arith in
-    subst (λ after. (found ++ phase ∷ []) ++ phases_of bundle (drop after runs) (map numbers_of (drop after histories)) ≡ total) (sym next)
-    (append_assoc found (phase ∷ []) (phases_of bundle (drop (suc index) runs) (map numbers_of (drop (suc index) histories))) ∙ (ap (λ phases. found ++ phases) (sym rest) ∙ so_far))
+    one_item (λ (run : RunFacts). run.phase) _ _ (run_facts bundle run (numbers_of history)) found total phase (run_read bundle runs histories index run history inside read history_inside history_read) is so_far
 
-pub no_phase : (bundle : Bundle) (runs : List RunPart) (histories : List (List Entry)) (index : ℕ) (found total : List Phase) → length runs ≤ index → found ++ phases_of bundle (drop index runs) (map numbers_of (drop index histories)) ≡ total → found ≡ total
+pub no_phase : (bundle : Bundle) (runs : List RunPart) (histories : List (List Entry)) (index : ℕ) (found total : List Phase) → length runs ≤ index → found ++ phases_of (facts_of_runs bundle (drop index runs) (map numbers_of (drop index histories))) ≡ total → found ≡ total
 no_phase bundle runs histories index found total past so_far =
-    let none : phases_of bundle (drop index runs) (map numbers_of (drop index histories)) ≡ [] = ap (λ runs. phases_of bundle runs (map numbers_of (drop index histories))) (none_left runs index past) in
-    sym (append-nil found) ∙ (ap (λ phases. found ++ phases) (sym none) ∙ so_far)
+    no_item (λ (run : RunFacts). run.phase) (facts_of_runs bundle (drop index runs) (map numbers_of (drop index histories))) found total (no_run_read bundle runs histories index past) so_far
 
 -- ---- what is known of a run's history
 

@@ -1,15 +1,19 @@
--- Texts of conditions, one after another.
-use Rattle.std.proofs.Common.{◌≡◌, ◌<◌, ◌≤◌, ℕ, suc, ◌+◌, List, [], ◌∷◌, ◌++◌, length, drop, refl, sym, ◌∙◌, ap, subst, arith, append-nil}
+-- Conditions, one after another.
+use Rattle.std.proofs.Common.{◌≡◌, ◌<◌, ◌≤◌, ℕ, suc, ◌+◌, List, [], ◌∷◌, ◌++◌, flat_map, length, map, drop, refl, sym, ◌∙◌, ap, arith, append-nil}
 use Rattle.std.specs.Prelude.{slice_index_or}
 use Rattle.std.proofs.lemmas.List.{append_assoc}
-use Rattle.std.proofs.lemmas.Option.{slice_get_read}
 use Rattle.ar_judge.specs.Verdict.{Judge}
-use Rattle.ar_safety.specs.Bounds.{Verified}
 use Rattle.ar_bundle.specs.Sound.{IsRun, JudgesEach}
 use Rattle.ar_bundle.specs.declared.bundle.MetricPart.{MetricPart}
 use Rattle.ar_bundle.specs.declared.bundle.RunPart.{RunPart}
-use Rattle.ar_report.specs.Check.{judge_text, judges_text, runs_text}
-use Rattle.ar_report.proofs.Lines.{none_left, rest_at}
+use Rattle.ar_report.specs.Facts.{ConditionFacts, facts_of_conditions, facts_of_judges, judge_facts}
+use Rattle.serde_json.specs.Data.{Data}
+use Rattle.serde_json.specs.View.{view}
+use Rattle.serde_json.specs.declared.value.Value.{Value}
+use Rattle.ar_report.specs.Private.Shown.{condition_seen, conditions_seen}
+use Rattle.ar_report.specs.ReportData.{condition_data}
+use Rattle.ar_report.specs.declared.conditions.NamedCondition.{NamedCondition}
+use Rattle.ar_report.proofs.Lines.{no_item, no_more, none_left, one_more, one_seen, read_at}
 
 same_length : (metrics : List MetricPart) (judges : List Judge) → JudgesEach metrics judges → length judges ≡ length metrics
 same_length [] [] each = refl
@@ -20,32 +24,47 @@ same_length (metric ∷ metrics) [] each = absurd each
 pub judge_inside : (metrics : List MetricPart) (run : RunPart) (index : ℕ) → IsRun metrics run → index < length metrics → index < length run.judges
 judge_inside metrics run index is inside = let same = same_length metrics run.judges is.judges in omega arith
 
-pub next_judge : (text : Verified → List ℕ) (run : List ℕ) (metrics : List MetricPart) (judges : List Judge) (index : ℕ) (metric : MetricPart) (judge : Judge) (written total : List ℕ) → index < length metrics → metric ≡ slice_index_or metrics index metric → index < length judges → judge ≡ slice_index_or judges index judge
-    → written ++ judges_text text run (drop index metrics) (drop index judges) ≡ total → (written ++ judge_text text run metric.name judge) ++ judges_text text run (drop (index + 1) metrics) (drop (index + 1) judges) ≡ total
-next_judge text run metrics judges index metric judge written total inside read judge_inside judge_read so_far =
-    let there = slice_get_read metrics (length metrics) index metric refl inside read in
-    let judge_there = slice_get_read judges (length judges) index judge refl judge_inside judge_read in
-    let rest : judges_text text run (drop index metrics) (drop index judges) ≡ judge_text text run metric.name judge ++ judges_text text run (drop (suc index) metrics) (drop (suc index) judges) =
-    rw (rest_at metrics index metric there, rest_at judges index judge judge_there) refl in
-    let next : index + 1 ≡ suc index = omega arith in
-    subst (λ after. (written ++ judge_text text run metric.name judge) ++ judges_text text run (drop after metrics) (drop after judges) ≡ total) (sym next)
-    (append_assoc written (judge_text text run metric.name judge) (judges_text text run (drop (suc index) metrics) (drop (suc index) judges)) ∙ (ap (λ lines. written ++ lines) (sym rest) ∙ so_far))
+pub next_judge : (run : List ℕ) (metrics : List MetricPart) (judges : List Judge) (index : ℕ) (metric : MetricPart) (judge : Judge) (found total : List ConditionFacts) → index < length metrics → metric ≡ slice_index_or metrics index metric → index < length judges → judge ≡ slice_index_or judges index judge
+    → found ++ facts_of_judges run (drop index metrics) (drop index judges) ≡ total → (found ++ judge_facts run metric.name judge) ++ facts_of_judges run (drop (index + 1) metrics) (drop (index + 1) judges) ≡ total
+next_judge run metrics judges index metric judge found total inside read judge_inside judge_read so_far =
+    let rest : facts_of_judges run (drop index metrics) (drop index judges) ≡ judge_facts run metric.name judge ++ facts_of_judges run (drop (index + 1) metrics) (drop (index + 1) judges) =
+    rw (read_at metrics index metric inside read, read_at judges index judge judge_inside judge_read) refl in
+    append_assoc found (judge_facts run metric.name judge) (facts_of_judges run (drop (index + 1) metrics) (drop (index + 1) judges)) ∙ (ap (λ facts. found ++ facts) (sym rest) ∙ so_far)
 
-pub no_judge : (text : Verified → List ℕ) (run : List ℕ) (metrics : List MetricPart) (judges : List Judge) (index : ℕ) (written total : List ℕ) → length metrics ≤ index → written ++ judges_text text run (drop index metrics) (drop index judges) ≡ total → written ≡ total
-no_judge text run metrics judges index written total past so_far =
-    let none : judges_text text run (drop index metrics) (drop index judges) ≡ [] = ap (λ metrics. judges_text text run metrics (drop index judges)) (none_left metrics index past) in
-    sym (append-nil written) ∙ (ap (λ lines. written ++ lines) (sym none) ∙ so_far)
+pub no_judge : (run : List ℕ) (metrics : List MetricPart) (judges : List Judge) (index : ℕ) (found total : List ConditionFacts) → length metrics ≤ index → found ++ facts_of_judges run (drop index metrics) (drop index judges) ≡ total → found ≡ total
+no_judge run metrics judges index found total past so_far =
+    let none : facts_of_judges run (drop index metrics) (drop index judges) ≡ [] = ap (λ metrics. facts_of_judges run metrics (drop index judges)) (none_left metrics index past) in
+    sym (append-nil found) ∙ (ap (λ facts. found ++ facts) (sym none) ∙ so_far)
 
-pub next_of_runs : (text : Verified → List ℕ) (metrics : List MetricPart) (runs : List RunPart) (index : ℕ) (run : RunPart) (written total : List ℕ) → index < length runs → run ≡ slice_index_or runs index run → written ++ runs_text text metrics (drop index runs) ≡ total
-    → (written ++ judges_text text run.name metrics run.judges) ++ runs_text text metrics (drop (index + 1) runs) ≡ total
-next_of_runs text metrics runs index run written total inside read so_far =
-    let there = slice_get_read runs (length runs) index run refl inside read in
-    let rest : runs_text text metrics (drop index runs) ≡ judges_text text run.name metrics run.judges ++ runs_text text metrics (drop (suc index) runs) = ap (runs_text text metrics) (rest_at runs index run there) in
-    let next : index + 1 ≡ suc index = omega arith in
-    subst (λ after. (written ++ judges_text text run.name metrics run.judges) ++ runs_text text metrics (drop after runs) ≡ total) (sym next)
-    (append_assoc written (judges_text text run.name metrics run.judges) (runs_text text metrics (drop (suc index) runs)) ∙ (ap (λ lines. written ++ lines) (sym rest) ∙ so_far))
+pub next_of_runs : (metrics : List MetricPart) (runs : List RunPart) (index : ℕ) (run : RunPart) (found total : List ConditionFacts) → index < length runs → run ≡ slice_index_or runs index run → found ++ facts_of_conditions metrics (drop index runs) ≡ total
+    → (found ++ facts_of_judges run.name metrics run.judges) ++ facts_of_conditions metrics (drop (index + 1) runs) ≡ total
+next_of_runs metrics runs index run found total inside read so_far =
+    append_assoc found (facts_of_judges run.name metrics run.judges) (facts_of_conditions metrics (drop (index + 1) runs))
+    ∙ (ap (λ runs. found ++ facts_of_conditions metrics runs) (sym (read_at runs index run inside read)) ∙ so_far)
 
-pub no_run_left : (text : Verified → List ℕ) (metrics : List MetricPart) (runs : List RunPart) (index : ℕ) (written total : List ℕ) → length runs ≤ index → written ++ runs_text text metrics (drop index runs) ≡ total → written ≡ total
-no_run_left text metrics runs index written total past so_far =
-    let none : runs_text text metrics (drop index runs) ≡ [] = ap (runs_text text metrics) (none_left runs index past) in
-    sym (append-nil written) ∙ (ap (λ lines. written ++ lines) (sym none) ∙ so_far)
+pub no_run_left : (metrics : List MetricPart) (runs : List RunPart) (index : ℕ) (found total : List ConditionFacts) → length runs ≤ index → found ++ facts_of_conditions metrics (drop index runs) ≡ total → found ≡ total
+no_run_left metrics runs index found total past so_far =
+    sym (append-nil found) ∙ (ap (λ runs. found ++ facts_of_conditions metrics runs) (sym (none_left runs index past)) ∙ so_far)
+
+-- ---- conditions that were gathered, one after another
+
+condition_read : (conditions : List NamedCondition) (index : ℕ) (condition : NamedCondition) → index < length conditions → condition ≡ slice_index_or conditions index condition → conditions_seen (drop index conditions) ≡ condition_seen condition ∷ conditions_seen (drop (index + 1) conditions)
+condition_read conditions index condition inside read = ap conditions_seen (read_at conditions index condition inside read)
+
+pub next_line : (text : ConditionFacts → List ℕ) (conditions : List NamedCondition) (index : ℕ) (condition : NamedCondition) (written total : List ℕ) → index < length conditions → condition ≡ slice_index_or conditions index condition → written ++ flat_map text (conditions_seen (drop index conditions)) ≡ total
+    → (written ++ text (condition_seen condition)) ++ flat_map text (conditions_seen (drop (index + 1) conditions)) ≡ total
+next_line text conditions index condition written total inside read so_far =
+    one_more text _ _ (condition_seen condition) written total (condition_read conditions index condition inside read) so_far
+
+pub no_line : (text : ConditionFacts → List ℕ) (conditions : List NamedCondition) (index : ℕ) (written total : List ℕ) → length conditions ≤ index → written ++ flat_map text (conditions_seen (drop index conditions)) ≡ total → written ≡ total
+no_line text conditions index written total past so_far =
+    no_more text (conditions_seen (drop index conditions)) written total (ap conditions_seen (none_left conditions index past)) so_far
+
+pub next_condition : (conditions : List NamedCondition) (index : ℕ) (condition : NamedCondition) (found : List Value) (new : Value) (total : List Data) → index < length conditions → condition ≡ slice_index_or conditions index condition → view new ≡ condition_data (condition_seen condition)
+    → map view found ++ map condition_data (conditions_seen (drop index conditions)) ≡ total → map view (found ++ new ∷ []) ++ map condition_data (conditions_seen (drop (index + 1) conditions)) ≡ total
+next_condition conditions index condition found new total inside read is so_far =
+    one_seen view condition_data _ _ (condition_seen condition) found new total (condition_read conditions index condition inside read) is so_far
+
+pub no_condition : (conditions : List NamedCondition) (index : ℕ) (found : List Value) (total : List Data) → length conditions ≤ index → map view found ++ map condition_data (conditions_seen (drop index conditions)) ≡ total → map view found ≡ total
+no_condition conditions index found total past so_far =
+    no_item condition_data (conditions_seen (drop index conditions)) (map view found) total (ap conditions_seen (none_left conditions index past)) so_far

@@ -1,4 +1,6 @@
 pub mod Private
 pub mod Names
+pub mod Facts
 pub mod Report
 pub mod Check
+pub mod ReportData

@@ -1,5 +1,5 @@
 -- Names of phases, verdicts and effects, as reports print them.
-use Rattle.std.specs.Prelude.{codes, ◌++◌, ◌≡◌, refl}
+use Rattle.std.specs.Prelude.{codes, ◌++◌, ◌≡◌, refl, Option, Some, None}
 use Rattle.ar_value.specs.Terms.{Text}
 use Rattle.ar_value.specs.Fault.{fault_name}
 use Rattle.ar_json.specs.declared.value_reading.ShapeFault.{ShapeFault}
@@ -49,6 +49,49 @@ abbrev pub effect_text : Effect → Text
 effect_text effects.Applied = codes "applied"
 effect_text (effects.Closed phase) = codes "closed " ++ phase_name phase
 effect_text effects.Late = codes "late"
+
+-- ---- the parts of verdicts and effects, each by itself
+
+abbrev pub verdict_name : Verdict → Text
+verdict_name verdicts.Successful = codes "Successful"
+verdict_name verdicts.Failed = codes "Failed"
+verdict_name verdicts.Inconclusive = codes "Inconclusive"
+verdict_name (verdicts.Error cause) = codes "Error"
+
+abbrev pub cause_name : Cause → Text
+cause_name causes.Provider = codes "provider"
+cause_name (causes.Shape fault) = codes "shape"
+cause_name (causes.Success fault) = codes "success"
+cause_name (causes.Failure fault) = codes "failure"
+
+-- the name of a misfit or a fault
+abbrev pub fault_of_cause : Cause → Option Text
+fault_of_cause causes.Provider = None
+fault_of_cause (causes.Shape fault) = Some (misfit_name fault)
+fault_of_cause (causes.Success fault) = Some (fault_name fault)
+fault_of_cause (causes.Failure fault) = Some (fault_name fault)
+
+abbrev pub cause_if_error : Verdict → Option Text
+cause_if_error verdicts.Successful = None
+cause_if_error verdicts.Failed = None
+cause_if_error verdicts.Inconclusive = None
+cause_if_error (verdicts.Error cause) = Some (cause_name cause)
+
+abbrev pub fault_if_error : Verdict → Option Text
+fault_if_error verdicts.Successful = None
+fault_if_error verdicts.Failed = None
+fault_if_error verdicts.Inconclusive = None
+fault_if_error (verdicts.Error cause) = fault_of_cause cause
+
+abbrev pub effect_name : Effect → Text
+effect_name effects.Applied = codes "applied"
+effect_name (effects.Closed phase) = codes "closed"
+effect_name effects.Late = codes "late"
+
+abbrev pub closed_as : Effect → Option Text
+closed_as effects.Applied = None
+closed_as (effects.Closed phase) = Some (phase_name phase)
+closed_as effects.Late = None
 
 -- ---- worked rows
 

@@ -1,9 +1,10 @@
 //! What is known of conditions before any run.
 
-ghost use Rattle.std.specs.Prelude.{◌≡◌, ◌++◌, IfOk, OnOk, option_map, string_bytes};
+ghost use Rattle.std.specs.Prelude.{◌≡◌, ◌++◌, IfOk, OnOk, length, option_map, string_bytes};
 ghost use Rattle.ar_bundle.specs.Sound.{IsRun};
-ghost use Rattle.ar_report.specs.Check.{bounds_text, check_text, condition_name, condition_text, judge_text, judges_text, list_text, listed_text, runs_text};
-ghost use Rattle.ar_report.specs.Private.Shown.{shown_text};
+ghost use Rattle.ar_report.specs.Check.{bounds_line, check_text, condition_name, list_text, listed_text};
+ghost use Rattle.ar_report.specs.Facts.{check_facts, condition_facts, facts_if_there, facts_of_judges, judge_facts};
+ghost use Rattle.ar_report.specs.Private.Shown.{condition_seen, conditions_seen};
 
 use crate::reports::put_counted;
 use ar_bundle::{Bundle, MetricPart, RunPart};
@@ -12,138 +13,137 @@ use ar_judge::Judge;
 use ar_safety::Verified;
 use std::alloc::{AllocError, Global};
 
-/// What is shown of each condition.
+/// A condition of a bundle, with the names of its run and metric, and which of the metric's two it is.
 #[derive(Clone, Copy)]
-enum Shown {
-    Bounds,
-    Listing,
+pub(crate) struct NamedCondition<'b> {
+    pub run: &'b str,
+    pub metric: &'b str,
+    pub which: &'static str,
+    pub verified: &'b Verified,
 }
 
-#[tactic(auto, unfolding(crate::specs::Check::bounds_text))]
-fn put_bounds(out: &mut String, verified: &Verified) -> Result<(), AllocError>
-    ensures { OnOk result (string_bytes out.new ≡ string_bytes out.old ++ bounds_text verified.now) }
-{
-    put_counted(out, "operations", verified.code().ops().len() as u64)?;
-    put_counted(out, "depth", verified.depth() as u64)?;
-    put_counted(out, "budget", verified.budget())?;
-    out.push_str("\n")?;
-    Ok(())
-}
+// ---- gathering
 
-#[tactic(auto, unfolding(crate::specs::Check::listed_text))]
-fn put_listing(alloc: Global, out: &mut String, verified: &Verified) -> Result<(), AllocError>
-    ensures { OnOk result (string_bytes out.new ≡ string_bytes out.old ++ listed_text verified.now) }
-{
-    let lines = listing(alloc, verified.code())?;
-    out.push_str("\n")?;
-    out.push_str(lines.as_str())?;
-    Ok(())
-}
-
-fn put_shown(
-    alloc: Global,
-    out: &mut String,
-    shown: Shown,
-    verified: &Verified,
+/// One more condition, if it is there.
+fn push_condition<'b>(
+    out: &mut Vec<NamedCondition<'b>>,
+    run: &'b str,
+    metric: &'b str,
+    which: &'static str,
+    verified: Option<&'b Verified>,
 ) -> Result<(), AllocError>
-    ensures { OnOk result (string_bytes out.new ≡ string_bytes out.old ++ shown_text shown verified.now) }
-{
-    match shown {
-        Shown::Bounds => put_bounds(out, verified),
-        Shown::Listing => put_listing(alloc, out, verified),
-    }
-}
-
-#[tactic(auto, unfolding(crate::specs::Check::condition_name))]
-fn put_name(out: &mut String, run: &str, metric: &str, which: &str) -> Result<(), AllocError>
-    ensures { OnOk result (string_bytes out.new ≡ string_bytes out.old ++ condition_name run.now metric.now which.now) }
-{
-    out.push_str("run ")?;
-    out.push_str(run)?;
-    out.push_str(" metric ")?;
-    out.push_str(metric)?;
-    out.push_str(" ")?;
-    out.push_str(which)
-}
-
-/// A condition's name and what is shown of it, where there is one.
-#[tactic(auto, using(crate::proofs::Lines::two))]
-fn put_condition(
-    alloc: Global,
-    out: &mut String,
-    shown: Shown,
-    run: &str,
-    metric: &str,
-    which: &str,
-    verified: Option<&Verified>,
-) -> Result<(), AllocError>
-    ensures { OnOk result (string_bytes out.new ≡ string_bytes out.old
-        ++ condition_text (shown_text shown) (condition_name run.now metric.now which.now)
+    ensures { OnOk result (conditions_seen out.new.items ≡ conditions_seen out.old.items
+        ++ facts_if_there run.entry.now metric.entry.now which.entry.now
         (option_map (λ verified. verified.now) verified.entry)) }
 {
     let Some(verified) = verified else {
         return Ok(());
     };
-    put_name(out, run, metric, which)?;
-    put_shown(alloc, out, shown, verified)?;
+    out.push(NamedCondition {
+        run,
+        metric,
+        which,
+        verified,
+    })?;
     Ok(())
 }
 
 /// The conditions of a metric of a run.
-fn put_judge(
-    alloc: Global,
-    out: &mut String,
-    shown: Shown,
-    run: &str,
-    metric: &str,
-    judge: &Judge,
+fn push_judge<'b>(
+    out: &mut Vec<NamedCondition<'b>>,
+    run: &'b str,
+    metric: &'b str,
+    judge: &'b Judge,
 ) -> Result<(), AllocError>
-    ensures { OnOk result
-        (string_bytes out.new ≡ string_bytes out.old ++ judge_text (shown_text shown) run.now metric.now judge.now) }
+    ensures { OnOk result (conditions_seen out.new.items ≡ conditions_seen out.old.items
+        ++ judge_facts run.entry.now metric.entry.now judge.entry.now) }
 {
-    put_condition(alloc, out, shown, run, metric, "success", judge.success())?;
-    put_condition(alloc, out, shown, run, metric, "failure", judge.failure())
+    push_condition(out, run, metric, "success", judge.success())?;
+    push_condition(out, run, metric, "failure", judge.failure())
 }
 
 /// The conditions of a run.
 #[tactic(auto, using(crate::proofs::Shown::judge_inside, crate::proofs::Shown::next_judge, crate::proofs::Shown::no_judge))]
-fn put_judges(
-    alloc: Global,
-    out: &mut String,
-    shown: Shown,
-    metrics: &[MetricPart],
-    run: &RunPart,
+fn push_judges<'b>(
+    out: &mut Vec<NamedCondition<'b>>,
+    metrics: &'b [MetricPart],
+    run: &'b RunPart,
 ) -> Result<(), AllocError>
     requires { IsRun metrics.now run.now }
-    ensures { OnOk result (string_bytes out.new ≡ string_bytes out.old
-        ++ judges_text (shown_text shown) run.now.name metrics.now run.now.judges) }
+    ensures { OnOk result (conditions_seen out.new.items ≡ conditions_seen out.old.items
+        ++ facts_of_judges run.entry.now.name metrics.entry.now run.entry.now.judges) }
 {
     let judges = run.judges.as_slice();
     for (number, metric) in metrics.iter().enumerate() {
-        let judge = &judges[number];
-        put_judge(
-            alloc,
+        push_judge(
             out,
-            shown,
             run.name.as_str(),
             metric.name.as_str(),
-            judge,
+            &judges[number],
         )?;
     }
     Ok(())
 }
 
-/// The conditions of all runs.
+/// The conditions of a bundle: run by run, metric by metric, success before failure.
 #[tactic(auto, using(crate::proofs::Shown::next_of_runs, crate::proofs::Shown::no_run_left, crate::proofs::Runs::run_is_run))]
-fn put_runs(alloc: Global, shown: Shown, bundle: &Bundle) -> Result<String, AllocError>
-    ensures { IfOk result
-        (λ text. string_bytes text ≡ runs_text (shown_text shown) bundle.now.metrics bundle.now.runs) }
+pub(crate) fn conditions(
+    alloc: Global,
+    bundle: &Bundle,
+) -> Result<Vec<NamedCondition<'_>>, AllocError>
+    ensures { IfOk result (λ found. conditions_seen found.items ≡ check_facts bundle.now) }
 {
-    let mut out = String::new(alloc);
+    let mut found = Vec::new(alloc);
     for run in bundle.runs() {
-        put_judges(alloc, &mut out, shown, bundle.metrics(), run)?;
+        push_judges(&mut found, bundle.metrics(), run)?;
     }
-    Ok(out)
+    Ok(found)
+}
+
+// ---- printing
+
+#[tactic(auto, unfolding(crate::specs::Check::condition_name))]
+fn put_name(out: &mut String, condition: NamedCondition<'_>) -> Result<(), AllocError>
+    ensures { OnOk result (string_bytes out.new ≡ string_bytes out.old
+        ++ condition_name condition.entry.run.now condition.entry.metric.now condition.entry.which.now) }
+{
+    out.push_str("run ")?;
+    out.push_str(condition.run)?;
+    out.push_str(" metric ")?;
+    out.push_str(condition.metric)?;
+    out.push_str(" ")?;
+    out.push_str(condition.which)
+}
+
+#[tactic(auto, unfolding(crate::specs::Check::bounds_line))]
+fn put_bounds(out: &mut String, condition: NamedCondition<'_>) -> Result<(), AllocError>
+    ensures { OnOk result
+        (string_bytes out.new ≡ string_bytes out.old ++ bounds_line (condition_seen condition.entry)) }
+{
+    put_name(out, condition)?;
+    put_counted(
+        out,
+        "operations",
+        condition.verified.code().ops().len() as u64,
+    )?;
+    put_counted(out, "depth", condition.verified.depth() as u64)?;
+    put_counted(out, "budget", condition.verified.budget())?;
+    out.push_str("\n")
+}
+
+#[tactic(auto, unfolding(crate::specs::Check::listed_text))]
+fn put_listing(
+    alloc: Global,
+    out: &mut String,
+    condition: NamedCondition<'_>,
+) -> Result<(), AllocError>
+    ensures { OnOk result
+        (string_bytes out.new ≡ string_bytes out.old ++ listed_text (condition_seen condition.entry)) }
+{
+    let lines = listing(alloc, condition.verified.code())?;
+    put_name(out, condition)?;
+    out.push_str("\n")?;
+    out.push_str(lines.as_str())
 }
 
 /// A line for each condition of a bundle: its run and metric, which of the two it is, how many
@@ -152,10 +152,16 @@ fn put_runs(alloc: Global, shown: Shown, bundle: &Bundle) -> Result<String, Allo
 /// # Errors
 ///
 /// Out of memory alone.
+#[tactic(auto, using(crate::proofs::Shown::next_line, crate::proofs::Shown::no_line))]
 pub fn check_text(alloc: Global, bundle: &Bundle) -> Result<String, AllocError>
-    ensures { IfOk result (λ text. string_bytes text ≡ check_text bundle.now) }
+    ensures { IfOk result (λ text. string_bytes text ≡ check_text (check_facts bundle.now)) }
 {
-    put_runs(alloc, Shown::Bounds, bundle)
+    let found = conditions(alloc, bundle)?;
+    let mut out = String::new(alloc);
+    for condition in &found {
+        put_bounds(&mut out, *condition)?;
+    }
+    Ok(out)
 }
 
 /// The listing of each condition's code, after a line with its run and metric and which of the two
@@ -164,8 +170,14 @@ pub fn check_text(alloc: Global, bundle: &Bundle) -> Result<String, AllocError>
 /// # Errors
 ///
 /// Out of memory alone.
+#[tactic(auto, using(crate::proofs::Shown::next_line, crate::proofs::Shown::no_line))]
 pub fn list_text(alloc: Global, bundle: &Bundle) -> Result<String, AllocError>
-    ensures { IfOk result (λ text. string_bytes text ≡ list_text bundle.now) }
+    ensures { IfOk result (λ text. string_bytes text ≡ list_text (check_facts bundle.now)) }
 {
-    put_runs(alloc, Shown::Listing, bundle)
+    let found = conditions(alloc, bundle)?;
+    let mut out = String::new(alloc);
+    for condition in &found {
+        put_listing(alloc, &mut out, *condition)?;
+    }
+    Ok(out)
 }

@@ -1,20 +1,28 @@
 //! Reports for people and pipelines: of runs, and of what is known of conditions before any run.
 //!
-//! [`report`] prints the histories of a bundle's runs: the phase of each run, the phase and counts of
-//! each metric and whether it is dry, and each event with its verdict and effect. The text is the function of the
-//! histories' numbers that `specs/Report` defines, whatever order these are in. [`run_phases`] returns
-//! the phases of the runs. [`check_text`] prints the bounds of each condition, and [`list_text`] its
-//! code (`specs/Check`).
+//! What there is to say is defined once, as facts (`specs/Facts`): of histories, the phase of each run, the phase,
+//! limits and counts of each metric and whether it is dry, and each event with its verdict and effect, whatever order
+//! the histories' numbers are in; of conditions, their code and its bounds. Two definitions print them: as lines
+//! (`specs/Report`, `specs/Check`) and as a JSON object, which reads back as what was written (`specs/ReportData`).
 //!
-//! - `conditions`: the lines of conditions
+//! [`report`] and [`report_json`] print the histories of a bundle's runs, and [`run_phases`] returns the phases of
+//! the runs. [`check_text`] and [`check_json`] print the bounds of each condition, [`list_text`] its code, and
+//! [`answer_json`] what one condition says.
+//!
+//! - `conditions`: the conditions of a bundle, and their lines
+//! - `json`: the objects of reports, conditions and answers
+//! - [`laws`]: that the object of a report determines its facts
 //! - `names`: phases, verdicts and effects as they are printed
 //! - `reports`: the lines of a report, and the phases of runs
 #![tactic(auto)]
 
 mod conditions;
+mod json;
+pub mod laws;
 mod names;
 mod reports;
 
 pub use conditions::{check_text, list_text};
+pub use json::{answer_json, check_json, report_json};
 pub use names::{phase_name, put_verdict};
 pub use reports::{report, run_phases};

@@ -1,7 +1,7 @@
 //! Phases, verdicts and effects as they are printed.
 
-ghost use Rattle.std.specs.Prelude.{◌≡◌, ◌++◌, OnOk, string_bytes};
-ghost use Rattle.ar_report.specs.Names.{cause_text, effect_text, misfit_name, phase_name, verdict_text};
+ghost use Rattle.std.specs.Prelude.{◌≡◌, ◌++◌, OnOk, option_map, string_bytes};
+ghost use Rattle.ar_report.specs.Names.{cause_if_error, cause_name, cause_text, closed_as, effect_name, effect_text, fault_if_error, fault_of_cause, misfit_name, phase_name, verdict_name, verdict_text};
 
 use ar_json::value_reading::ShapeFault;
 use ar_judge::{Cause, Verdict};
@@ -71,5 +71,78 @@ pub(crate) fn put_effect(out: &mut String, effect: Effect) -> Result<(), AllocEr
         Effect::Applied => out.push_str("applied"),
         Effect::Closed(phase) => write!(out, "closed {}", phase_name(phase)),
         Effect::Late => out.push_str("late"),
+    }
+}
+
+// ---- the parts of verdicts and effects, each by itself
+
+pub(crate) fn verdict_name(verdict: Verdict) -> &'static str
+    ensures { result.now ≡ verdict_name verdict }
+{
+    match verdict {
+        Verdict::Successful => "Successful",
+        Verdict::Failed => "Failed",
+        Verdict::Inconclusive => "Inconclusive",
+        Verdict::Error(_) => "Error",
+    }
+}
+
+fn cause_name(cause: Cause) -> &'static str
+    ensures { result.now ≡ cause_name cause }
+{
+    match cause {
+        Cause::Provider => "provider",
+        Cause::Shape(_) => "shape",
+        Cause::Success(_) => "success",
+        Cause::Failure(_) => "failure",
+    }
+}
+
+/// The name of a misfit or a fault.
+fn fault_of_cause(cause: Cause) -> Option<&'static str>
+    ensures { option_map (λ name. name.now) result ≡ fault_of_cause cause }
+{
+    match cause {
+        Cause::Provider => None,
+        Cause::Shape(fault) => Some(misfit_name(fault)),
+        Cause::Success(fault) | Cause::Failure(fault) => Some(fault.name()),
+    }
+}
+
+pub(crate) fn cause_if_error(verdict: Verdict) -> Option<&'static str>
+    ensures { option_map (λ name. name.now) result ≡ cause_if_error verdict }
+{
+    match verdict {
+        Verdict::Successful | Verdict::Failed | Verdict::Inconclusive => None,
+        Verdict::Error(cause) => Some(cause_name(cause)),
+    }
+}
+
+pub(crate) fn fault_if_error(verdict: Verdict) -> Option<&'static str>
+    ensures { option_map (λ name. name.now) result ≡ fault_if_error verdict }
+{
+    match verdict {
+        Verdict::Successful | Verdict::Failed | Verdict::Inconclusive => None,
+        Verdict::Error(cause) => fault_of_cause(cause),
+    }
+}
+
+pub(crate) fn effect_name(effect: Effect) -> &'static str
+    ensures { result.now ≡ effect_name effect }
+{
+    match effect {
+        Effect::Applied => "applied",
+        Effect::Closed(_) => "closed",
+        Effect::Late => "late",
+    }
+}
+
+/// The phase with which an event closed its run, if it did.
+pub(crate) fn closed_as(effect: Effect) -> Option<&'static str>
+    ensures { option_map (λ name. name.now) result ≡ closed_as effect }
+{
+    match effect {
+        Effect::Closed(phase) => Some(phase_name(phase)),
+        Effect::Applied | Effect::Late => None,
     }
 }

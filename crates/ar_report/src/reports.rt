@@ -1,14 +1,15 @@
 //! The lines of a report, and the phases of runs.
 
-ghost use Rattle.std.specs.Prelude.{◌≡◌, ◌≤◌, ◌++◌, IfOk, OnOk, Some, codes, decimal, length, map, string_bytes};
+ghost use Rattle.std.specs.Prelude.{◌≡◌, ◌≤◌, ◌++◌, IfOk, OnOk, Some, codes, decimal, flat_map, length, map, string_bytes};
 ghost use Rattle.ar_limits.specs.Replay.{Replays, most_events};
 ghost use Rattle.ar_bundle.specs.Sound.{IsRun};
 ghost use Rattle.ar_bundle.specs.Bundle.{events_of, finding_at};
 ghost use Rattle.ar_limits.specs.Run.{effects};
-ghost use Rattle.ar_report.specs.Private.Entries.{AreFound, entry_lines};
+ghost use Rattle.ar_report.specs.Facts.{event_facts, facts_of_metrics, finding_facts, metric_facts, name_at, phases_of, report_facts, run_facts};
+ghost use Rattle.ar_report.specs.Private.Entries.{AreFound, facts_of_entries};
 ghost use Rattle.ar_bundle.specs.Lawful.{AreHistoriesSoFar, numbers_of};
 ghost use Rattle.ar_report.specs.Names.{effect_text};
-ghost use Rattle.ar_report.specs.Report.{figure_text, counts_text, dry_text, errors_text, event_line, finding_text, name_at, metric_line, metric_lines, report, run_line, run_phases, run_text};
+ghost use Rattle.ar_report.specs.Report.{figure_text, counts_text, dry_text, errors_text, event_line, finding_text, metric_line, report_text, run_line, run_text};
 
 use crate::names::{phase_name, put_effect, put_verdict};
 use ar_bundle::{Bundle, Entry, Finding, Histories, MetricPart, RunPart, What};
@@ -67,7 +68,7 @@ fn put_metric(
     counts: Counts,
 ) -> Result<(), AllocError>
     ensures { OnOk result
-        (string_bytes out.new ≡ string_bytes out.old ++ metric_line metric.now own phase counts) }
+        (string_bytes out.new ≡ string_bytes out.old ++ metric_line (metric_facts metric.now own phase counts)) }
 {
     out.push_str("metric ")?;
     out.push_str(metric.name.as_str())?;
@@ -79,7 +80,7 @@ fn put_metric(
 }
 
 /// The name of the metric with a number.
-fn name_at(metrics: &[MetricPart], metric: usize) -> &str
+pub(crate) fn name_at(metrics: &[MetricPart], metric: usize) -> &str
     ensures { result.now ≡ name_at metrics.now metric }
 {
     match metrics.get(metric) {
@@ -95,7 +96,8 @@ fn put_finding(
     what: &What,
     finding: Finding,
 ) -> Result<(), AllocError>
-    ensures { OnOk result (string_bytes out.new ≡ string_bytes out.old ++ finding_text metrics.now what.now finding) }
+    ensures { OnOk result (string_bytes out.new
+        ≡ string_bytes out.old ++ finding_text (finding_facts metrics.now what.now finding)) }
 {
     match (what, finding) {
         (What::Measure(metric, _), Finding::Judged(verdict)) => {
@@ -111,7 +113,7 @@ fn put_finding(
 fn put_event(out: &mut String, bundle: &Bundle, entry: Entry) -> Result<(), AllocError>
     requires { finding_at bundle.now entry.number ≡ Some entry.finding }
     ensures { OnOk result
-        (string_bytes out.new ≡ string_bytes out.old ++ event_line bundle.now entry.number entry.effect) }
+        (string_bytes out.new ≡ string_bytes out.old ++ event_line (event_facts bundle.now entry.number entry.effect)) }
 {
     let what = &bundle.entries()[entry.number as usize].what;
     put_event_number(out, entry.number)?;
@@ -138,7 +140,7 @@ fn put_event_effect(out: &mut String, effect: Effect) -> Result<(), AllocError>
 }
 
 fn put_run_line(out: &mut String, run: &RunPart, phase: Phase) -> Result<(), AllocError>
-    ensures { OnOk result (string_bytes out.new ≡ string_bytes out.old ++ run_line run.now phase) }
+    ensures { OnOk result (string_bytes out.new ≡ string_bytes out.old ++ run_line run.now.name phase) }
 {
     out.push_str("run ")?;
     out.push_str(run.name.as_str())?;
@@ -157,8 +159,8 @@ fn put_metrics(
 ) -> Result<(), AllocError>
     requires limits { length limits.now ≡ length metrics.now }
     requires metrics { length state.now.limits ≡ length metrics.now }
-    ensures { OnOk result (string_bytes out.new
-        ≡ string_bytes out.old ++ metric_lines metrics.now limits.now state.now.phases state.now.counts) }
+    ensures { OnOk result (string_bytes out.new ≡ string_bytes out.old
+        ++ flat_map metric_line (facts_of_metrics metrics.now limits.now state.now.phases state.now.counts)) }
 {
     for (number, metric) in metrics.iter().enumerate() {
         put_metric(
@@ -176,7 +178,8 @@ fn put_metrics(
 #[tactic(auto, using(crate::proofs::Lines::next_event, crate::proofs::Lines::no_event, crate::proofs::Lines::is_found))]
 fn put_events(out: &mut String, bundle: &Bundle, entries: &[Entry]) -> Result<(), AllocError>
     requires { AreFound bundle.now entries.now }
-    ensures { OnOk result (string_bytes out.new ≡ string_bytes out.old ++ entry_lines bundle.now entries.now) }
+    ensures { OnOk result
+        (string_bytes out.new ≡ string_bytes out.old ++ flat_map event_line (facts_of_entries bundle.now entries.now)) }
 {
     for entry in entries {
         put_event(out, bundle, *entry)?;
@@ -186,7 +189,7 @@ fn put_events(out: &mut String, bundle: &Bundle, entries: &[Entry]) -> Result<()
 
 /// The state of a run after its entries.
 #[tactic(auto, using(crate::proofs::Lines::is_found, crate::proofs::Replaying::next_entry, crate::proofs::Replaying::no_entry_left, crate::proofs::Replaying::of_metric, crate::proofs::Replaying::room_left))]
-fn replayed(
+pub(crate) fn replayed(
     alloc: Global,
     bundle: &Bundle,
     run: &RunPart,
@@ -219,7 +222,8 @@ fn put_run(
         (events_of bundle.now (numbers_of entries.now)) }
     requires few { length entries.now ≤ most_events }
     ensures { OnOk result
-        (string_bytes out.new ≡ string_bytes out.old ++ run_text bundle.now run.now (numbers_of entries.now)) }
+        (string_bytes out.new
+        ≡ string_bytes out.old ++ run_text (run_facts bundle.now run.now (numbers_of entries.now))) }
 {
     let state = replayed(alloc, bundle, run, entries)?;
     put_run_line(out, run, state.phase())?;
@@ -236,7 +240,8 @@ fn put_run(
 #[tactic(auto, using(crate::proofs::Runs::has_history, crate::proofs::Runs::next_run, crate::proofs::Runs::no_run, crate::proofs::Runs::run_is_run))]
 pub fn report(alloc: Global, bundle: &Bundle, histories: &Histories) -> Result<String, AllocError>
     requires { AreHistoriesSoFar bundle.now histories.now }
-    ensures { IfOk result (λ text. string_bytes text ≡ report bundle.now (map numbers_of histories.now)) }
+    ensures { IfOk result
+        (λ text. string_bytes text ≡ report_text (report_facts bundle.now (map numbers_of histories.now))) }
 {
     let mut out = String::new(alloc);
     let histories = histories.runs();
@@ -259,7 +264,8 @@ pub fn run_phases(
     histories: &Histories,
 ) -> Result<Vec<Phase>, AllocError>
     requires { AreHistoriesSoFar bundle.now histories.now }
-    ensures { IfOk result (λ phases. phases.items ≡ run_phases bundle.now (map numbers_of histories.now)) }
+    ensures { IfOk result
+        (λ phases. phases.items ≡ phases_of (report_facts bundle.now (map numbers_of histories.now))) }
 {
     let mut phases = Vec::new(alloc);
     let histories = histories.runs();

@@ -13,13 +13,14 @@ mod words;
 
 ghost use Rattle.std.specs.Prelude.{◌≡◌, ◌≤◌, ℕ, Ok, false};
 ghost use Rattle.ar_command_line.specs.declared.command_line.Command.TheVariants as commands;
+ghost use Rattle.ar_command_line.specs.declared.command_line.Format.{Format};
 
 use ar_board::MOST_WORKERS;
 use ar_command::{
     Closing, Command, Device, Kept, Refusal, ServeError, Sink, Source, serve, serve_plain, status,
     write_output,
 };
-use ar_command_line::{UsageError, command_of, shown, words_text, workers_text};
+use ar_command_line::{UsageError, command_of, output_text, shown, words_text, workers_text};
 use ar_workers::{FreeGate, WorkError};
 use std::alloc::AllocError;
 use std::process::ExitCode;
@@ -71,6 +72,7 @@ fn usage_text<R: Env + AllocGlobal>(rt: &R, error: UsageError) -> Result<String,
     match error {
         UsageError::Words => Ok(words_text(rt.alloc(), &words)?),
         UsageError::Workers => Ok(workers_text(rt.alloc(), &words)?),
+        UsageError::Output => Ok(output_text(rt.alloc(), &words)?),
         UsageError::Conflict | UsageError::OutOfMemory => Err(error),
     }
 }
@@ -89,8 +91,10 @@ fn show<R: Print + Eprint>(rt: &R, text: &str) -> u8 {
 
 /// What the command line asks for.
 fn requested<R: Env + AllocGlobal>(rt: &R) -> Result<Request, UsageError>
-    ensures workers { (n : ℕ) → result ≡ Ok (Request.CarryOut (commands.Run n)) → (1 ≤ n) × (n ≤ MOST_WORKERS) }
-    ensures ordered { (n : ℕ) → result ≡ Ok (Request.CarryOut (commands.Ordered n)) → (1 ≤ n) × (n ≤ MOST_WORKERS) }
+    ensures workers { (n : ℕ) (format : Format) → result ≡ Ok (Request.CarryOut (commands.Run n format))
+        → (1 ≤ n) × (n ≤ MOST_WORKERS) }
+    ensures ordered { (n : ℕ) (format : Format) → result ≡ Ok (Request.CarryOut (commands.Ordered n format))
+        → (1 ≤ n) × (n ≤ MOST_WORKERS) }
 {
     let words = arguments(rt)?;
     match shown(rt.alloc(), &words)? {
@@ -119,8 +123,8 @@ fn arguments<R: Env + AllocGlobal>(rt: &R) -> Result<Vec<String>, UsageError> {
 fn carry_out<R>(rt: &R, command: Command) -> u8
 where
     R: AllocGlobal + Input + Print + Eprint + Threads + Wait + Sync,
-    requires workers { (n : ℕ) → command ≡ commands.Run n → (1 ≤ n) × (n ≤ MOST_WORKERS) }
-    requires ordered { (n : ℕ) → command ≡ commands.Ordered n → (1 ≤ n) × (n ≤ MOST_WORKERS) }
+    requires workers { (n : ℕ) (format : Format) → command ≡ commands.Run n format → (1 ≤ n) × (n ≤ MOST_WORKERS) }
+    requires ordered { (n : ℕ) (format : Format) → command ≡ commands.Ordered n format → (1 ≤ n) × (n ≤ MOST_WORKERS) }
 {
     let mut reader = Kept::new(rt.alloc(), Device::new(rt.reader()));
     let mut writer = Device::new(io::writer(rt));
@@ -133,7 +137,7 @@ where
 
 /// Whether a command that was carried out warns of what its document has that is probably not meant.
 fn warns(command: Command, outcome: &Result<Closing, ServeError>) -> bool {
-    matches!(command, Command::Check) && outcome.is_ok()
+    matches!(command, Command::Check(_)) && outcome.is_ok()
 }
 
 /// Reports what a document has that is probably not meant, a line each.
@@ -155,13 +159,13 @@ fn served<R, S: Source, W: Sink>(
 ) -> Result<Closing, ServeError>
 where
     R: AllocGlobal + Threads + Wait + Sync,
-    requires workers { (n : ℕ) → command ≡ commands.Run n → (1 ≤ n) × (n ≤ MOST_WORKERS) }
-    requires ordered { (n : ℕ) → command ≡ commands.Ordered n → (1 ≤ n) × (n ≤ MOST_WORKERS) }
+    requires workers { (n : ℕ) (format : Format) → command ≡ commands.Run n format → (1 ≤ n) × (n ≤ MOST_WORKERS) }
+    requires ordered { (n : ℕ) (format : Format) → command ≡ commands.Ordered n format → (1 ≤ n) × (n ≤ MOST_WORKERS) }
     requires reader { S.has_failed reader.old ≡ false }
     requires writer { W.has_failed writer.old ≡ false }
 {
     match command {
-        Command::Run(_) | Command::Ordered(_) => {
+        Command::Run(..) | Command::Ordered(..) => {
             serve(rt, rt.alloc(), command, reader, writer, &FreeGate)
         }
         _ => serve_plain(rt.alloc(), command, reader, writer),

@@ -2,7 +2,9 @@
 
 ghost use Rattle.ar_command.specs.Serving.{RunsAlone};
 
-use ar_command::{Closing, Command, Device, DeviceFault, Kept, ServeError, Source, serve_plain};
+use ar_command::{
+    Closing, Command, Device, DeviceFault, Format, Kept, ServeError, Source, serve_plain,
+};
 use std::alloc::Global;
 use std::io;
 use std::io::Read;
@@ -110,8 +112,8 @@ fn writes(alloc: Global, command: Command, expected: &str) -> bool
 /// An input that comes a byte at a time has the same answer as any other.
 #[test]
 fn a_byte_a_read(rt: HostRuntime) {
-    assert!(rt; writes(rt.alloc(), Command::Plain, PLAIN));
-    assert!(rt; writes(rt.alloc(), Command::Check, CHECK));
+    assert!(rt; writes(rt.alloc(), Command::Plain(Format::Text), PLAIN));
+    assert!(rt; writes(rt.alloc(), Command::Check(Format::Text), CHECK));
     assert!(rt; writes(rt.alloc(), Command::List, LIST));
 }
 
@@ -141,8 +143,8 @@ fn assert_failing(rt: &impl Abort, alloc: Global, command: Command)
 #[test]
 fn failing_reads(rt: HostRuntime) {
     assert_fault_is_kept(&rt);
-    assert_failing(&rt, rt.alloc(), Command::Plain);
-    assert_failing(&rt, rt.alloc(), Command::Check);
+    assert_failing(&rt, rt.alloc(), Command::Plain(Format::Text));
+    assert_failing(&rt, rt.alloc(), Command::Check(Format::Text));
     assert_failing(&rt, rt.alloc(), Command::List);
 }
 
@@ -170,8 +172,8 @@ fn writes_of_kept(alloc: Global, command: Command, expected: &str) -> bool
 /// A source that keeps what was read has read it all once a document has an answer.
 #[test]
 fn kept_input(rt: HostRuntime) {
-    assert!(rt; writes_of_kept(rt.alloc(), Command::Plain, PLAIN));
-    assert!(rt; writes_of_kept(rt.alloc(), Command::Check, CHECK));
+    assert!(rt; writes_of_kept(rt.alloc(), Command::Plain(Format::Text), PLAIN));
+    assert!(rt; writes_of_kept(rt.alloc(), Command::Check(Format::Text), CHECK));
     assert!(rt; writes_of_kept(rt.alloc(), Command::List, LIST));
 }
 

@@ -3,7 +3,7 @@
 ghost use Rattle.ar_command.specs.Serving.{RunsWith};
 
 use crate::gates::{FAILING, Holding, Meeting, TWO_RUNS};
-use ar_command::{Closing, Command, Device, Kept, serve};
+use ar_command::{Closing, Command, Device, Format, Kept, serve};
 use ar_workers::Gate;
 use std::alloc::Global;
 use std::sync::Wait;
@@ -56,7 +56,7 @@ fn two_workers_meet_in_a_command(rt: HostRuntime) {
         is_served(
             &rt,
             alloc,
-            Command::Run(2),
+            Command::Run(2, Format::Text),
             TWO_RUNS,
             &mut output,
             &meeting,
@@ -78,7 +78,7 @@ fn in_order_in_a_command(rt: HostRuntime) {
         is_served(
             &rt,
             alloc,
-            Command::Ordered(3),
+            Command::Ordered(3, Format::Text),
             FAILING,
             &mut output,
             &holding,

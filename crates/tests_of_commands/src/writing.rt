@@ -2,7 +2,9 @@
 
 ghost use Rattle.std.specs.Prelude.{◌≡◌, false};
 
-use ar_command::{Closing, Command, Device, DeviceFault, ServeError, Sink, serve, serve_plain};
+use ar_command::{
+    Closing, Command, Device, DeviceFault, Format, ServeError, Sink, serve, serve_plain,
+};
 use ar_workers::FreeGate;
 use std::alloc::Global;
 use std::io;
@@ -127,7 +129,7 @@ fn served_plain<W: Sink>(alloc: Global, writer: &mut W) -> Result<Closing, Serve
     requires { W.has_failed writer.old ≡ false }
 {
     let mut reader = Device::new(DOCUMENT.as_bytes());
-    serve_plain(alloc, Command::Plain, &mut reader, writer)
+    serve_plain(alloc, Command::Plain(Format::Text), &mut reader, writer)
 }
 
 /// How a run with two workers ends on the document.
@@ -139,7 +141,14 @@ fn served<R: Threads + Wait + Sync, W: Sink>(
     requires { W.has_failed writer.old ≡ false }
 {
     let mut reader = Device::new(DOCUMENT.as_bytes());
-    serve(rt, alloc, Command::Run(2), &mut reader, writer, &FreeGate)
+    serve(
+        rt,
+        alloc,
+        Command::Run(2, Format::Text),
+        &mut reader,
+        writer,
+        &FreeGate,
+    )
 }
 
 fn is_cut(outcome: &Result<Closing, ServeError>, sink: &Narrow, expected: &[u8]) -> bool {
@@ -260,7 +269,12 @@ fn is_served_though_interrupted(alloc: Global, is_next: bool) -> bool {
     let mut reader = Device::new(Interrupted::new(alloc, DOCUMENT.as_bytes(), is_next));
     let mut output = Interrupted::new(alloc, b"", is_next);
     let mut writer = Device::new(&mut output);
-    let outcome = serve_plain(alloc, Command::Plain, &mut reader, &mut writer);
+    let outcome = serve_plain(
+        alloc,
+        Command::Plain(Format::Text),
+        &mut reader,
+        &mut writer,
+    );
     matches!(outcome, Ok(Closing::Bad))
         && output.written.as_slice() == REPORT.as_bytes()
         && output.is_flushed

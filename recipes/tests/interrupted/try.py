@@ -36,8 +36,8 @@ def ready(folder, recipe, fifo):
     part["measurements"] = [{**entry, "number": number} for number, entry in enumerate(document["measurements"])]
     with open(f"{folder}/parts/0.json", "w", encoding="utf-8") as file:
         json.dump(part, file)
-    with open(BUNDLE.replace(".json", ".run"), "rb") as report, open(f"{folder}/parts/0.report", "wb") as file:
-        file.write(report.read())
+    with open(BUNDLE, "rb") as document, open(f"{folder}/parts/0.report", "wb") as file:
+        subprocess.run([ENGINE, "run", "--plain", "--output", "json"], stdin=document, stdout=file)
     if not fifo:
         return [word.replace("FIFO", BUNDLE) for word in RECIPES[recipe]]
     os.mkfifo(f"{folder}/fifo")

@@ -1,10 +1,11 @@
--- What is shown of each condition.
-use Rattle.std.specs.Prelude.{ℕ, List}
-use Rattle.ar_safety.specs.Bounds.{Verified}
-use Rattle.ar_report.specs.Check.{bounds_text, listed_text}
-use Rattle.ar_report.specs.declared.conditions.Shown.{Shown}
-use Rattle.ar_report.specs.declared.conditions.Shown.TheVariants.{Bounds, Listing}
+-- Conditions as they are gathered in memory.
+use Rattle.std.specs.Prelude.{List, map}
+use Rattle.ar_report.specs.Facts.{ConditionFacts, condition_facts}
+use Rattle.ar_report.specs.declared.conditions.NamedCondition.{NamedCondition}
 
-abbrev pub shown_text : Shown → Verified → List ℕ
-shown_text Bounds verified = bounds_text verified
-shown_text Listing verified = listed_text verified
+abbrev pub condition_seen : NamedCondition → ConditionFacts
+condition_seen condition =
+    condition_facts condition.run.now condition.metric.now condition.which.now condition.verified.now
+
+abbrev pub conditions_seen : List NamedCondition → List ConditionFacts
+conditions_seen conditions = map condition_seen conditions

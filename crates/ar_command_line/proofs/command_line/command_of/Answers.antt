@@ -20,6 +20,7 @@ returns-in_err-matches c =
           (refused_words (app_of c.in_ok-command_line.command_line) (texts_of c.as_slice.result.now) c.in_err-matches.field-0.0 c.in_ok-command_line.ensures
           c.in_err-matches.ensures.kinds (sym error.2 ∙ is_words));
       workers = search rules;
+      output = search rules;
       conflict = search rules;
     }
 

@@ -1,6 +1,5 @@
 use Rattle.std.proofs.Common.{◌≡◌, ℕ, List, false, ◌++◌, length}
 use Rattle.std.specs.Io.KnownBytes.{Appends}
-use Rattle.ar_command_line.specs.Output.{AppendsFront}
 use Rattle.ar_command_line.proofs.output.write_output.Given as goal
 
 -- the bytes are those that were written so far and the rest
