@@ -10,7 +10,7 @@ use Rattle.ar_value.specs.Value.{Value, Items, item}
 use Rattle.ar_value.specs.declared.operator.Predicate.{Predicate}
 use Rattle.ar_tree.specs.Typed.{Typed}
 use Rattle.ar_explain.specs.Parts.{is_evaluated}
-use Rattle.ar_explain.specs.Trace.{Entry, continues, each_item, if_value, in_child, on_item, root_entry, with_root}
+use Rattle.ar_explain.specs.Trace.{TraceEntry, continues, each_item, if_value, in_child, on_item, root_entry, with_root}
 
 pub from_zero : (n : ℕ) → n ≡ 0 + n
 from_zero n = omega arith
@@ -29,34 +29,34 @@ or_right true b e = absurd (true≢false e)
 
 -- ---- a child's entries
 
-pub of_child : (number : ℕ) (path : List ℕ) (entries : List Entry) → (number == number) ≡ true
+pub of_child : (number : ℕ) (path : List ℕ) (entries : List TraceEntry) → (number == number) ≡ true
     → is_evaluated (number ∷ path) (in_child number entries) ≡ is_evaluated path entries
 of_child number path [] same = refl
 of_child number path (entry ∷ entries) same = rw (same, of_child number path entries same) refl
 
-pub of_another : (number other : ℕ) (path : List ℕ) (entries : List Entry) → (number == other) ≡ false
+pub of_another : (number other : ℕ) (path : List ℕ) (entries : List TraceEntry) → (number == other) ≡ false
     → is_evaluated (other ∷ path) (in_child number entries) ≡ false
 of_another number other path [] differ = refl
 of_another number other path (entry ∷ entries) differ = rw (differ, of_another number other path entries differ) refl
 
 -- entries on an item have the same paths
-pub of_item : (number : ℕ) (path : List ℕ) (entries : List Entry) → is_evaluated path (on_item number entries) ≡ is_evaluated path entries
+pub of_item : (number : ℕ) (path : List ℕ) (entries : List TraceEntry) → is_evaluated path (on_item number entries) ≡ is_evaluated path entries
 of_item number path [] = refl
 of_item number path (entry ∷ entries) = rw (of_item number path entries) refl
 
 -- the root's own entry has no path of a child
-pub of_root : (result : Value) (here : Option Value) (tree : Typed) (number : ℕ) (path : List ℕ) (entries : List Entry)
+pub of_root : (result : Value) (here : Option Value) (tree : Typed) (number : ℕ) (path : List ℕ) (entries : List TraceEntry)
     → is_evaluated (number ∷ path) (with_root result here tree entries) ≡ is_evaluated (number ∷ path) entries
 of_root result here tree number path entries =
-    list_any-append (λ (entry : Entry). bytes_eq entry.path (number ∷ path)) entries (root_entry result here tree ∷ [])
+    list_any-append (λ (entry : TraceEntry). bytes_eq entry.path (number ∷ path)) entries (root_entry result here tree ∷ [])
     ∙ or_none (is_evaluated (number ∷ path) entries)
 
-pub of_two : (path : List ℕ) (entries later : List Entry)
+pub of_two : (path : List ℕ) (entries later : List TraceEntry)
     → is_evaluated path (entries ++ later) ≡ (is_evaluated path entries || is_evaluated path later)
-of_two path entries later = list_any-append (λ (entry : Entry). bytes_eq entry.path path) entries later
+of_two path entries later = list_any-append (λ (entry : TraceEntry). bytes_eq entry.path path) entries later
 
 -- the entries of the first item, and of those after it
-pub of_items : (path : List ℕ) (predicate : Predicate) (holds : Value → Result Bool Failure) (entries : Value → List Entry) (number : ℕ) (first : Value) (items : Items)
+pub of_items : (path : List ℕ) (predicate : Predicate) (holds : Value → Result Bool Failure) (entries : Value → List TraceEntry) (number : ℕ) (first : Value) (items : Items)
     → is_evaluated path (each_item predicate holds entries number (item first items))
     ≡ (is_evaluated path (entries first) || is_evaluated path (if_value (holds first) (λ it. if continues predicate it then each_item predicate holds entries (suc number) items else [])))
 of_items path predicate holds entries number first items =
@@ -65,11 +65,11 @@ of_items path predicate holds entries number first items =
 
 -- ---- after a value
 
-pub after_value : {A : Type 0} (path : List ℕ) (m : Result A Failure) (entries : A → List Entry) (value : A) → m ≡ Ok value
+pub after_value : {A : Type 0} (path : List ℕ) (m : Result A Failure) (entries : A → List TraceEntry) (value : A) → m ≡ Ok value
     → is_evaluated path (if_value m entries) ≡ false → is_evaluated path (entries value) ≡ false
 after_value path m entries value is lacks = subst (λ m. is_evaluated path (if_value m entries) ≡ false) is lacks
 
-pub has_value : {A : Type 0} (path : List ℕ) (m : Result A Failure) (entries : A → List Entry)
+pub has_value : {A : Type 0} (path : List ℕ) (m : Result A Failure) (entries : A → List TraceEntry)
     → is_evaluated path (if_value m entries) ≡ true → (value : A) × (m ≡ Ok value) × (is_evaluated path (entries value) ≡ true)
 has_value path (Ok value) entries has = (value, refl, has)
 has_value path (Err failure) entries has = absurd (true≢false (sym has))
@@ -91,7 +91,7 @@ pub all_if_value : {A B : Type 0} (P : B → Type 0) (m : Result A Failure) (ent
 all_if_value P (Ok value) entries all = all value refl
 all_if_value P (Err failure) entries all = tt
 
-pub all_where : (P : Entry → Type 0) (holds : Bool) (entries others : List Entry) → (holds ≡ true → AllByRecursion P entries)
+pub all_where : (P : TraceEntry → Type 0) (holds : Bool) (entries others : List TraceEntry) → (holds ≡ true → AllByRecursion P entries)
     → (holds ≡ false → AllByRecursion P others) → AllByRecursion P (if holds then entries else others)
 all_where P true entries others all more = all refl
 all_where P false entries others all more = more refl

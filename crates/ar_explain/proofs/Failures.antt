@@ -11,12 +11,12 @@ use Rattle.ar_value.specs.declared.operator.Predicate.TheVariants as predicates
 use Rattle.ar_tree.specs.Meaning.{items_mean, mean, over, those}
 use Rattle.ar_tree.specs.Typed.{Typed, Typeds}
 use Rattle.ar_tree.specs.Typed as typed
-use Rattle.ar_explain.specs.Trace.{Entry, continues, each_item, items_trace, on_item, root_entry, trace, with_root, in_child}
+use Rattle.ar_explain.specs.Trace.{TraceEntry, continues, each_item, items_trace, on_item, root_entry, trace, with_root, in_child}
 use Rattle.ar_explain.proofs.Entries.{all_if_value, all_of_two, all_where, fails_after, fails_after_two, fails_on}
 
 module _ (failure : Failure) where
   -- an entry's failure is a meaning's
-  abbrev pub FailsAs : {A : Type 0} → Result A Failure → Entry → Type 0
+  abbrev pub FailsAs : {A : Type 0} → Result A Failure → TraceEntry → Type 0
   FailsAs m entry = entry.meaning ≡ Err failure → m ≡ Err failure
 
   -- what fails before a value is made of it
@@ -25,22 +25,22 @@ module _ (failure : Failure) where
   fails_before (Err other) made is = cc
 
   -- the failures of a child are those of its parent
-  of_child : {A B : Type 0} (number : ℕ) (m : Result A Failure) (parent : Result B Failure) (entries : List Entry) → (m ≡ Err failure → parent ≡ Err failure)
+  of_child : {A B : Type 0} (number : ℕ) (m : Result A Failure) (parent : Result B Failure) (entries : List TraceEntry) → (m ≡ Err failure → parent ≡ Err failure)
       → AllByRecursion (FailsAs m) entries → AllByRecursion (FailsAs parent) (in_child number entries)
   of_child number m parent [] leads all = tt
   of_child number m parent (entry ∷ entries) leads all = ((λ fails. leads (all.0 fails)), of_child number m parent entries leads all.1)
 
-  on_an_item : {A B : Type 0} (number : ℕ) (m : Result A Failure) (parent : Result B Failure) (entries : List Entry) → (m ≡ Err failure → parent ≡ Err failure)
+  on_an_item : {A B : Type 0} (number : ℕ) (m : Result A Failure) (parent : Result B Failure) (entries : List TraceEntry) → (m ≡ Err failure → parent ≡ Err failure)
       → AllByRecursion (FailsAs m) entries → AllByRecursion (FailsAs parent) (on_item number entries)
   on_an_item number m parent [] leads all = tt
   on_an_item number m parent (entry ∷ entries) leads all = ((λ fails. leads (all.0 fails)), on_an_item number m parent entries leads all.1)
 
-  leads_all : {A B : Type 0} (m : Result A Failure) (parent : Result B Failure) (entries : List Entry) → (m ≡ Err failure → parent ≡ Err failure)
+  leads_all : {A B : Type 0} (m : Result A Failure) (parent : Result B Failure) (entries : List TraceEntry) → (m ≡ Err failure → parent ≡ Err failure)
       → AllByRecursion (FailsAs m) entries → AllByRecursion (FailsAs parent) entries
   leads_all m parent [] leads all = tt
   leads_all m parent (entry ∷ entries) leads all = ((λ fails. leads (all.0 fails)), leads_all m parent entries leads all.1)
 
-  root : (result : Value) (here : Option Value) (tree : Typed) (entries : List Entry) → AllByRecursion (FailsAs (mean result here tree)) entries
+  root : (result : Value) (here : Option Value) (tree : Typed) (entries : List TraceEntry) → AllByRecursion (FailsAs (mean result here tree)) entries
       → AllByRecursion (FailsAs (mean result here tree)) (with_root result here tree entries)
   root result here tree entries all =
       all_of_two (FailsAs (mean result here tree)) entries (root_entry result here tree ∷ []) all ((λ fails. fails), tt)
@@ -74,7 +74,7 @@ module _ (failure : Failure) where
     more_fail predicates.Filter first items it is on fails =
         fails_on (those holds (item first items)) _ (those_fail first items it is (fails_before (those holds items) (λ found. list found) fails))
 
-    each : (entries : Value → List Entry) (predicate : Predicate) (number : ℕ) (items : Items)
+    each : (entries : Value → List TraceEntry) (predicate : Predicate) (number : ℕ) (items : Items)
         → ((value : Value) → AllByRecursion (FailsAs (holds value)) (entries value))
         → AllByRecursion (FailsAs (over predicate holds items)) (each_item predicate holds entries number items)
     each entries predicate number no_items all = tt
@@ -156,6 +156,6 @@ module _ (failure : Failure) where
         (failing_items result here (suc number) others)))
 
 pub failures_of_root : (result : Value) (here : Option Value) (tree : Typed) (failure : Failure)
-    → All (λ (entry : Entry). entry.meaning ≡ Err failure → mean result here tree ≡ Err failure) (trace result here tree)
+    → All (λ (entry : TraceEntry). entry.meaning ≡ Err failure → mean result here tree ≡ Err failure) (trace result here tree)
 failures_of_root result here tree failure =
-    All-from_recursion (λ (entry : Entry). entry.meaning ≡ Err failure → mean result here tree ≡ Err failure) (trace result here tree) (failing failure result here tree)
+    All-from_recursion (λ (entry : TraceEntry). entry.meaning ≡ Err failure → mean result here tree ≡ Err failure) (trace result here tree) (failing failure result here tree)

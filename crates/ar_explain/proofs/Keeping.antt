@@ -5,7 +5,7 @@ use Rattle.std.proofs.lemmas.List.{append-nil, length-map, length-take, map-appe
 use Rattle.std.proofs.lemmas.Bool.Decides.{nat_tests}
 use Rattle.std.proofs.Math.ListN.{drop_of_length-le}
 use Rattle.ar_tree.specs.Typed.{Typed}
-use Rattle.ar_explain.specs.Lines.{Explanation, Line, Said, explained, lines_on_item, most_left_out, most_lines}
+use Rattle.ar_explain.specs.Lines.{Explanation, Line, Outcome, explained, lines_on_item, most_left_out, most_lines}
 use Rattle.ar_explain.specs.Private.Keeping.{with_line, with_lines, on_items}
 use Rattle.ar_explain.specs.Views.{line_view}
 use Rattle.ar_explain.specs.declared.explanation.Line.{Line as LineCode}
@@ -137,6 +137,6 @@ line_counted xs n m line full many =
     counted_where (map line_view xs) n m line (nat_lt (length (map line_view xs)) 1000) is many
 
 -- a line in a place
-pub line_within : (e : Explanation) (items : List ℕ) (part : Typed) (said : Said) (new : Explanation)
+pub line_within : (e : Explanation) (items : List ℕ) (part : Typed) (said : Outcome) (new : Explanation)
     → new ≡ with_line e (record { items = items; part = part; said = said }) → new ≡ with_line e (on_items items (record { items = []; part = part; said = said }))
 line_within e items part said new is = is ∙ ap (λ numbers. with_line e (record { items = numbers; part = part; said = said })) (sym (append-nil items))

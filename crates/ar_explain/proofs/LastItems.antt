@@ -10,11 +10,12 @@ use Rattle.ar_tree.specs.Meaning.{mean}
 use Rattle.ar_tree.specs.Typed.{Typed}
 use Rattle.ar_tree.specs.Typed as typed
 use Rattle.ar_explain.specs.Lines.{Line, each_item_lines, earlier_lines, few_items, is_empty, is_last, item_lines, lines_on_item, own_lines, with_own}
+use Rattle.ar_explain.specs.Operands.{failed_on}
 use Rattle.ar_explain.specs.Sources.{LooksLastAt, body_entry}
-use Rattle.ar_explain.specs.Trace.{Entry, continues, each_item, if_value, in_child, on_item, root_entry, trace, with_root}
+use Rattle.ar_explain.specs.Trace.{TraceEntry, continues, each_item, if_value, in_child, on_item, root_entry, trace, with_root}
 use Rattle.ar_explain.proofs.Roots.{root_last}
 
-abbrev on_one : ℕ → Entry → Entry
+abbrev on_one : ℕ → TraceEntry → TraceEntry
 on_one number entry = record entry { items = number ∷ entry.items }
 
 or_true : (b : Bool) → (b || true) ≡ true
@@ -22,12 +23,12 @@ or_true true = refl
 or_true false = refl
 
 -- the bodies' entries end with their own, and so do their lines, where they have one
-module _ (predicate : Predicate) (holds : Value → Result Bool Failure) (entries : Value → List Entry) (said : Value → List Line) (own : Value → Entry) (line : Value → List Line)
-    (entries_are : (value : Value) → (earlier : List Entry) × (entries value ≡ earlier ++ own value ∷ [])) (said_is : (value : Value) → (before : List Line) × (said value ≡ before ++ line value)) where
+module _ (predicate : Predicate) (holds : Value → Result Bool Failure) (entries : Value → List TraceEntry) (said : Value → List Line) (own : Value → TraceEntry) (line : Value → List Line)
+    (entries_are : (value : Value) → (earlier : List TraceEntry) × (entries value ≡ earlier ++ own value ∷ [])) (said_is : (value : Value) → (before : List Line) × (said value ≡ before ++ line value)) where
   record Last (items : Items) (from : ℕ) : Type 0 where
     number : ℕ
     value : Value
-    earlier : List Entry
+    earlier : List TraceEntry
     are : each_item predicate holds entries from items ≡ earlier ++ on_one number (own value) ∷ []
     before : List Line
     lines_are : each_item_lines predicate holds said from items ≡ before ++ lines_on_item number (line value)
@@ -87,7 +88,7 @@ module _ (predicate : Predicate) (holds : Value → Result Bool Failure) (entrie
   is_at_end : (from : ℕ) (first : Value) (it : Bool) → holds first ≡ Ok it → Last (item first no_items) from
   is_at_end from first it is =
       ends_here from first no_items
-      (ap (λ m. if_value m (λ it. none_after {A = Entry} (continues predicate it))) is ∙ no_more (continues predicate it))
+      (ap (λ m. if_value m (λ it. none_after {A = TraceEntry} (continues predicate it))) is ∙ no_more (continues predicate it))
       (ap (λ m. if_value m (λ it. none_after {A = Line} (continues predicate it))) is ∙ no_more (continues predicate it))
       (ap (λ m. is_last predicate true m) is)
 
@@ -109,10 +110,10 @@ module _ (predicate : Predicate) (holds : Value → Result Bool Failure) (entrie
 
 -- ---- predicates
 
-body_ends : (result : Value) (body : Typed) (value : Value) → (earlier : List Entry) × (in_child 1 (trace result (Some value) body) ≡ earlier ++ record (root_entry result (Some value) body) { path = 1 ∷ [] } ∷ [])
+body_ends : (result : Value) (body : Typed) (value : Value) → (earlier : List TraceEntry) × (in_child 1 (trace result (Some value) body) ≡ earlier ++ record (root_entry result (Some value) body) { path = 1 ∷ [] } ∷ [])
 body_ends result body value =
     let last = root_last result (Some value) body in
-    (in_child 1 last.0, ap (in_child 1) last.1 ∙ map-append (λ (entry : Entry). record entry { path = 1 ∷ entry.path }) last.0 (root_entry result (Some value) body ∷ []))
+    (in_child 1 last.0, ap (in_child 1) last.1 ∙ map-append (λ (entry : TraceEntry). record entry { path = 1 ∷ entry.path }) last.0 (root_entry result (Some value) body ∷ []))
 
 -- what comes after a list's own is what comes after that of its items
 joined : {A : Type 0} (first : List A) (m : Result Value Failure) (items : Items) (next : Items → List A) (earlier later : List A) → m ≡ Ok (list items) → next items ≡ earlier ++ later
@@ -124,9 +125,9 @@ pub looks_last : (result : Value) (here : Option Value) (predicate : Predicate) 
     → (number : ℕ) × (value : Value) × LooksLastAt result here predicate many body number value
 looks_last result here predicate many body first others is =
     let holds : Value → Result Bool Failure = λ value. mean result (Some value) body >>= boolean in
-    let entries : Value → List Entry = λ value. in_child 1 (trace result (Some value) body) in
+    let entries : Value → List TraceEntry = λ value. in_child 1 (trace result (Some value) body) in
     let said : Value → List Line = λ value. with_own result (Some value) body (earlier_lines result (Some value) body) in
-    let last = last_item predicate holds entries said (λ value. record (root_entry result (Some value) body) { path = 1 ∷ [] }) (λ value. own_lines body (mean result (Some value) body))
+    let last = last_item predicate holds entries said (λ value. record (root_entry result (Some value) body) { path = 1 ∷ [] }) (λ value. own_lines body (mean result (Some value) body) (failed_on result (Some value) body))
     (body_ends result body) (λ value. (earlier_lines result (Some value) body, refl)) first others 0 in
     let list_entries = in_child 0 (trace result here many) in
     let list_lines = with_own result here many (earlier_lines result here many) in (
@@ -138,6 +139,6 @@ looks_last result here predicate many body first others is =
             (joined list_entries (mean result here many) (item first others) (each_item predicate holds entries 0) last.earlier (body_entry result body last.number last.value ∷ []) is last.are);
         before = list_lines ++ last.before;
         has_line = joined list_lines (mean result here many) (item first others) (each_item_lines predicate holds said 0) last.before
-            (lines_on_item last.number (own_lines body (mean result (Some last.value) body))) is last.lines_are;
+            (lines_on_item last.number (own_lines body (mean result (Some last.value) body) (failed_on result (Some last.value) body))) is last.lines_are;
       },
     )

@@ -11,18 +11,18 @@ use Rattle.ar_tree.specs.Meaning.{all_hold, any_holds, items_mean, mean, none_ho
 use Rattle.ar_tree.specs.Typed.{Typed, Typeds}
 use Rattle.ar_tree.specs.Typed as typed
 use Rattle.ar_explain.specs.Parts.{is_evaluated, nth_changed, change_child, with_part}
-use Rattle.ar_explain.specs.Trace.{Entry, continues, each_item, if_value, items_trace, trace, with_root, in_child}
+use Rattle.ar_explain.specs.Trace.{TraceEntry, continues, each_item, if_value, items_trace, trace, with_root, in_child}
 use Rattle.ar_explain.proofs.Roots.{root_evaluated}
 use Rattle.ar_explain.proofs.Entries.{from_zero, after_value, of_child, of_items, of_root, of_two, or_left, or_right, same_then}
 
 -- ---- items that are looked at
 
-module _ (path : List ℕ) (holds other : Value → Result Bool Failure) (entries : Value → List Entry)
+module _ (path : List ℕ) (holds other : Value → Result Bool Failure) (entries : Value → List TraceEntry)
     (same : (value : Value) → is_evaluated path (entries value) ≡ false → other value ≡ holds value) where
   -- what follows an item, by what the predicate says of it
   module _ (predicate : Predicate) (number : ℕ) (first : Value) (items : Items)
       (lacks : is_evaluated path (each_item predicate holds entries number (item first items)) ≡ false) where
-    abbrev rest : List Entry
+    abbrev rest : List TraceEntry
     rest = if_value (holds first) (λ it. if continues predicate it then each_item predicate holds entries (suc number) items else [])
 
     both_lack : (is_evaluated path (entries first) || is_evaluated path rest) ≡ false
@@ -100,7 +100,7 @@ module _ (result : Value) (path : List ℕ) (change : Typed → Typed)
       inner here part (sym (of_child 0 path (trace result here part) refl) ∙ (sym (of_root result here tree 0 path (in_child 0 (trace result here part))) ∙ lacks))
 
   -- the entries of the first child, and those after them
-  parts_lack : (here : Option Value) (tree part : Typed) (number : ℕ) (later : List Entry)
+  parts_lack : (here : Option Value) (tree part : Typed) (number : ℕ) (later : List TraceEntry)
       → is_evaluated (number ∷ path) (with_root result here tree (in_child 0 (trace result here part) ++ later)) ≡ false
       → (is_evaluated (number ∷ path) (in_child 0 (trace result here part)) ≡ false) × (is_evaluated (number ∷ path) later ≡ false)
   parts_lack here tree part number later lacks =
@@ -108,7 +108,7 @@ module _ (result : Value) (path : List ℕ) (change : Typed → Typed)
       ∙ (sym (of_root result here tree number path (in_child 0 (trace result here part) ++ later)) ∙ lacks) in
       (or_left _ _ both, or_right _ _ both)
 
-  first : (here : Option Value) (tree part : Typed) (later : List Entry)
+  first : (here : Option Value) (tree part : Typed) (later : List TraceEntry)
       → is_evaluated (0 ∷ path) (with_root result here tree (in_child 0 (trace result here part) ++ later)) ≡ false
       → mean result here (change part) ≡ mean result here part
   first here tree part later lacks =
@@ -139,22 +139,22 @@ module _ (result : Value) (path : List ℕ) (change : Typed → Typed)
       (items_left_out here (suc number) others k
       (after_value ((suc number + k) ∷ path) (mean result here one >>= scalar_item) _ scalar (rw is scalar_is) at))))
 
-  where_needed : (holds : Bool) (entries : List Entry) (one other value : Meaning) → (is_evaluated (1 ∷ path) entries ≡ false → one ≡ other)
+  where_needed : (holds : Bool) (entries : List TraceEntry) (one other value : Meaning) → (is_evaluated (1 ∷ path) entries ≡ false → one ≡ other)
       → is_evaluated (1 ∷ path) (if holds then entries else []) ≡ false → (if holds then one else value) ≡ (if holds then other else value)
   where_needed true entries one other value same lacks = same lacks
   where_needed false entries one other value same lacks = refl
 
-  unless_needed : (holds : Bool) (entries : List Entry) (one other value : Meaning) → (is_evaluated (1 ∷ path) entries ≡ false → one ≡ other)
+  unless_needed : (holds : Bool) (entries : List TraceEntry) (one other value : Meaning) → (is_evaluated (1 ∷ path) entries ≡ false → one ≡ other)
       → is_evaluated (1 ∷ path) (if holds then [] else entries) ≡ false → (if holds then value else one) ≡ (if holds then value else other)
   unless_needed true entries one other value same lacks = refl
   unless_needed false entries one other value same lacks = same lacks
 
-  then_branch_needed : (holds : Bool) (entries others : List Entry) (one other value : Meaning) → (is_evaluated (1 ∷ path) entries ≡ false → one ≡ other)
+  then_branch_needed : (holds : Bool) (entries others : List TraceEntry) (one other value : Meaning) → (is_evaluated (1 ∷ path) entries ≡ false → one ≡ other)
       → is_evaluated (1 ∷ path) (if holds then entries else others) ≡ false → (if holds then one else value) ≡ (if holds then other else value)
   then_branch_needed true entries others one other value same lacks = same lacks
   then_branch_needed false entries others one other value same lacks = refl
 
-  else_branch_needed : (holds : Bool) (entries others : List Entry) (one other value : Meaning) → (is_evaluated (2 ∷ path) entries ≡ false → one ≡ other)
+  else_branch_needed : (holds : Bool) (entries others : List TraceEntry) (one other value : Meaning) → (is_evaluated (2 ∷ path) entries ≡ false → one ≡ other)
       → is_evaluated (2 ∷ path) (if holds then others else entries) ≡ false → (if holds then value else one) ≡ (if holds then value else other)
   else_branch_needed true entries others one other value same lacks = refl
   else_branch_needed false entries others one other value same lacks = same lacks

@@ -1,10 +1,11 @@
 -- Loops over the items of lists.
-use Rattle.std.proofs.Common.{◌≡◌, ℕ, suc, ◌+◌, ◌<◌, ◌≤◌, Bool, true, false, List, [], ◌∷◌, ◌++◌, length, drop, Some, None, Result, Ok, Err, refl, ap, sym, ◌∙◌, subst, arith, add-one, drop-cons, get_or}
+use Rattle.std.proofs.Common.{◌≡◌, ℕ, suc, ◌+◌, ◌<◌, ◌≤◌, Bool, true, false, List, [], ◌∷◌, ◌++◌, length, drop, Option, Some, None, Result, Ok, Err, refl, ap, sym, ◌∙◌, subst, arith, add-one, drop-cons, get_or}
 use Rattle.std.specs.Prelude.{◌==◌, pos, if◌then◌else◌}
 use Rattle.std.proofs.lemmas.Bool.Decides.{nat_tests}
 use Rattle.std.proofs.Math.ListN.{drop_of_length-le}
 use Rattle.ar_value.specs.Answer.{◌>>=◌}
 use Rattle.ar_value.specs.Operators.{Failure, Meaning, ill_kinded, scalar_item}
+use Rattle.ar_value.specs.Terms.{Text}
 use Rattle.ar_value.specs.Value.{Value, Items, bool, whole, list, no_items, item, items_of, count}
 use Rattle.ar_value.specs.declared.operator.Predicate.{Predicate}
 use Rattle.ar_value.specs.declared.operator.Predicate.TheVariants as predicates
@@ -15,8 +16,9 @@ use Rattle.ar_tree.specs.Typed as typed
 use Rattle.ar_tree.specs.Views.{typed_view}
 use Rattle.ar_tree.specs.declared.typed.Typed.{Typed as TypedCode}
 use Rattle.ar_explain.specs.Lines.{Explanation, Line, each_item_lines, is_empty, item_lines}
+use Rattle.ar_explain.specs.Operands.{on_value, refused_or}
 use Rattle.ar_explain.specs.Private.Loops.{after_made, over_rest, prepended, unless_decided}
-use Rattle.ar_explain.specs.Private.Places.{Place, items_lines_at, items_meant, lines_at, meant, scalar_meant, typeds_view, with_lines_at}
+use Rattle.ar_explain.specs.Private.Places.{Place, items_failed_at, items_lines_at, items_meant, lines_at, meant, scalar_failed_at, scalar_meant, typeds_view, with_lines_at}
 use Rattle.ar_explain.specs.Trace.{continues, if_value}
 use Rattle.ar_explain.specs.Views.{explanation_view}
 use Rattle.ar_explain.specs.declared.explanation.Explanation.{Explanation as ExplanationCode}
@@ -220,6 +222,17 @@ item_failed : (m : Meaning) (others : Result Items Failure) (failure : Failure) 
 item_failed (Ok v) others failure made is = rw is refl
 item_failed (Err other) others failure made is = cc
 
+-- where an item is a scalar, the list fails on another one
+scalar_there : (m : Meaning) (value : Value) (later : Option Text) → (m >>= scalar_item) ≡ Ok value → on_value m (λ v. refused_or (scalar_item v) v later) ≡ later
+scalar_there (Ok v) value later is = ap (λ scalar. refused_or scalar v later) is
+scalar_there (Err failure) value later is = absurd cc
+
+-- where it is none, the list fails on it
+scalar_fails : (m : Meaning) (failure : Failure) (later : Option Text) → (m >>= scalar_item) ≡ Err failure
+    → on_value m (λ v. refused_or (scalar_item v) v None) ≡ on_value m (λ v. refused_or (scalar_item v) v later)
+scalar_fails (Ok v) failure later is = ap (λ scalar. refused_or scalar v None) is ∙ ap (λ scalar. refused_or scalar v later) (sym is)
+scalar_fails (Err other) failure later is = refl
+
 module _ (place : Place) (trees : List TypedCode) (index : ℕ) (tree : TypedCode) (within : index < length trees) (is : tree ≡ get_or trees index tree) where
   pub items_after : (made more : List Value) (value : Value) (all : Result Items Failure) → scalar_meant place (typed_view tree) ≡ Ok value → more ≡ made ++ value ∷ []
       → after_made made (items_meant place (typeds_view (drop index trees))) ≡ all → after_made more (items_meant place (typeds_view (drop (index + 1) trees))) ≡ all
@@ -233,6 +246,18 @@ module _ (place : Place) (trees : List TypedCode) (index : ℕ) (tree : TypedCod
   items_failed made failure all met left =
       sym left ∙ ap (λ trees. after_made made (items_meant place trees)) (next_tree trees index tree within is)
       ∙ item_failed (meant place (typed_view tree)) (items_meant place (typeds_view (drop (index + 1) trees))) failure made met
+
+  pub failed_after : (value : Value) (all : Option Text) → scalar_meant place (typed_view tree) ≡ Ok value
+      → items_failed_at place (typeds_view (drop index trees)) ≡ all → items_failed_at place (typeds_view (drop (index + 1) trees)) ≡ all
+  failed_after value all met left =
+      sym (scalar_there (meant place (typed_view tree)) value (items_failed_at place (typeds_view (drop (index + 1) trees))) met)
+      ∙ ap (λ trees. items_failed_at place trees) (sym (next_tree trees index tree within is)) ∙ left
+
+  pub failed_here : (failure : Failure) (on all : Option Text) → scalar_meant place (typed_view tree) ≡ Err failure → on ≡ scalar_failed_at place (typed_view tree)
+      → items_failed_at place (typeds_view (drop index trees)) ≡ all → on ≡ all
+  failed_here failure on all met on_is left =
+      on_is ∙ scalar_fails (meant place (typed_view tree)) failure (items_failed_at place (typeds_view (drop (index + 1) trees))) met
+      ∙ ap (λ trees. items_failed_at place trees) (sym (next_tree trees index tree within is)) ∙ left
 
   module _ (old new : ExplanationCode) (all : Explanation) (left : with_lines_at place old (items_lines_at place (typeds_view (drop index trees))) ≡ all)
       (one : explanation_view new ≡ with_lines_at place old (lines_at place (typed_view tree))) where

@@ -11,7 +11,7 @@ use Rattle.ar_tree.specs.Meaning.{all_hold, any_holds, items_mean, mean, none_ho
 use Rattle.ar_tree.specs.Typed.{Typed, Typeds}
 use Rattle.ar_tree.specs.Typed as typed
 use Rattle.ar_explain.specs.Parts.{Fails, is_evaluated, nth_changed, change_child, with_part}
-use Rattle.ar_explain.specs.Trace.{Entry, continues, each_item, if_value, items_trace, trace, with_root, in_child}
+use Rattle.ar_explain.specs.Trace.{TraceEntry, continues, each_item, if_value, items_trace, trace, with_root, in_child}
 use Rattle.ar_explain.proofs.Entries.{from_zero, has_value, of_another, of_child, of_items, of_root, of_two, or_none, fails_after, fails_after_two, fails_on, value_of_two}
 use Rattle.ar_explain.proofs.LeftOut.{left_out}
 
@@ -25,12 +25,12 @@ not_true b is has = true≢false (sym has ∙ is)
 
 -- ---- items that are looked at
 
-module _ (path : List ℕ) (failure : Failure) (holds other : Value → Result Bool Failure) (entries : Value → List Entry)
+module _ (path : List ℕ) (failure : Failure) (holds other : Value → Result Bool Failure) (entries : Value → List TraceEntry)
     (same : (value : Value) → is_evaluated path (entries value) ≡ false → other value ≡ holds value)
     (fails : (value : Value) → is_evaluated path (entries value) ≡ true → other value ≡ Err failure) where
   module _ (predicate : Predicate) (number : ℕ) (first : Value) (items : Items)
       (has : is_evaluated path (each_item predicate holds entries number (item first items)) ≡ true) where
-    abbrev rest : List Entry
+    abbrev rest : List TraceEntry
     rest = if_value (holds first) (λ it. if continues predicate it then each_item predicate holds entries (suc number) items else [])
 
     one_has : (is_evaluated path (entries first) || is_evaluated path rest) ≡ true
@@ -120,21 +120,21 @@ module _ (result : Value) (path : List ℕ) (failure : Failure) (change : Typed 
       absurd (not_true _ (of_another 0 number path (trace result here part) differ) (sym (of_root result here tree number path (in_child 0 (trace result here part))) ∙ has))
 
   -- of the first child, or after it
-  split : (here : Option Value) (tree part : Typed) (number : ℕ) (later : List Entry)
+  split : (here : Option Value) (tree part : Typed) (number : ℕ) (later : List TraceEntry)
       → is_evaluated (number ∷ path) (with_root result here tree (in_child 0 (trace result here part) ++ later)) ≡ true
       → (is_evaluated (number ∷ path) (in_child 0 (trace result here part)) || is_evaluated (number ∷ path) later) ≡ true
   split here tree part number later has =
       sym (of_two (number ∷ path) (in_child 0 (trace result here part)) later)
       ∙ (sym (of_root result here tree number path (in_child 0 (trace result here part) ++ later)) ∙ has)
 
-  after : (here : Option Value) (tree part : Typed) (number : ℕ) (later : List Entry) → (0 == number) ≡ false
+  after : (here : Option Value) (tree part : Typed) (number : ℕ) (later : List TraceEntry) → (0 == number) ≡ false
       → is_evaluated (number ∷ path) (with_root result here tree (in_child 0 (trace result here part) ++ later)) ≡ true
       → is_evaluated (number ∷ path) later ≡ true
   after here tree part number later differ has =
       subst (λ first. (first || is_evaluated (number ∷ path) later) ≡ true) (of_another 0 number path (trace result here part) differ) (split here tree part number later has)
 
   -- what comes after the first child has no entry of it
-  first : (here : Option Value) (tree part : Typed) (later : List Entry) → is_evaluated (0 ∷ path) later ≡ false
+  first : (here : Option Value) (tree part : Typed) (later : List TraceEntry) → is_evaluated (0 ∷ path) later ≡ false
       → is_evaluated (0 ∷ path) (with_root result here tree (in_child 0 (trace result here part) ++ later)) ≡ true
       → mean result here (change part) ≡ Err failure
   first here tree part later none has =
@@ -143,17 +143,17 @@ module _ (result : Value) (path : List ℕ) (failure : Failure) (change : Typed 
       ∙ subst (λ rest. (is_evaluated (0 ∷ path) (in_child 0 (trace result here part)) || rest) ≡ true) none (split here tree part 0 later has))
 
   -- entries of other children alone
-  none_on : {A : Type 0} (q : List ℕ) (m : Result A Failure) (entries : A → List Entry) → ((value : A) → is_evaluated q (entries value) ≡ false)
+  none_on : {A : Type 0} (q : List ℕ) (m : Result A Failure) (entries : A → List TraceEntry) → ((value : A) → is_evaluated q (entries value) ≡ false)
       → is_evaluated q (if_value m entries) ≡ false
   none_on q (Ok value) entries none = none value
   none_on q (Err failure) entries none = refl
 
-  none_where : (q : List ℕ) (holds : Bool) (entries others : List Entry) → is_evaluated q entries ≡ false → is_evaluated q others ≡ false
+  none_where : (q : List ℕ) (holds : Bool) (entries others : List TraceEntry) → is_evaluated q entries ≡ false → is_evaluated q others ≡ false
       → is_evaluated q (if holds then entries else others) ≡ false
   none_where q true entries others none no_other = none
   none_where q false entries others none no_other = no_other
 
-  none_of_items : (q : List ℕ) (predicate : Predicate) (holds : Value → Result Bool Failure) (entries : Value → List Entry) (number : ℕ) (items : Items)
+  none_of_items : (q : List ℕ) (predicate : Predicate) (holds : Value → Result Bool Failure) (entries : Value → List TraceEntry) (number : ℕ) (items : Items)
       → ((value : Value) → is_evaluated q (entries value) ≡ false) → is_evaluated q (each_item predicate holds entries number items) ≡ false
   none_of_items q predicate holds entries number no_items none = refl
   none_of_items q predicate holds entries number (item first items) none =
@@ -161,12 +161,12 @@ module _ (result : Value) (path : List ℕ) (failure : Failure) (change : Typed 
       (none_on q (holds first) _ (λ it. none_where q (continues predicate it) (each_item predicate holds entries (suc number) items) [] (none_of_items q predicate holds entries (suc number) items none) refl))
 
   -- a branch that is taken
-  taken : (q : List ℕ) (holds : Bool) (entries others : List Entry) → is_evaluated q others ≡ false
+  taken : (q : List ℕ) (holds : Bool) (entries others : List TraceEntry) → is_evaluated q others ≡ false
       → is_evaluated q (if holds then entries else others) ≡ true → (holds ≡ true) × (is_evaluated q entries ≡ true)
   taken q true entries others none has = (refl, has)
   taken q false entries others none has = absurd (not_true (is_evaluated q others) none has)
 
-  not_taken : (q : List ℕ) (holds : Bool) (entries others : List Entry) → is_evaluated q entries ≡ false
+  not_taken : (q : List ℕ) (holds : Bool) (entries others : List TraceEntry) → is_evaluated q entries ≡ false
       → is_evaluated q (if holds then entries else others) ≡ true → (holds ≡ false) × (is_evaluated q others ≡ true)
   not_taken q true entries others none has = absurd (not_true (is_evaluated q entries) none has)
   not_taken q false entries others none has = (refl, has)

@@ -12,11 +12,11 @@ use Rattle.ar_tree.specs.Meaning.{mean}
 use Rattle.ar_tree.specs.Typed.{Typed, Typeds}
 use Rattle.ar_tree.specs.Typed as typed
 use Rattle.ar_explain.specs.Parts.{IsEntryOf, child, here_at, nth_tree}
-use Rattle.ar_explain.specs.Trace.{Entry, continues, each_item, items_trace, on_item, root_entry, trace, with_root, in_child}
+use Rattle.ar_explain.specs.Trace.{TraceEntry, continues, each_item, items_trace, on_item, root_entry, trace, with_root, in_child}
 use Rattle.ar_explain.proofs.Entries.{all_if_value, all_of_two, all_where, value_of_two}
 
 -- a child's entries are its parent's
-inside : (result : Value) (here : Option Value) (tree part : Typed) (number : ℕ) (entries : List Entry) → child tree number ≡ Some part
+inside : (result : Value) (here : Option Value) (tree part : Typed) (number : ℕ) (entries : List TraceEntry) → child tree number ≡ Some part
     → ((path items : List ℕ) → here_at result here tree (number ∷ path) items ≡ here_at result here part path items)
     → AllByRecursion (IsEntryOf result here part) entries → AllByRecursion (IsEntryOf result here tree) (in_child number entries)
 inside result here tree part number [] is leads all = tt
@@ -29,13 +29,13 @@ inside result here tree part number (entry ∷ entries) is leads all = (
   inside result here tree part number entries is leads all.1,
 )
 
-with_root_of : (result : Value) (here : Option Value) (tree : Typed) (entries : List Entry) → AllByRecursion (IsEntryOf result here tree) entries
+with_root_of : (result : Value) (here : Option Value) (tree : Typed) (entries : List TraceEntry) → AllByRecursion (IsEntryOf result here tree) entries
     → AllByRecursion (IsEntryOf result here tree) (with_root result here tree entries)
 with_root_of result here tree entries all =
     all_of_two (IsEntryOf result here tree) entries (root_entry result here tree ∷ []) all (record { of_part = refl; of_item = refl; has_meaning = refl }, tt)
 
 -- the entries of a body on an item are the predicate's
-of_body : (result : Value) (here : Option Value) (predicate : Predicate) (many body : Typed) (items : Items) (number : ℕ) (value : Value) (entries : List Entry)
+of_body : (result : Value) (here : Option Value) (predicate : Predicate) (many body : Typed) (items : Items) (number : ℕ) (value : Value) (entries : List TraceEntry)
     → (mean result here many >>= items_in) ≡ Ok items → nth_item items number ≡ Some value
     → AllByRecursion (IsEntryOf result (Some value) body) entries
     → AllByRecursion (IsEntryOf result here (typed.predicate predicate many body)) (on_item number (in_child 1 entries))

@@ -5,10 +5,10 @@ use Rattle.ar_value.specs.Value.{Value}
 use Rattle.ar_tree.specs.Typed.{Typed}
 use Rattle.ar_tree.specs.Typed as typed
 use Rattle.ar_explain.specs.Parts.{is_evaluated}
-use Rattle.ar_explain.specs.Trace.{Entry, root_entry, trace}
+use Rattle.ar_explain.specs.Trace.{TraceEntry, root_entry, trace}
 use Rattle.ar_explain.proofs.Entries.{of_two}
 
-pub root_last : (result : Value) (here : Option Value) (tree : Typed) → (earlier : List Entry) × (trace result here tree ≡ earlier ++ root_entry result here tree ∷ [])
+pub root_last : (result : Value) (here : Option Value) (tree : Typed) → (earlier : List TraceEntry) × (trace result here tree ≡ earlier ++ root_entry result here tree ∷ [])
 root_last result here typed.result = ([], refl)
 root_last result here typed.item = ([], refl)
 root_last result here (typed.literal literal) = ([], refl)

@@ -10,165 +10,167 @@ use Rattle.ar_value.specs.declared.operator.Predicate.{Predicate}
 use Rattle.ar_tree.specs.Meaning.{mean}
 use Rattle.ar_tree.specs.Typed.{Typed, Typeds}
 use Rattle.ar_tree.specs.Typed as typed
-use Rattle.ar_explain.specs.Lines.{Line, each_item_lines, earlier_lines, is_empty, is_last, has_own_line, items_lines, lines, lines_on_item, own_line, unneeded_line, with_own}
+use Rattle.ar_explain.specs.Lines.{Line, each_item_lines, earlier_lines, is_empty, is_last, has_own_line, items_lines, all_lines, lines_on_item, own_line, unneeded_line, with_own}
+use Rattle.ar_explain.specs.Operands.{failed_on}
 use Rattle.ar_explain.specs.Sources.{IsFrom, SaysOne}
-use Rattle.ar_explain.specs.Trace.{Entry, continues, each_item, if_value, in_child, items_trace, on_item, root_entry, trace}
+use Rattle.ar_explain.specs.Trace.{TraceEntry, continues, each_item, if_value, in_child, items_trace, on_item, root_entry, trace}
 use Rattle.ar_explain.proofs.Entries.{all_of_two}
 use Rattle.ar_explain.proofs.Roots.{root_last}
 
--- ---- more entries, and entries of parts
+module _ (result : Value) where
+  -- ---- more entries, and entries of parts
 
-one_before : (entries later : List Entry) (line : Line) → SaysOne entries line → SaysOne (entries ++ later) line
-one_before [] later line says = absurd says
-one_before (entry ∷ entries) later line (inl says) = inl says
-one_before (entry ∷ entries) later line (inr says) = inr (one_before entries later line says)
+  one_before : (entries later : List TraceEntry) (line : Line) → SaysOne result entries line → SaysOne result (entries ++ later) line
+  one_before [] later line says = absurd says
+  one_before (entry ∷ entries) later line (inl says) = inl says
+  one_before (entry ∷ entries) later line (inr says) = inr (one_before entries later line says)
 
-one_after : (earlier entries : List Entry) (line : Line) → SaysOne entries line → SaysOne (earlier ++ entries) line
-one_after [] entries line says = says
-one_after (entry ∷ earlier) entries line says = inr (one_after earlier entries line says)
+  one_after : (earlier entries : List TraceEntry) (line : Line) → SaysOne result entries line → SaysOne result (earlier ++ entries) line
+  one_after [] entries line says = says
+  one_after (entry ∷ earlier) entries line says = inr (one_after earlier entries line says)
 
-one_in_child : (number : ℕ) (entries : List Entry) (line : Line) → SaysOne entries line → SaysOne (in_child number entries) line
-one_in_child number [] line says = absurd says
-one_in_child number (entry ∷ entries) line (inl says) = inl (record { of_part = says.of_part; on_items = says.on_items; of_meaning = says.of_meaning })
-one_in_child number (entry ∷ entries) line (inr says) = inr (one_in_child number entries line says)
+  one_in_child : (number : ℕ) (entries : List TraceEntry) (line : Line) → SaysOne result entries line → SaysOne result (in_child number entries) line
+  one_in_child number [] line says = absurd says
+  one_in_child number (entry ∷ entries) line (inl says) = inl (record { of_part = says.of_part; on_items = says.on_items; of_meaning = says.of_meaning })
+  one_in_child number (entry ∷ entries) line (inr says) = inr (one_in_child number entries line says)
 
-one_on_item : (number : ℕ) (entries : List Entry) (line : Line) → SaysOne entries line
-    → SaysOne (on_item number entries) (record line { items = number ∷ line.items })
-one_on_item number [] line says = absurd says
-one_on_item number (entry ∷ entries) line (inl says) = inl (record { of_part = says.of_part; on_items = cc (says.on_items); of_meaning = says.of_meaning })
-one_on_item number (entry ∷ entries) line (inr says) = inr (one_on_item number entries line says)
+  one_on_item : (number : ℕ) (entries : List TraceEntry) (line : Line) → SaysOne result entries line
+      → SaysOne result (on_item number entries) (record line { items = number ∷ line.items })
+  one_on_item number [] line says = absurd says
+  one_on_item number (entry ∷ entries) line (inl says) = inl (record { of_part = says.of_part; on_items = cc (says.on_items); of_meaning = says.of_meaning })
+  one_on_item number (entry ∷ entries) line (inr says) = inr (one_on_item number entries line says)
 
--- ---- the same of all lines
+  -- ---- the same of all lines
 
-all_before : (entries later : List Entry) (said : List Line) → AllByRecursion (IsFrom entries) said → AllByRecursion (IsFrom (entries ++ later)) said
-all_before entries later [] all = tt
-all_before entries later (line ∷ said) all = ((λ says. one_before entries later line (all.0 says)), all_before entries later said all.1)
+  all_before : (entries later : List TraceEntry) (said : List Line) → AllByRecursion (IsFrom result entries) said → AllByRecursion (IsFrom result (entries ++ later)) said
+  all_before entries later [] all = tt
+  all_before entries later (line ∷ said) all = ((λ says. one_before entries later line (all.0 says)), all_before entries later said all.1)
 
-all_after : (earlier entries : List Entry) (said : List Line) → AllByRecursion (IsFrom entries) said → AllByRecursion (IsFrom (earlier ++ entries)) said
-all_after earlier entries [] all = tt
-all_after earlier entries (line ∷ said) all = ((λ says. one_after earlier entries line (all.0 says)), all_after earlier entries said all.1)
+  all_after : (earlier entries : List TraceEntry) (said : List Line) → AllByRecursion (IsFrom result entries) said → AllByRecursion (IsFrom result (earlier ++ entries)) said
+  all_after earlier entries [] all = tt
+  all_after earlier entries (line ∷ said) all = ((λ says. one_after earlier entries line (all.0 says)), all_after earlier entries said all.1)
 
-all_in_child : (number : ℕ) (entries : List Entry) (said : List Line) → AllByRecursion (IsFrom entries) said → AllByRecursion (IsFrom (in_child number entries)) said
-all_in_child number entries [] all = tt
-all_in_child number entries (line ∷ said) all = ((λ says. one_in_child number entries line (all.0 says)), all_in_child number entries said all.1)
+  all_in_child : (number : ℕ) (entries : List TraceEntry) (said : List Line) → AllByRecursion (IsFrom result entries) said → AllByRecursion (IsFrom result (in_child number entries)) said
+  all_in_child number entries [] all = tt
+  all_in_child number entries (line ∷ said) all = ((λ says. one_in_child number entries line (all.0 says)), all_in_child number entries said all.1)
 
-all_on_item : (number : ℕ) (entries : List Entry) (said : List Line) → AllByRecursion (IsFrom entries) said
-    → AllByRecursion (IsFrom (on_item number entries)) (lines_on_item number said)
-all_on_item number entries [] all = tt
-all_on_item number entries (line ∷ said) all = ((λ says. one_on_item number entries line (all.0 says)), all_on_item number entries said all.1)
+  all_on_item : (number : ℕ) (entries : List TraceEntry) (said : List Line) → AllByRecursion (IsFrom result entries) said
+      → AllByRecursion (IsFrom result (on_item number entries)) (lines_on_item number said)
+  all_on_item number entries [] all = tt
+  all_on_item number entries (line ∷ said) all = ((λ says. one_on_item number entries line (all.0 says)), all_on_item number entries said all.1)
 
-unneeded_from : (entries : List Entry) (tree : Typed) → AllByRecursion (IsFrom entries) (unneeded_line tree ∷ [])
-unneeded_from entries tree = ((λ says. absurd (true≢false (sym says))), tt)
+  unneeded_from : (entries : List TraceEntry) (tree : Typed) → AllByRecursion (IsFrom result entries) (unneeded_line tree ∷ [])
+  unneeded_from entries tree = ((λ says. absurd (true≢false (sym says))), tt)
 
--- lines one after another, as the entries are
-both_from : (entries later : List Entry) (said more : List Line) → AllByRecursion (IsFrom entries) said → AllByRecursion (IsFrom later) more
-    → AllByRecursion (IsFrom (entries ++ later)) (said ++ more)
-both_from entries later said more all others =
-    all_of_two (IsFrom (entries ++ later)) said more (all_before entries later said all) (all_after entries later more others)
+  -- lines one after another, as the entries are
+  both_from : (entries later : List TraceEntry) (said more : List Line) → AllByRecursion (IsFrom result entries) said → AllByRecursion (IsFrom result later) more
+      → AllByRecursion (IsFrom result (entries ++ later)) (said ++ more)
+  both_from entries later said more all others =
+      all_of_two (IsFrom result (entries ++ later)) said more (all_before entries later said all) (all_after entries later more others)
 
-value_from : {A : Type 0} (m : Result A Failure) (entries : A → List Entry) (said : A → List Line)
-    → ((value : A) → AllByRecursion (IsFrom (entries value)) (said value)) → AllByRecursion (IsFrom (if_value m entries)) (if_value m said)
-value_from (Ok value) entries said all = all value
-value_from (Err failure) entries said all = tt
+  value_from : {A : Type 0} (m : Result A Failure) (entries : A → List TraceEntry) (said : A → List Line)
+      → ((value : A) → AllByRecursion (IsFrom result (entries value)) (said value)) → AllByRecursion (IsFrom result (if_value m entries)) (if_value m said)
+  value_from (Ok value) entries said all = all value
+  value_from (Err failure) entries said all = tt
 
-where_from : (holds : Bool) (entries others : List Entry) (said more : List Line) → AllByRecursion (IsFrom entries) said → AllByRecursion (IsFrom others) more
-    → AllByRecursion (IsFrom (if holds then entries else others)) (if holds then said else more)
-where_from true entries others said more all rest = all
-where_from false entries others said more all rest = rest
+  where_from : (holds : Bool) (entries others : List TraceEntry) (said more : List Line) → AllByRecursion (IsFrom result entries) said → AllByRecursion (IsFrom result others) more
+      → AllByRecursion (IsFrom result (if holds then entries else others)) (if holds then said else more)
+  where_from true entries others said more all rest = all
+  where_from false entries others said more all rest = rest
 
 -- ---- own lines
 
-own_from : (earlier : List Entry) (result : Value) (here : Option Value) (tree : Typed)
-    → AllByRecursion (IsFrom (earlier ++ root_entry result here tree ∷ [])) (own_line tree (mean result here tree) ∷ [])
+own_from : (earlier : List TraceEntry) (result : Value) (here : Option Value) (tree : Typed)
+    → AllByRecursion (IsFrom result (earlier ++ root_entry result here tree ∷ [])) (own_line tree (mean result here tree) (failed_on result here tree) ∷ [])
 own_from earlier result here tree =
-    ((λ says. one_after earlier (root_entry result here tree ∷ []) _ (inl (record { of_part = refl; on_items = refl; of_meaning = refl }))), tt)
+    ((λ says. one_after result earlier (root_entry result here tree ∷ []) _ (inl (record { of_part = refl; on_items = refl; of_meaning = refl }))), tt)
 
-own_where : (entries : List Entry) (said : List Line) (is : Bool) → AllByRecursion (IsFrom entries) said
-    → AllByRecursion (IsFrom entries) (if is then said else [])
-own_where entries said true all = all
-own_where entries said false all = tt
+own_where : (result : Value) (entries : List TraceEntry) (said : List Line) (is : Bool) → AllByRecursion (IsFrom result entries) said
+    → AllByRecursion (IsFrom result entries) (if is then said else [])
+own_where result entries said true all = all
+own_where result entries said false all = tt
 
-own_of_trace : (result : Value) (here : Option Value) (tree : Typed) → AllByRecursion (IsFrom (trace result here tree)) (own_line tree (mean result here tree) ∷ [])
+own_of_trace : (result : Value) (here : Option Value) (tree : Typed) → AllByRecursion (IsFrom result (trace result here tree)) (own_line tree (mean result here tree) (failed_on result here tree) ∷ [])
 own_of_trace result here tree =
     let last = root_last result here tree in
-    subst (λ entries. AllByRecursion (IsFrom entries) (own_line tree (mean result here tree) ∷ [])) (sym last.1) (own_from last.0 result here tree)
+    subst (λ entries. AllByRecursion (IsFrom result entries) (own_line tree (mean result here tree) (failed_on result here tree) ∷ [])) (sym last.1) (own_from last.0 result here tree)
 
-of_part : (result : Value) (here : Option Value) (tree : Typed) → AllByRecursion (IsFrom (trace result here tree)) (earlier_lines result here tree)
-    → AllByRecursion (IsFrom (trace result here tree)) (with_own result here tree (earlier_lines result here tree))
+of_part : (result : Value) (here : Option Value) (tree : Typed) → AllByRecursion (IsFrom result (trace result here tree)) (earlier_lines result here tree)
+    → AllByRecursion (IsFrom result (trace result here tree)) (with_own result here tree (earlier_lines result here tree))
 of_part result here tree all =
-    all_of_two (IsFrom (trace result here tree)) (earlier_lines result here tree) _ all
-    (own_where (trace result here tree) _ (has_own_line tree (mean result here tree)) (own_of_trace result here tree))
+    all_of_two (IsFrom result (trace result here tree)) (earlier_lines result here tree) _ all
+    (own_where result (trace result here tree) _ (has_own_line tree (mean result here tree)) (own_of_trace result here tree))
 
 -- the lines before a tree's own are of the entries before its own
-before_own : (result : Value) (here : Option Value) (tree : Typed) (entries : List Entry) (said : List Line) → AllByRecursion (IsFrom entries) said
-    → AllByRecursion (IsFrom (entries ++ root_entry result here tree ∷ [])) said
-before_own result here tree entries said all = all_before entries (root_entry result here tree ∷ []) said all
+before_own : (result : Value) (here : Option Value) (tree : Typed) (entries : List TraceEntry) (said : List Line) → AllByRecursion (IsFrom result entries) said
+    → AllByRecursion (IsFrom result (entries ++ root_entry result here tree ∷ [])) said
+before_own result here tree entries said all = all_before result entries (root_entry result here tree ∷ []) said all
 
 -- ---- items of predicates
 
-each_from : (predicate : Predicate) (holds : Value → Result Bool Failure) (entries : Value → List Entry) (said : Value → List Line)
-    → ((value : Value) → AllByRecursion (IsFrom (entries value)) (said value)) → (number : ℕ) (items : Items)
-    → AllByRecursion (IsFrom (each_item predicate holds entries number items)) (each_item_lines predicate holds said number items)
-each_from predicate holds entries said all number no_items = tt
-each_from predicate holds entries said all number (item first items) =
-    both_from _ _ _ _
-    (own_where _ (lines_on_item number (said first)) (nat_lt number 3 || is_last predicate (is_empty items) (holds first))
-    (all_on_item number (entries first) (said first) (all first)))
-    (value_from (holds first) _ _
-    (λ it. where_from (continues predicate it) _ [] _ [] (each_from predicate holds entries said all (suc number) items) tt))
+each_from : (result : Value) (predicate : Predicate) (holds : Value → Result Bool Failure) (entries : Value → List TraceEntry) (said : Value → List Line)
+    → ((value : Value) → AllByRecursion (IsFrom result (entries value)) (said value)) → (number : ℕ) (items : Items)
+    → AllByRecursion (IsFrom result (each_item predicate holds entries number items)) (each_item_lines predicate holds said number items)
+each_from result predicate holds entries said all number no_items = tt
+each_from result predicate holds entries said all number (item first items) =
+    both_from result _ _ _ _
+    (own_where result _ (lines_on_item number (said first)) (nat_lt number 3 || is_last predicate (is_empty items) (holds first))
+    (all_on_item result number (entries first) (said first) (all first)))
+    (value_from result (holds first) _ _
+    (λ it. where_from result (continues predicate it) _ [] _ [] (each_from result predicate holds entries said all (suc number) items) tt))
 
 -- ---- trees
 
 mutual
-  from : (result : Value) (here : Option Value) (tree : Typed) → AllByRecursion (IsFrom (trace result here tree)) (earlier_lines result here tree)
+  from : (result : Value) (here : Option Value) (tree : Typed) → AllByRecursion (IsFrom result (trace result here tree)) (earlier_lines result here tree)
   from result here typed.result = tt
   from result here typed.item = tt
   from result here (typed.literal literal) = tt
   from result here (typed.field owner name) =
-      before_own result here (typed.field owner name) _ _ (all_in_child 0 _ _ (of_part result here owner (from result here owner)))
+      before_own result here (typed.field owner name) _ _ (all_in_child result 0 _ _ (of_part result here owner (from result here owner)))
   from result here (typed.unary operator operand) =
-      before_own result here (typed.unary operator operand) _ _ (all_in_child 0 _ _ (of_part result here operand (from result here operand)))
+      before_own result here (typed.unary operator operand) _ _ (all_in_child result 0 _ _ (of_part result here operand (from result here operand)))
   from result here (typed.binary operator left right) =
       before_own result here (typed.binary operator left right) _ _
-      (both_from _ _ _ _ (all_in_child 0 _ _ (of_part result here left (from result here left)))
-      (value_from (mean result here left) _ _ (λ value. all_in_child 1 _ _ (of_part result here right (from result here right)))))
+      (both_from result _ _ _ _ (all_in_child result 0 _ _ (of_part result here left (from result here left)))
+      (value_from result (mean result here left) _ _ (λ value. all_in_child result 1 _ _ (of_part result here right (from result here right)))))
   from result here (typed.both left right) =
       before_own result here (typed.both left right) _ _
-      (both_from _ _ _ _ (all_in_child 0 _ _ (of_part result here left (from result here left)))
-      (value_from (mean result here left >>= boolean) _ _
-      (λ holds. where_from holds _ [] _ _ (all_in_child 1 _ _ (of_part result here right (from result here right))) (unneeded_from [] right))))
+      (both_from result _ _ _ _ (all_in_child result 0 _ _ (of_part result here left (from result here left)))
+      (value_from result (mean result here left >>= boolean) _ _
+      (λ holds. where_from result holds _ [] _ _ (all_in_child result 1 _ _ (of_part result here right (from result here right))) (unneeded_from result [] right))))
   from result here (typed.either left right) =
       before_own result here (typed.either left right) _ _
-      (both_from _ _ _ _ (all_in_child 0 _ _ (of_part result here left (from result here left)))
-      (value_from (mean result here left >>= boolean) _ _
-      (λ holds. where_from holds [] _ _ _ (unneeded_from [] right) (all_in_child 1 _ _ (of_part result here right (from result here right))))))
+      (both_from result _ _ _ _ (all_in_child result 0 _ _ (of_part result here left (from result here left)))
+      (value_from result (mean result here left >>= boolean) _ _
+      (λ holds. where_from result holds [] _ _ _ (unneeded_from result [] right) (all_in_child result 1 _ _ (of_part result here right (from result here right))))))
   from result here (typed.choice condition then_branch else_branch) =
       before_own result here (typed.choice condition then_branch else_branch) _ _
-      (both_from _ _ _ _ (all_in_child 0 _ _ (of_part result here condition (from result here condition)))
-      (value_from (mean result here condition >>= boolean) _ _
-      (λ holds. where_from holds _ _ _ _
-      (all_of_two (IsFrom (in_child 1 (trace result here then_branch))) _ _
-      (all_in_child 1 _ _ (of_part result here then_branch (from result here then_branch)))
-      (unneeded_from _ else_branch))
-      (all_of_two (IsFrom (in_child 2 (trace result here else_branch))) (unneeded_line then_branch ∷ []) _ (unneeded_from _ then_branch)
-      (all_in_child 2 _ _ (of_part result here else_branch (from result here else_branch)))))))
+      (both_from result _ _ _ _ (all_in_child result 0 _ _ (of_part result here condition (from result here condition)))
+      (value_from result (mean result here condition >>= boolean) _ _
+      (λ holds. where_from result holds _ _ _ _
+      (all_of_two (IsFrom result (in_child 1 (trace result here then_branch))) _ _
+      (all_in_child result 1 _ _ (of_part result here then_branch (from result here then_branch)))
+      (unneeded_from result _ else_branch))
+      (all_of_two (IsFrom result (in_child 2 (trace result here else_branch))) (unneeded_line then_branch ∷ []) _ (unneeded_from result _ then_branch)
+      (all_in_child result 2 _ _ (of_part result here else_branch (from result here else_branch)))))))
   from result here (typed.listed scalar items) =
       before_own result here (typed.listed scalar items) _ _ (items_from result here 0 items)
   from result here (typed.predicate predicate many body) =
       before_own result here (typed.predicate predicate many body) _ _
-      (both_from _ _ _ _ (all_in_child 0 _ _ (of_part result here many (from result here many)))
-      (value_from (mean result here many >>= items_in) _ _
-      (each_from predicate (λ value. mean result (Some value) body >>= boolean) (λ value. in_child 1 (trace result (Some value) body))
+      (both_from result _ _ _ _ (all_in_child result 0 _ _ (of_part result here many (from result here many)))
+      (value_from result (mean result here many >>= items_in) _ _
+      (each_from result predicate (λ value. mean result (Some value) body >>= boolean) (λ value. in_child 1 (trace result (Some value) body))
       (λ value. with_own result (Some value) body (earlier_lines result (Some value) body))
-      (λ value. all_in_child 1 _ _ (of_part result (Some value) body (from result (Some value) body))) 0)))
+      (λ value. all_in_child result 1 _ _ (of_part result (Some value) body (from result (Some value) body))) 0)))
 
-  items_from : (result : Value) (here : Option Value) (number : ℕ) (items : Typeds) → AllByRecursion (IsFrom (items_trace result here number items)) (items_lines result here items)
+  items_from : (result : Value) (here : Option Value) (number : ℕ) (items : Typeds) → AllByRecursion (IsFrom result (items_trace result here number items)) (items_lines result here items)
   items_from result here number typed.none = tt
   items_from result here number (typed.more first others) =
-      both_from _ _ _ _ (all_in_child number _ _ (of_part result here first (from result here first)))
-      (value_from (mean result here first >>= scalar_item) _ _ (λ value. items_from result here (suc number) others))
+      both_from result _ _ _ _ (all_in_child result number _ _ (of_part result here first (from result here first)))
+      (value_from result (mean result here first >>= scalar_item) _ _ (λ value. items_from result here (suc number) others))
 
-pub lines_from : (result : Value) (here : Option Value) (tree : Typed) → All (IsFrom (trace result here tree)) (lines result here tree)
+pub lines_from : (result : Value) (here : Option Value) (tree : Typed) → All (IsFrom result (trace result here tree)) (all_lines result here tree)
 lines_from result here tree =
-    All-from_recursion (IsFrom (trace result here tree)) (lines result here tree)
-    (all_of_two (IsFrom (trace result here tree)) (earlier_lines result here tree) _ (from result here tree) (own_of_trace result here tree))
+    All-from_recursion (IsFrom result (trace result here tree)) (all_lines result here tree)
+    (all_of_two (IsFrom result (trace result here tree)) (earlier_lines result here tree) _ (from result here tree) (own_of_trace result here tree))

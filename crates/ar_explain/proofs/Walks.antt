@@ -1,22 +1,26 @@
 -- What functions of the walk give and say, one after another.
-use Rattle.std.proofs.Common.{◌≡◌, ℕ, Bool, true, false, List, [], ◌++◌, None, Result, Ok, Err, ap, sym, ◌∙◌, subst, true≢false}
+use Rattle.std.proofs.Common.{◌≡◌, ℕ, Bool, true, false, List, [], ◌++◌, Option, None, Result, Ok, Err, ap, sym, ◌∙◌, subst, true≢false}
 use Rattle.std.specs.Prelude.{◌||◌, IfOk, nat_lt, not, if◌then◌else◌}
 use Rattle.std.specs.declared.alloc.AllocError.{AllocError}
 use Rattle.std.proofs.lemmas.List.{append-nil}
 use Rattle.ar_value.specs.Answer.{◌>>=◌}
 use Rattle.ar_value.specs.Operators.{Failure, Meaning, field_in}
+use Rattle.ar_value.specs.Terms.{Text}
 use Rattle.ar_value.specs.Value.{Value}
 use Rattle.ar_value.specs.declared.operator.Predicate.{Predicate}
 use Rattle.ar_tree.specs.Meaning.{mean}
 use Rattle.ar_tree.specs.Typed.{Typed}
 use Rattle.ar_tested.specs.Operand.{Meets, failure_of}
 use Rattle.ar_tested.specs.declared.operand.Failure.{Failure as FailureCode}
-use Rattle.ar_explain.specs.Lines.{Explanation, Line, Said, earlier_lines, explained, few_items, is_last, item_lines, lines_on_item, own_lines, said_of}
+use Rattle.ar_explain.specs.Lines.{Explanation, Line, Outcome, earlier_lines, explained, few_items, is_last, item_lines, lines_on_item, own_lines, outcome_of}
+use Rattle.ar_explain.specs.Operands.{failed_on, on_value}
+use Rattle.ar_explain.specs.Private.Failed.{MeetsOn, came, came_on, on_of}
 use Rattle.ar_explain.specs.Private.Keeping.{with_lines}
-use Rattle.ar_explain.specs.Private.Places.{Explains, Place, as_meant, at_item, earlier_at, holds_meant, holds_on, lines_at, lines_on, meant, with_lines_at}
+use Rattle.ar_explain.specs.Private.Places.{Explains, ExplainsOn, Place, as_meant, at_item, earlier_at, failed_at, holds_meant, holds_on, lines_at, lines_on, meant, with_lines_at}
 use Rattle.ar_explain.specs.Trace.{if_value}
 use Rattle.ar_explain.specs.Views.{explanation_view}
 use Rattle.ar_explain.specs.declared.explanation.Explanation.{Explanation as ExplanationCode}
+use Rattle.ar_explain.specs.declared.failed.Failed.{Failed as FailedCode}
 use Rattle.ar_explain.proofs.Keeping.{all_explained, explanation, with_item, with_more, with_silence}
 
 -- what was met is what is meant
@@ -27,11 +31,6 @@ meets_is view (Err failure) meaning is = is
 -- a value that was met
 pub value_is : {X Y : Type 0} (view : X → Y) (met : Result X FailureCode) (x : X) (meaning : Result Y Failure) → met ≡ Ok x → Meets view met meaning → meaning ≡ Ok (view x)
 value_is view met x meaning is meets = subst (λ met. Meets view met meaning) is meets
-
--- a failure that was met
-pub failure_is : {X Y : Type 0} (view : X → Y) (met : Result X FailureCode) (failure : FailureCode) (meaning : Result Y Failure) → met ≡ Err failure → Meets view met meaning
-    → meaning ≡ Err (failure_of failure)
-failure_is view met failure meaning is meets = subst (λ met. Meets view met meaning) is meets
 
 -- a field of an operand
 pub field_meets : {X : Type 0} (view : X → Value) (met : Result X FailureCode) (meaning : Meaning) (value : Value) (name text : List ℕ) → meaning ≡ Ok value → text ≡ name
@@ -76,23 +75,55 @@ pub otherwise : {X Y : Type 0} (view : X → Y) (place : Place) (old new : Expla
 otherwise view place old new result true one other said more explains = explains
 otherwise view place old new result false one other said more explains = explains
 
--- after a value, of which something is taken
-pub after_operand : {A B X Y : Type 0} (view : X → Y) (place : Place) (old mid new : ExplanationCode) (result : Result (Result X FailureCode) AllocError)
-    (m : Result A Failure) (x : A) (taken : A → Result B Failure) (next : B → Result Y Failure) (first : List Line) (later : B → List Line)
-    → m ≡ Ok x → explanation_view mid ≡ with_lines_at place old first → Explains view place mid new result (taken x >>= next) (if_value (taken x) later)
-    → Explains view place old new result (m >>= λ value. taken value >>= next) (first ++ if_value (m >>= taken) later)
-after_operand view place old mid new result m x taken next first later value one is =
-    subst (λ m. Explains view place old new result (m >>= λ value. taken value >>= next) (first ++ if_value (m >>= taken) later)) (sym value)
-    (also view place old mid new result (taken x >>= next) first (if_value (taken x) later) one is)
+-- ---- the same with operands
+
+-- a value that came, and a failure
+pub value_came : {X Y : Type 0} (view : X → Y) (met : Result X FailedCode) (x : X) (meaning : Result Y Failure) (on : Option Text) → met ≡ Ok x → MeetsOn view met meaning on
+    → meaning ≡ Ok (view x)
+value_came view met x meaning on is meets = subst (λ met. MeetsOn view met meaning on) is meets
+
+pub failure_came : {X Y : Type 0} (view : X → Y) (met : Result X FailedCode) (failed : FailedCode) (meaning : Result Y Failure) (on : Option Text) → met ≡ Err failed
+    → MeetsOn view met meaning on → (meaning ≡ Err (failure_of failed.failure)) × (on_of failed ≡ on)
+failure_came view met failed meaning on is meets = subst (λ met. MeetsOn view met meaning on) is meets
+
+pub also_on : {X Y : Type 0} (view : X → Y) (place : Place) (old mid new : ExplanationCode) (result : Result (Result X FailedCode) AllocError) (meaning : Result Y Failure) (on : Option Text)
+    (first later : List Line) → explanation_view mid ≡ with_lines_at place old first → ExplainsOn view place mid new result meaning on later
+    → ExplainsOn view place old new result meaning on (first ++ later)
+also_on view place old mid new (Ok met) meaning on first later one is = (is.0, more place old mid new first later one is.1)
+also_on view place old mid new (Err error) meaning on first later one is = tt
+
+-- after a left operand
+pub after_left : {X Y : Type 0} (view : X → Y) (place : Place) (old mid new : ExplanationCode) (result : Result (Result X FailedCode) AllocError)
+    (m : Meaning) (x : Value) (next : Value → Result Y Failure) (on : Value → Option Text) (first : List Line) (later : Value → List Line)
+    → m ≡ Ok x → explanation_view mid ≡ with_lines_at place old first → ExplainsOn view place mid new result (next x) (on x) (later x)
+    → ExplainsOn view place old new result (m >>= next) (on_value m on) (first ++ if_value m later)
+after_left view place old mid new result m x next on first later value one is =
+    subst (λ m. ExplainsOn view place old new result (m >>= next) (on_value m on) (first ++ if_value m later)) (sym value)
+    (also_on view place old mid new result (next x) (on x) (first) (later x) one is)
+
+-- after the list of a predicate
+pub after_list : {A Y X : Type 0} (view : X → Y) (place : Place) (old mid new : ExplanationCode) (result : Result (Result X FailedCode) AllocError)
+    (m : Meaning) (x : Value) (taken : Value → Result A Failure) (next : A → Result Y Failure) (on : Value → Option Text) (first : List Line) (later : A → List Line)
+    → m ≡ Ok x → explanation_view mid ≡ with_lines_at place old first → ExplainsOn view place mid new result (taken x >>= next) (on x) (if_value (taken x) later)
+    → ExplainsOn view place old new result (m >>= λ value. taken value >>= next) (on_value m on) (first ++ if_value (m >>= taken) later)
+after_list view place old mid new result m x taken next on first later value one is =
+    subst (λ m. ExplainsOn view place old new result (m >>= λ value. taken value >>= next) (on_value m on) (first ++ if_value (m >>= taken) later)) (sym value)
+    (also_on view place old mid new result (taken x >>= next) (on x) first (if_value (taken x) later) one is)
 
 -- ---- a part's own line
 
-pub own_after : {X : Type 0} (view : X → Value) (place : Place) (old mid new : ExplanationCode) (met : Result X FailureCode) (meaning : Meaning) (tree : Typed) (earlier : List Line)
-    → Meets view met meaning → explanation_view mid ≡ with_lines_at place old earlier → explanation_view new ≡ with_lines_at place mid (own_lines tree (as_meant view met))
-    → explanation_view new ≡ with_lines_at place old (earlier ++ own_lines tree meaning)
-own_after view place old mid new met meaning tree earlier is one two =
-    more place old mid new earlier (own_lines tree meaning) one
-    (two ∙ ap (λ m. with_lines_at place mid (own_lines tree m)) (sym (meets_is view met meaning is)))
+-- a part's own line is as what came of it
+own_as_came : {X : Type 0} (view : X → Value) (met : Result X FailedCode) (meaning : Meaning) (on : Option Text) (tree : Typed) → MeetsOn view met meaning on
+    → own_lines tree (came view met) (came_on met) ≡ own_lines tree meaning on
+own_as_came view (Ok x) meaning on tree is = ap (λ m. own_lines tree m on) (sym is)
+own_as_came view (Err failed) meaning on tree is = ap (λ m. own_lines tree m (on_of failed)) (sym is.0) ∙ ap (λ on. own_lines tree meaning on) is.1
+
+pub own_after : {X : Type 0} (view : X → Value) (place : Place) (old mid new : ExplanationCode) (met : Result X FailedCode) (meaning : Meaning) (on : Option Text) (tree : Typed) (earlier : List Line)
+    → MeetsOn view met meaning on → explanation_view mid ≡ with_lines_at place old earlier → explanation_view new ≡ with_lines_at place mid (own_lines tree (came view met) (came_on met))
+    → explanation_view new ≡ with_lines_at place old (earlier ++ own_lines tree meaning on)
+own_after view place old mid new met meaning on tree earlier is one two =
+    more place old mid new earlier (own_lines tree meaning on) one
+    (two ∙ ap (λ lines. with_lines_at place mid lines) (own_as_came view met meaning on tree is))
 
 -- ---- branches
 
@@ -174,7 +205,13 @@ parts_explained place value tree none new is empty are =
     ∙ ap (λ e. with_lines false [] e (earlier_lines value None tree)) empty
     ∙ all_explained (earlier_lines value None tree)
 
-pub answer_said : {X : Type 0} (view : X → Value) (place : Place) (value : Value) (tree : Typed) (met : Result X FailureCode) (said : Said)
-    → place ≡ outside value → Meets view met (meant place tree) → said ≡ said_of (as_meant view met) → said ≡ said_of (mean value None tree)
+said_as_came : {X : Type 0} (view : X → Value) (met : Result X FailedCode) (meaning : Meaning) (on : Option Text) → MeetsOn view met meaning on
+    → outcome_of (came view met) (came_on met) ≡ outcome_of meaning on
+said_as_came view (Ok x) meaning on is = ap (λ m. outcome_of m on) (sym is)
+said_as_came view (Err failed) meaning on is = ap (λ m. outcome_of m (on_of failed)) (sym is.0) ∙ ap (λ on. outcome_of meaning on) is.1
+
+pub answer_said : {X : Type 0} (view : X → Value) (place : Place) (value : Value) (tree : Typed) (met : Result X FailedCode) (said : Outcome)
+    → place ≡ outside value → MeetsOn view met (meant place tree) (failed_at place tree) → said ≡ outcome_of (came view met) (came_on met)
+    → said ≡ outcome_of (mean value None tree) (failed_on value None tree)
 answer_said view place value tree met said is meets says =
-    says ∙ ap said_of (sym (meets_is view met (meant place tree) meets)) ∙ ap (λ place. said_of (meant place tree)) is
+    says ∙ said_as_came view met (meant place tree) (failed_at place tree) meets ∙ ap (λ place. outcome_of (meant place tree) (failed_at place tree)) is

@@ -1,10 +1,12 @@
 -- What is said of an evaluation to a person, in its order: the values and failures of parts, where they are news, and
--- which parts weren't needed.
-use Rattle.std.specs.Prelude.{ℕ, suc, pos, ◌-◌, ◌^◌, nat_lt, min, ◌≡◌, refl, Bool, true, false, not, ◌||◌, if◌then◌else◌, List, [], ◌∷◌, ◌++◌, drop, length, map, take, Option, Some, None, Result, Ok, Err}
+-- which parts weren't needed. Where a failure arises its line says on which operands.
+use Rattle.std.specs.Prelude.{ℕ, suc, pos, ◌-◌, ◌^◌, nat_lt, min, ◌≡◌, refl, Bool, true, false, not, ◌||◌, if◌then◌else◌, List, [], ◌∷◌, ◌++◌, codes, drop, length, map, take, Option, Some, None, Result, Ok, Err}
+use Rattle.std.specs.Fmt.{digits}
 use Rattle.ar_value.specs.Answer.{◌>>=◌}
 use Rattle.ar_value.specs.Operators.{Failure, Meaning, boolean, faulted, items_in, scalar_item}
+use Rattle.ar_value.specs.Terms.{Text}
 use Rattle.ar_value.specs.Value.{Value, Items, bool, whole, list, nil, no_items, item, items_of}
-use Rattle.ar_value.specs.declared.fault.Fault.TheVariants.{DivisionByZero, NilOperand}
+use Rattle.ar_value.specs.declared.fault.Fault.TheVariants.{DivisionByZero, IndexOutOfRange, NilOperand}
 use Rattle.ar_value.specs.declared.operator.BinaryOperator.TheVariants as binary
 use Rattle.ar_value.specs.declared.operator.Arithmetic.TheVariants.{Divide}
 use Rattle.ar_value.specs.declared.operator.Compared.TheVariants as compared
@@ -21,29 +23,31 @@ use Rattle.ar_tree.specs.Meaning.{mean}
 use Rattle.ar_tree.specs.Typed.{Typed, Typeds}
 use Rattle.ar_tree.specs.Typed as typed
 use Rattle.ar_show.specs.Values.{shown_value}
+use Rattle.ar_explain.specs.Operands.{failed_on, one_operand, two_operands}
 use Rattle.ar_explain.specs.Trace.{continues, if_value}
 
 -- what is said of a part
-pub data Said : Type 0 where
+pub data Outcome : Type 0 where
   -- it has a value, which is shown so
-  valued : (text : List ℕ) → Said
-  failed : Failure → Said
+  valued : (text : List ℕ) → Outcome
+  -- it fails, on these operands where the failure arises in it
+  failed : Failure → (on : Option Text) → Outcome
   -- it wasn't needed
-  unneeded : Said
+  unneeded : Outcome
 
 pub record Line : Type 0 where
   -- the numbers of the items on which the bodies of predicates around the part are evaluated, the outermost first
   pub items : List ℕ
   pub part : Typed
-  pub said : Said
+  pub said : Outcome
 
-abbrev pub said_of : Meaning → Said
-said_of (Ok value) = valued (shown_value value)
-said_of (Err failure) = failed failure
+abbrev pub outcome_of : Meaning → (on : Option Text) → Outcome
+outcome_of (Ok value) on = valued (shown_value value)
+outcome_of (Err failure) on = failed failure on
 
 -- a part's own line
-abbrev pub own_line : Typed → Meaning → Line
-own_line tree meaning = record { items = []; part = tree; said = said_of meaning }
+abbrev pub own_line : Typed → Meaning → (on : Option Text) → Line
+own_line tree meaning on = record { items = []; part = tree; said = outcome_of meaning on }
 
 abbrev pub unneeded_line : Typed → Line
 unneeded_line tree = record { items = []; part = tree; said = unneeded }
@@ -83,12 +87,12 @@ abbrev pub has_own_line : Typed → Meaning → Bool
 has_own_line tree (Ok value) = says_more tree
 has_own_line tree (Err failure) = true
 
-abbrev pub own_lines : Typed → Meaning → List Line
-own_lines tree meaning = if has_own_line tree meaning then own_line tree meaning ∷ [] else []
+abbrev pub own_lines : Typed → Meaning → (on : Option Text) → List Line
+own_lines tree meaning on = if has_own_line tree meaning then own_line tree meaning on ∷ [] else []
 
 -- the lines of a part: those of its own parts, then its own
 abbrev pub with_own : Value → Option Value → Typed → List Line → List Line
-with_own result here tree earlier = earlier ++ own_lines tree (mean result here tree)
+with_own result here tree earlier = earlier ++ own_lines tree (mean result here tree) (failed_on result here tree)
 
 -- ---- items of predicates
 
@@ -168,8 +172,9 @@ abbrev mutual
       ++ if_value (mean result here first >>= scalar_item) (λ value. items_lines result here others)
 
 -- the root's own line is the last, and always there
-abbrev pub lines : Value → Option Value → Typed → List Line
-lines result here tree = earlier_lines result here tree ++ own_line tree (mean result here tree) ∷ []
+abbrev pub all_lines : Value → Option Value → Typed → List Line
+all_lines result here tree =
+    earlier_lines result here tree ++ own_line tree (mean result here tree) (failed_on result here tree) ∷ []
 
 -- ---- what is kept of the lines
 
@@ -195,7 +200,7 @@ explained lines =
 abbrev the_literal : ℕ → Typed
 the_literal value = typed.literal (literals.Whole (pos value))
 
-abbrev row_of : Line → List ℕ × Typed × Said
+abbrev row_of : Line → List ℕ × Typed × Outcome
 row_of line = (line.items, line.part, line.said)
 
 abbrev is_below : Typed → ℕ → Typed
@@ -208,33 +213,36 @@ the_true = typed.literal (literals.Bool true)
 abbrev one_over_result : Typed
 one_over_result = typed.binary (binary.Wholes Divide) (the_literal 1) typed.result
 
-abbrev the_value : Value → Said
+abbrev the_value : Value → Outcome
 the_value value = valued (shown_value value)
 
+abbrev fails_on_zero : Outcome
+fails_on_zero = failed (faulted DivisionByZero) (Some (codes "operands 1 and 0"))
+
 -- `result` on 7: the root's line is there
-root_has_a_line : map row_of (lines (whole (pos 7)) None typed.result)
+root_has_a_line : map row_of (all_lines (whole (pos 7)) None typed.result)
     ≡ ([], typed.result, the_value (whole (pos 7))) ∷ []
 root_has_a_line = refl
 
 -- `result < 8` on 7: lines of `result` and `8` would say nothing new
-of_a_comparison : map row_of (lines (whole (pos 7)) None (is_below typed.result 8))
+of_a_comparison : map row_of (all_lines (whole (pos 7)) None (is_below typed.result 8))
     ≡ ([], is_below typed.result 8, the_value (bool true)) ∷ []
 of_a_comparison = refl
 
 -- `true or result < 8`: the right side isn't needed
-left_side_decides : map row_of (lines (whole (pos 7)) None (typed.either the_true (is_below typed.result 8)))
+left_side_decides : map row_of (all_lines (whole (pos 7)) None (typed.either the_true (is_below typed.result 8)))
     ≡ ([], is_below typed.result 8, unneeded)
     ∷ ([], typed.either the_true (is_below typed.result 8), the_value (bool true)) ∷ []
 left_side_decides = refl
 
 -- `result < 8 and true` on 9: that a literal isn't needed is said, too
-literal_isnt_needed : map row_of (lines (whole (pos 9)) None (typed.both (is_below typed.result 8) the_true))
+literal_isnt_needed : map row_of (all_lines (whole (pos 9)) None (typed.both (is_below typed.result 8) the_true))
     ≡ ([], is_below typed.result 8, the_value (bool false)) ∷ ([], the_true, unneeded)
     ∷ ([], typed.both (is_below typed.result 8) the_true, the_value (bool false)) ∷ []
 literal_isnt_needed = refl
 
 -- `true and result < 8` on 7: it is needed
-both_sides : map row_of (lines (whole (pos 7)) None (typed.both the_true (is_below typed.result 8)))
+both_sides : map row_of (all_lines (whole (pos 7)) None (typed.both the_true (is_below typed.result 8)))
     ≡ ([], is_below typed.result 8, the_value (bool true))
     ∷ ([], typed.both the_true (is_below typed.result 8), the_value (bool true)) ∷ []
 both_sides = refl
@@ -243,21 +251,23 @@ both_sides = refl
 abbrev one_or_two : Typed
 one_or_two = typed.choice (is_below typed.result 8) (the_literal 1) (the_literal 2)
 
-then_branch_taken : map row_of (lines (whole (pos 7)) None one_or_two)
+then_branch_taken : map row_of (all_lines (whole (pos 7)) None one_or_two)
     ≡ ([], is_below typed.result 8, the_value (bool true)) ∷ ([], the_literal 2, unneeded)
     ∷ ([], one_or_two, the_value (whole (pos 1))) ∷ []
 then_branch_taken = refl
 
-else_branch_taken : map row_of (lines (whole (pos 9)) None one_or_two)
+else_branch_taken : map row_of (all_lines (whole (pos 9)) None one_or_two)
     ≡ ([], is_below typed.result 8, the_value (bool false)) ∷ ([], the_literal 1, unneeded)
     ∷ ([], one_or_two, the_value (whole (pos 2))) ∷ []
 else_branch_taken = refl
 
 -- `true ? 1 / result : 2` on 0: the other branch wasn't needed, also where the one taken fails
-failing_branch_taken : map row_of (lines (whole (pos 0)) None (typed.choice the_true one_over_result (the_literal 2)))
-    ≡ ([], one_over_result, failed (faulted DivisionByZero))
+failing_branch_taken : map row_of
+    (all_lines (whole (pos 0)) None (typed.choice the_true one_over_result (the_literal 2)))
+    ≡ ([], one_over_result, fails_on_zero)
     ∷ ([], the_literal 2, unneeded)
-    ∷ ([], typed.choice the_true one_over_result (the_literal 2), failed (faulted DivisionByZero)) ∷ []
+    ∷ ([], typed.choice the_true one_over_result (the_literal 2), failed (faulted DivisionByZero) None) ∷ []
+unfolding two_operands shown_value digits
 failing_branch_taken = refl
 
 -- `-1 < result` on 7: a literal with a sign says its value by itself
@@ -265,7 +275,7 @@ abbrev is_above_minus_one : Typed
 is_above_minus_one = typed.binary (binary.Compare compared.Wholes Less)
     (typed.unary (unary.Negate numbers.Wholes) (the_literal 1)) typed.result
 
-sign_of_a_literal : map row_of (lines (whole (pos 7)) None is_above_minus_one)
+sign_of_a_literal : map row_of (all_lines (whole (pos 7)) None is_above_minus_one)
     ≡ ([], is_above_minus_one, the_value (bool true)) ∷ []
 sign_of_a_literal = refl
 
@@ -273,13 +283,25 @@ sign_of_a_literal = refl
 abbrev needed : Typed
 needed = typed.unary unary.Need typed.result
 
-value_is_there : map row_of (lines (whole (pos 7)) None (is_below needed 8))
+value_is_there : map row_of (all_lines (whole (pos 7)) None (is_below needed 8))
     ≡ ([], is_below needed 8, the_value (bool true)) ∷ []
 value_is_there = refl
 
-value_is_nil : map row_of (lines nil None (is_below needed 8))
-    ≡ ([], needed, failed (faulted NilOperand)) ∷ ([], is_below needed 8, failed (faulted NilOperand)) ∷ []
+value_is_nil : map row_of (all_lines nil None (is_below needed 8))
+    ≡ ([], needed, failed (faulted NilOperand) (Some (codes "operand nil")))
+    ∷ ([], is_below needed 8, failed (faulted NilOperand) None) ∷ []
+unfolding one_operand shown_value
 value_is_nil = refl
+
+-- `result[0] < 8` on an empty list
+abbrev the_first : Typed
+the_first = typed.binary binary.Index typed.result (the_literal 0)
+
+no_first_item : map row_of (all_lines (list no_items) None (is_below the_first 8))
+    ≡ ([], the_first, failed (faulted IndexOutOfRange) (Some (codes "index 0 of 0 items")))
+    ∷ ([], is_below the_first 8, failed (faulted IndexOutOfRange) None) ∷ []
+unfolding two_operands digits
+no_first_item = refl
 
 -- `[1, 1 / result, 1 / result]` on 0: the third item isn't evaluated
 abbrev three_items : Typed
@@ -287,28 +309,30 @@ three_items =
     typed.listed scalars.Whole (typed.more (the_literal 1) (typed.more one_over_result
     (typed.more one_over_result typed.none)))
 
-second_item_fails : map row_of (lines (whole (pos 0)) None three_items)
-    ≡ ([], one_over_result, failed (faulted DivisionByZero)) ∷ ([], three_items, failed (faulted DivisionByZero)) ∷ []
+second_item_fails : map row_of (all_lines (whole (pos 0)) None three_items)
+    ≡ ([], one_over_result, fails_on_zero) ∷ ([], three_items, failed (faulted DivisionByZero) None) ∷ []
+unfolding two_operands shown_value digits
 second_item_fails = refl
 
 abbrev the_items : Value
 the_items =
     list (items_of (whole (pos 9) ∷ whole (pos 8) ∷ whole (pos 9) ∷ whole (pos 8) ∷ whole (pos 1) ∷ whole (pos 2) ∷ []))
 
-abbrev of_item : ℕ → ℕ → Bool → List (List ℕ × Typed × Said)
+abbrev of_item : ℕ → ℕ → Bool → List (List ℕ × Typed × Outcome)
 of_item number value holds =
     (number ∷ [], typed.item, the_value (whole (pos value)))
     ∷ (number ∷ [], is_below typed.item 8, the_value (bool holds)) ∷ []
 
 -- `any(result, # < 8)` on 9, 8, 9, 8, 1 and 2: the first three items, and the fifth, which decides
-fifth_item_decides : map row_of (lines the_items None (typed.predicate predicates.Any typed.result
+fifth_item_decides : map row_of (all_lines the_items None (typed.predicate predicates.Any typed.result
     (is_below typed.item 8)))
     ≡ of_item 0 9 false ++ of_item 1 8 false ++ of_item 2 9 false ++ of_item 4 1 true
     ++ ([], typed.predicate predicates.Any typed.result (is_below typed.item 8), the_value (bool true)) ∷ []
 fifth_item_decides = refl
 
 -- `count(result, # < 8)`: the last item is at the end
-last_item : map row_of (lines the_items None (typed.predicate predicates.Count typed.result (is_below typed.item 8)))
+last_item : map row_of
+    (all_lines the_items None (typed.predicate predicates.Count typed.result (is_below typed.item 8)))
     ≡ of_item 0 9 false ++ of_item 1 8 false ++ of_item 2 9 false ++ of_item 5 2 true
     ++ ([], typed.predicate predicates.Count typed.result (is_below typed.item 8), the_value (whole (pos 2))) ∷ []
 last_item = refl
@@ -319,16 +343,17 @@ is_quotient =
     typed.binary (binary.Equal families.Number) (typed.binary (binary.Wholes Divide) (the_literal 1) typed.item)
     (the_literal 0)
 
-abbrev fails_on_item : List (List ℕ × Typed × Said)
+abbrev fails_on_item : List (List ℕ × Typed × Outcome)
 fails_on_item =
     (3 ∷ [], typed.item, the_value (whole (pos 0)))
-    ∷ (3 ∷ [], typed.binary (binary.Wholes Divide) (the_literal 1) typed.item, failed (faulted DivisionByZero))
-    ∷ (3 ∷ [], is_quotient, failed (faulted DivisionByZero))
-    ∷ ([], typed.predicate predicates.Count typed.result is_quotient, failed (faulted DivisionByZero)) ∷ []
+    ∷ (3 ∷ [], typed.binary (binary.Wholes Divide) (the_literal 1) typed.item, fails_on_zero)
+    ∷ (3 ∷ [], is_quotient, failed (faulted DivisionByZero) None)
+    ∷ ([], typed.predicate predicates.Count typed.result is_quotient, failed (faulted DivisionByZero) None) ∷ []
 
-fourth_item_fails : drop 9 (map row_of (lines (list (items_of (whole (pos 1) ∷ whole (pos 2) ∷ whole (pos 3)
+fourth_item_fails : drop 9 (map row_of (all_lines (list (items_of (whole (pos 1) ∷ whole (pos 2) ∷ whole (pos 3)
     ∷ whole (pos 0) ∷ whole (pos 5) ∷ []))) None (typed.predicate predicates.Count typed.result is_quotient)))
     ≡ fails_on_item
+unfolding two_operands shown_value digits
 fourth_item_fails = refl
 
 -- `any(result, any(#, # < 8))` on [9] and [9, 1]: the number of the outer item comes first
@@ -339,11 +364,11 @@ abbrev two_lists : Value
 two_lists =
     list (items_of (list (items_of (whole (pos 9) ∷ [])) ∷ list (items_of (whole (pos 9) ∷ whole (pos 1) ∷ [])) ∷ []))
 
-abbrev said_on : Line → List ℕ × Said
+abbrev said_on : Line → List ℕ × Outcome
 said_on line = (line.items, line.said)
 
 second_of_the_second_decides : map said_on
-    (lines two_lists None (typed.predicate predicates.Any typed.result (any_below typed.item)))
+    (all_lines two_lists None (typed.predicate predicates.Any typed.result (any_below typed.item)))
     ≡ (0 ∷ [], the_value (list (items_of (whole (pos 9) ∷ []))))
     ∷ (0 ∷ 0 ∷ [], the_value (whole (pos 9))) ∷ (0 ∷ 0 ∷ [], the_value (bool false))
     ∷ (0 ∷ [], the_value (bool false))
@@ -355,7 +380,7 @@ second_of_the_second_decides : map said_on
 second_of_the_second_decides = refl
 
 -- few lines are all kept
-few_kept : explained (lines (whole (pos 7)) None (typed.both the_true (is_below typed.result 8)))
-    ≡ record { lines = lines (whole (pos 7)) None (typed.both the_true (is_below typed.result 8)); left_out = 0 }
+few_kept : explained (all_lines (whole (pos 7)) None (typed.both the_true (is_below typed.result 8)))
+    ≡ record { lines = all_lines (whole (pos 7)) None (typed.both the_true (is_below typed.result 8)); left_out = 0 }
 unfolding most_lines most_left_out
 few_kept = refl

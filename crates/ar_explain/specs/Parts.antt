@@ -12,7 +12,7 @@ use Rattle.ar_tree.specs.declared.tree.Literal.TheVariants as literals
 use Rattle.ar_tree.specs.Meaning.{mean}
 use Rattle.ar_tree.specs.Typed.{Typed, Typeds}
 use Rattle.ar_tree.specs.Typed as typed
-use Rattle.ar_explain.specs.Trace.{Entry}
+use Rattle.ar_explain.specs.Trace.{TraceEntry}
 
 abbrev pub nth_tree : Typeds → ℕ → Option Typed
 nth_tree typed.none number = None
@@ -88,7 +88,7 @@ here_at result here tree (number ∷ path) items =
     there ill_kinded (child tree number) >>= λ part. here_at result here part path items
 
 -- an entry is of a part of the tree, and has its meaning
-pub record IsEntryOf (result : Value) (here : Option Value) (tree : Typed) (entry : Entry) : Type 0 where
+pub record IsEntryOf (result : Value) (here : Option Value) (tree : Typed) (entry : TraceEntry) : Type 0 where
   pub of_part : part_at entry.path tree ≡ Some entry.part
   pub of_item : here_at result here tree entry.path entry.items ≡ Ok entry.here
   pub has_meaning : entry.meaning ≡ mean result entry.here entry.part
@@ -97,8 +97,8 @@ abbrev pub same_path : List ℕ → List ℕ → Bool
 same_path path other = bytes_eq path other
 
 -- whether the part to which a path leads is evaluated, if only on some item
-abbrev pub is_evaluated : List ℕ → List Entry → Bool
-is_evaluated path entries = list_any (λ (entry : Entry). same_path entry.path path) entries
+abbrev pub is_evaluated : List ℕ → List TraceEntry → Bool
+is_evaluated path entries = list_any (λ (entry : TraceEntry). same_path entry.path path) entries
 
 -- a tree that fails wherever it is
 abbrev pub Fails : Value → Failure → Typed → Type 0

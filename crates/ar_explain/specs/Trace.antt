@@ -19,7 +19,7 @@ use Rattle.ar_tree.specs.Typed.{Typed, Typeds}
 use Rattle.ar_tree.specs.Typed as typed
 
 -- a part that is evaluated
-pub record Entry : Type 0 where
+pub record TraceEntry : Type 0 where
   -- the numbers of the children that lead from the root to the part
   pub path : List ℕ
   -- the numbers of the items on which the bodies of predicates around it are evaluated, the outermost first
@@ -29,21 +29,21 @@ pub record Entry : Type 0 where
   pub here : Option Value
   pub meaning : Meaning
 
-abbrev pub root_entry : Value → Option Value → Typed → Entry
+abbrev pub root_entry : Value → Option Value → Typed → TraceEntry
 root_entry result here tree =
     record { path = []; items = []; part = tree; here = here; meaning = mean result here tree }
 
 -- a tree's own entry comes after those of its parts
-abbrev pub with_root : Value → Option Value → Typed → List Entry → List Entry
+abbrev pub with_root : Value → Option Value → Typed → List TraceEntry → List TraceEntry
 with_root result here tree earlier = earlier ++ root_entry result here tree ∷ []
 
 -- the entries of a child, as entries of its parent
-abbrev pub in_child : ℕ → List Entry → List Entry
-in_child child entries = map (λ (entry : Entry). record entry { path = child ∷ entry.path }) entries
+abbrev pub in_child : ℕ → List TraceEntry → List TraceEntry
+in_child child entries = map (λ (entry : TraceEntry). record entry { path = child ∷ entry.path }) entries
 
 -- the entries of a predicate's body on an item
-abbrev pub on_item : ℕ → List Entry → List Entry
-on_item number entries = map (λ (entry : Entry). record entry { items = number ∷ entry.items }) entries
+abbrev pub on_item : ℕ → List TraceEntry → List TraceEntry
+on_item number entries = map (λ (entry : TraceEntry). record entry { items = number ∷ entry.items }) entries
 
 -- what comes after a value; after a failure comes nothing
 abbrev pub if_value : {A B : Type 0} → Result A Failure → (A → List B) → List B
@@ -61,7 +61,8 @@ abbrev pub continues : Predicate → Bool → Bool
 continues predicate holds = continues_unless (ends_at predicate) holds
 
 -- the entries of each item that is looked at, the first of which has a number
-abbrev pub each_item : Predicate → (Value → Result Bool Failure) → (Value → List Entry) → ℕ → Items → List Entry
+abbrev pub each_item : Predicate → (Value → Result Bool Failure) → (Value → List TraceEntry) → ℕ → Items
+    → List TraceEntry
 each_item predicate holds entries number no_items = []
 each_item predicate holds entries number (item first items) =
     on_item number (entries first) ++ if_value (holds first)
@@ -70,7 +71,7 @@ each_item predicate holds entries number (item first items) =
 -- ---- trees
 
 abbrev mutual
-  pub trace : Value → Option Value → Typed → List Entry
+  pub trace : Value → Option Value → Typed → List TraceEntry
   trace result here typed.result = with_root result here typed.result []
   trace result here typed.item = with_root result here typed.item []
   trace result here (typed.literal literal) = with_root result here (typed.literal literal) []
@@ -105,7 +106,7 @@ abbrev mutual
       (λ value. in_child 1 (trace result (Some value) body)) 0))
 
   -- the items of a list literal, the first of which has a number
-  pub items_trace : Value → Option Value → ℕ → Typeds → List Entry
+  pub items_trace : Value → Option Value → ℕ → Typeds → List TraceEntry
   items_trace result here number typed.none = []
   items_trace result here number (typed.more first others) =
       in_child number (trace result here first)
@@ -116,7 +117,7 @@ abbrev mutual
 abbrev the_literal : ℕ → Typed
 the_literal value = typed.literal (literals.Whole (pos value))
 
-abbrev shown : Entry → List ℕ × List ℕ × Meaning
+abbrev shown : TraceEntry → List ℕ × List ℕ × Meaning
 shown entry = (entry.path, entry.items, entry.meaning)
 
 abbrev is_below : Typed → ℕ → Typed

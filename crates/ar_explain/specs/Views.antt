@@ -1,16 +1,16 @@
 -- What explanations in memory say.
-use Rattle.std.specs.Prelude.{map, string_bytes}
+use Rattle.std.specs.Prelude.{map, option_map, string_bytes}
 use Rattle.ar_tree.specs.Views.{typed_view}
-use Rattle.ar_tested.specs.Operand.{failure_of}
-use Rattle.ar_explain.specs.Lines.{Explanation, Line, Said, failed, unneeded, valued}
+use Rattle.ar_tested.specs.Failures.{failure_of}
+use Rattle.ar_explain.specs.Lines.{Explanation, Line, Outcome, failed, unneeded, valued}
 use Rattle.ar_explain.specs.declared.explanation.Explanation.{Explanation as ExplanationCode}
 use Rattle.ar_explain.specs.declared.explanation.Line.{Line as LineCode}
 use Rattle.ar_explain.specs.declared.explanation.Said.{Said as SaidCode}
 use Rattle.ar_explain.specs.declared.explanation.Said.TheVariants as said
 
-abbrev pub said_view : SaidCode → Said
+abbrev pub said_view : SaidCode → Outcome
 said_view (said.Valued text) = valued (string_bytes text)
-said_view (said.Failed failure) = failed (failure_of failure)
+said_view (said.Failed failure on) = failed (failure_of failure) (option_map string_bytes on)
 said_view said.Unneeded = unneeded
 
 abbrev pub line_view : LineCode → Line

@@ -1,7 +1,6 @@
 //! What is said of an evaluation.
 
-ghost use Rattle.std.specs.Prelude.{◌≡◌, [], ◌∷◌, IfOk, OnOk, string_bytes};
-ghost use Rattle.ar_machine.specs.Operand.{operand_value};
+ghost use Rattle.std.specs.Prelude.{◌≡◌, [], ◌∷◌, IfOk, OnOk, option_map, string_bytes};
 ghost use Rattle.ar_tree.specs.Views.{typed_view};
 ghost use Rattle.ar_tested.specs.Operand.{operand_view};
 ghost use Rattle.ar_explain.specs.Private.Keeping.{with_line};
@@ -9,8 +8,8 @@ ghost use Rattle.ar_explain.specs.Private.Places.{place_view, said_by, with_line
 ghost use Rattle.ar_show.specs.Values.{shown_value};
 ghost use Rattle.ar_explain.specs.Views.{explanation_view, line_view, said_view};
 
+use crate::applied::operand_ref;
 use crate::place::Place;
-use ar_machine::operand::OperandRef;
 use ar_show::push_value;
 use ar_tested::operand::{Failure, Operand};
 use ar_tree::Typed;
@@ -24,7 +23,8 @@ const MOST_LINES: usize = 1_000;
 pub enum Said {
     /// It has a value, which is shown so.
     Valued(String),
-    Failed(Failure),
+    /// It fails, on these operands where the failure arises in it.
+    Failed(Failure, Option<String>),
     /// It wasn't needed.
     Unneeded,
 }
@@ -58,17 +58,9 @@ pub struct Evaluation<'t> {
 #[derive(Clone, Copy)]
 pub(crate) enum Remark<'s, 'v> {
     Value(&'s Operand<'v>),
-    Failure(Failure),
+    /// With the operands on which it arises in the part, if it does.
+    Failure(Failure, Option<&'s str>),
     Unneeded,
-}
-
-fn operand_ref<'s, 'v>(operand: &'s Operand<'v>) -> OperandRef<'s, 'v>
-    ensures { operand_value result ≡ operand_view operand.now }
-{
-    match operand {
-        Operand::Value(value) => OperandRef::Borrowed(*value),
-        Operand::Made(items) => OperandRef::Made(items),
-    }
 }
 
 fn text_of(alloc: Global, operand: &Operand<'_>) -> Result<String, AllocError>
@@ -79,12 +71,21 @@ fn text_of(alloc: Global, operand: &Operand<'_>) -> Result<String, AllocError>
     Ok(text)
 }
 
+fn owned(alloc: Global, text: Option<&str>) -> Result<Option<String>, AllocError>
+    ensures { IfOk result (λ owned. option_map string_bytes owned ≡ option_map (λ text. text.now) text.entry) }
+{
+    let Some(text) = text else { return Ok(None) };
+    let mut owned = String::new(alloc);
+    owned.push_str(text)?;
+    Ok(Some(owned))
+}
+
 pub(crate) fn said_of(alloc: Global, remark: Remark<'_, '_>) -> Result<Said, AllocError>
     ensures { IfOk result (λ said. said_view said ≡ said_by remark.entry) }
 {
     match remark {
         Remark::Value(operand) => Ok(Said::Valued(text_of(alloc, operand)?)),
-        Remark::Failure(failure) => Ok(Said::Failed(failure)),
+        Remark::Failure(failure, on) => Ok(Said::Failed(failure, owned(alloc, on)?)),
         Remark::Unneeded => Ok(Said::Unneeded),
     }
 }

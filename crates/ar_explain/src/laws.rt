@@ -6,10 +6,11 @@ ghost use Rattle.ar_value.specs.Value.{Items, Value, item, list};
 ghost use Rattle.ar_value.specs.declared.operator.Predicate.{Predicate};
 ghost use Rattle.ar_tree.specs.Meaning.{mean};
 ghost use Rattle.ar_tree.specs.Typed.{Typed};
-ghost use Rattle.ar_explain.specs.Lines.{Line, lines, own_line};
+ghost use Rattle.ar_explain.specs.Lines.{Line, all_lines, own_line};
+ghost use Rattle.ar_explain.specs.Operands.{failed_on};
 ghost use Rattle.ar_explain.specs.Parts.{Fails, IsEntryOf, is_evaluated, with_part};
 ghost use Rattle.ar_explain.specs.Sources.{IsFrom, LooksLastAt};
-ghost use Rattle.ar_explain.specs.Trace.{Entry, root_entry, trace};
+ghost use Rattle.ar_explain.specs.Trace.{TraceEntry, root_entry, trace};
 
 /// Each entry is of a part of the tree, and has its meaning.
 pub fn entries_are_of_parts()
@@ -21,13 +22,13 @@ pub fn entries_are_of_parts()
 #[tactic(auto, using(crate::proofs::Roots::root_last))]
 pub fn root_is_last()
     ensures { (result : Value) (here : Option Value) (tree : Typed)
-        → (earlier : List Entry) × (trace result here tree ≡ earlier ++ root_entry result here tree ∷ []) }
+        → (earlier : List TraceEntry) × (trace result here tree ≡ earlier ++ root_entry result here tree ∷ []) }
 {}
 
 /// Where an entry's part fails, the condition fails with the same failure.
 pub fn failures_are_of_the_root()
     ensures { (result : Value) (here : Option Value) (tree : Typed) (failure : Failure)
-        → All (λ (entry : Entry). entry.meaning ≡ Err failure → mean result here tree ≡ Err failure)
+        → All (λ (entry : TraceEntry). entry.meaning ≡ Err failure → mean result here tree ≡ Err failure)
         (trace result here tree) }
 {}
 
@@ -47,16 +48,17 @@ pub fn parts_evaluated_are_needed()
 {}
 
 /// Each line that says a value or a failure is of an entry of the trace: it has the entry's part and items, and says
-/// its meaning.
+/// its meaning, and where a failure arises, on which operands.
 pub fn lines_are_of_entries()
     ensures { (result : Value) (here : Option Value) (tree : Typed)
-        → All (IsFrom (trace result here tree)) (lines result here tree) }
+        → All (IsFrom result (trace result here tree)) (all_lines result here tree) }
 {}
 
 /// The last line is the root's own, with its meaning.
 pub fn root_line_is_last()
     ensures { (result : Value) (here : Option Value) (tree : Typed)
-        → (earlier : List Line) × (lines result here tree ≡ earlier ++ own_line tree (mean result here tree) ∷ []) }
+        → (earlier : List Line) × (all_lines result here tree
+        ≡ earlier ++ own_line tree (mean result here tree) (failed_on result here tree) ∷ []) }
 {}
 
 /// The last item that a predicate looks at has the line of its body, if the body has one, whatever other items are

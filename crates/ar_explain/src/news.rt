@@ -4,11 +4,13 @@ ghost use Rattle.std.specs.Prelude.{◌≡◌, ◌∷◌, [], Ok, OnOk};
 ghost use Rattle.ar_value.specs.Value.{bool};
 ghost use Rattle.ar_tree.specs.Views.{typed_view};
 ghost use Rattle.ar_tested.specs.Operand.{operand_view};
-ghost use Rattle.ar_explain.specs.Lines.{changes_value, is_literal, own_lines, said_of, says_more, unneeded_line};
-ghost use Rattle.ar_explain.specs.Private.Places.{Explains, as_meant, place_view, said_by, with_lines_at};
+ghost use Rattle.ar_explain.specs.Lines.{changes_value, is_literal, own_lines, outcome_of, says_more, unneeded_line};
+ghost use Rattle.ar_explain.specs.Private.Failed.{came, came_on};
+ghost use Rattle.ar_explain.specs.Private.Places.{Explains, place_view, said_by, with_lines_at};
 ghost use Rattle.ar_explain.specs.Views.{explanation_view};
 
 use crate::explanation::{Explanation, Remark};
+use crate::failed::Failed;
 use crate::place::Place;
 use ar_tested::operand::{Failure, Operand};
 use ar_tree::Typed;
@@ -49,12 +51,12 @@ fn says_more(tree: &Typed) -> bool
 }
 
 /// What came of a part.
-pub(crate) fn remark_on<'s, 'v>(met: &'s Result<Operand<'v>, Failure>) -> Remark<'s, 'v>
-    ensures { said_by result ≡ said_of (as_meant operand_view met.now) }
+pub(crate) fn remark_on<'s, 'v>(met: &'s Result<Operand<'v>, Failed>) -> Remark<'s, 'v>
+    ensures { said_by result ≡ outcome_of (came operand_view met.now) (came_on met.now) }
 {
     match met {
         Ok(operand) => Remark::Value(operand),
-        Err(failure) => Remark::Failure(*failure),
+        Err(failed) => Remark::Failure(failed.failure, failed.text()),
     }
 }
 
@@ -62,12 +64,12 @@ pub(crate) fn remark_on<'s, 'v>(met: &'s Result<Operand<'v>, Failure>) -> Remark
 pub(crate) fn say_own<'t>(
     alloc: Global,
     tree: &'t Typed,
-    met: &Result<Operand<'_>, Failure>,
+    met: &Result<Operand<'_>, Failed>,
     place: &Place<'_>,
     out: &mut Explanation<'t>,
 ) -> Result<(), AllocError>
     ensures { OnOk result (explanation_view out.new ≡ with_lines_at (place_view place.now) out.old
-        (own_lines (typed_view tree.now) (as_meant operand_view met.now))) }
+        (own_lines (typed_view tree.now) (came operand_view met.now) (came_on met.now))) }
 {
     if met.is_ok() && !says_more(tree) {
         return Ok(());

@@ -4,7 +4,6 @@
 //! what came of it. Where it is silent already, each item is looked at once.
 
 ghost use Rattle.std.specs.Prelude.{◌≡◌, ◌++◌, ◌∷◌, [], None, IfOk, Ok, if◌then◌else◌};
-ghost use Rattle.ar_value.specs.Operators.{scalar_item};
 ghost use Rattle.ar_value.specs.Value.{bool, items_of};
 ghost use Rattle.ar_value.specs.View.{value_view};
 ghost use Rattle.ar_machine.specs.Operand.{list_values, value_of};
@@ -12,22 +11,25 @@ ghost use Rattle.ar_tree.specs.Meaning.{literal_value, mean, over};
 ghost use Rattle.ar_tree.specs.Typed as typed;
 ghost use Rattle.ar_tree.specs.Views.{typed_view};
 ghost use Rattle.ar_tested.specs.Operand.{Meets, operand_view};
-ghost use Rattle.ar_explain.specs.Lines.{each_item_lines, earlier_lines, explained, item_lines, lines_on_item, said_of, unneeded_line};
+ghost use Rattle.ar_explain.specs.Lines.{each_item_lines, earlier_lines, explained, item_lines, lines_on_item, outcome_of, unneeded_line};
+ghost use Rattle.ar_explain.specs.Operands.{failed_on};
+ghost use Rattle.ar_explain.specs.Private.Failed.{MeetsOn};
 ghost use Rattle.ar_explain.specs.Private.Keeping.{with_lines};
-ghost use Rattle.ar_explain.specs.Private.Places.{Explains, earlier_at, holds_meant, holds_on, items_lines_at, lines_at, lines_on, list_meant, meant, operated, over_lines, over_meant, place_view, scalar_meant, typeds_view};
+ghost use Rattle.ar_explain.specs.Private.Places.{Explains, ExplainsOn, earlier_at, failed_at, holds_meant, holds_on, items_failed_at, items_lines_at, lines_at, lines_on, list_meant, meant, operated, operated_on, over_failed_on, over_lines, over_meant, place_view, scalar_failed_at, scalar_meant, typeds_view};
 ghost use Rattle.ar_explain.specs.Views.{explanation_view, said_view};
 
+use crate::applied::{binary_on, field_on, inherited, operand_ref, plain, scalar_on, unary_on};
 use crate::explanation::{Evaluation, Explanation, Remark, said_of};
+use crate::failed::Failed;
 use crate::looked::{Looked, is_enough, is_silent};
 use crate::news::{remark_on, say_own, unneeded};
 use crate::place::Place;
 use ar_machine::operand::borrowed::{ValueRef, value_ref};
 use ar_machine::operand::list::ListRef;
 use ar_machine::operand::predicate::{count_with, decided};
-use ar_tested::effect::{apply_binary, apply_unary};
 use ar_tested::found::{answer_of, keep_found};
 use ar_tested::list::list_of;
-use ar_tested::operand::{Failure, Operand, boolean_of, field_of};
+use ar_tested::operand::{Failure, Operand, boolean_of};
 use ar_tree::Typed;
 use ar_tree::tree::Literal;
 use ar_value::operator::{BinaryOperator, Predicate, UnaryOperator};
@@ -35,12 +37,12 @@ use ar_value::text::Text;
 use ar_value::value::Value;
 use std::alloc::{AllocError, Global};
 
-fn item_at<'v>(place: &Place<'v>) -> Result<Operand<'v>, Failure>
-    ensures { Meets operand_view result (meant (place_view place.now) typed.item) }
+fn item_at<'v>(place: &Place<'v>) -> Result<Operand<'v>, Failed>
+    ensures { MeetsOn operand_view result (meant (place_view place.now) typed.item) None }
 {
     match place.here {
         Some(item) => Ok(Operand::Value(item)),
-        None => Err(Failure::IllKinded),
+        None => Err(Failed::inside(Failure::IllKinded)),
     }
 }
 
@@ -53,18 +55,6 @@ fn literal_ref(literal: &Literal) -> ValueRef<'_>
         Literal::Whole(value) => ValueRef::Whole(*value),
         Literal::Decimal(decimal) => ValueRef::Decimal(decimal.millionths()),
         Literal::Text(text) => ValueRef::Text(text.as_str()),
-    }
-}
-
-/// An operand as an item of a list literal.
-fn scalar_of<'v>(operand: &Operand<'v>) -> Result<ValueRef<'v>, Failure>
-    ensures { Meets value_of result (scalar_item (operand_view operand.now)) }
-{
-    match operand {
-        Operand::Value(ValueRef::List(_) | ValueRef::Object(_)) | Operand::Made(_) => {
-            Err(Failure::IllKinded)
-        }
-        Operand::Value(value) => Ok(*value),
     }
 }
 
@@ -81,7 +71,7 @@ fn walk<'t: 'v, 'v>(
 {
     let met = parts(alloc, tree, place, out)?;
     say_own(alloc, tree, &met, place, out)?;
-    Ok(met)
+    Ok(plain(met))
 }
 
 /// A part without its own line.
@@ -91,9 +81,9 @@ fn parts<'t: 'v, 'v>(
     tree: &'t Typed,
     place: &Place<'v>,
     out: &mut Explanation<'t>,
-) -> Result<Result<Operand<'v>, Failure>, AllocError>
-    ensures { Explains operand_view (place_view place.now) out.old out.new result
-        (meant (place_view place.now) (typed_view tree.now))
+) -> Result<Result<Operand<'v>, Failed>, AllocError>
+    ensures { ExplainsOn operand_view (place_view place.now) out.old out.new result
+        (meant (place_view place.now) (typed_view tree.now)) (failed_at (place_view place.now) (typed_view tree.now))
         (earlier_at (place_view place.now) (typed_view tree.now)) }
 {
     match tree {
@@ -107,13 +97,13 @@ fn parts<'t: 'v, 'v>(
             left,
             right,
         } => binary(alloc, left, right, *operator, place, out),
-        Typed::And { left, right } => both(alloc, left, right, place, out),
-        Typed::Or { left, right } => either(alloc, left, right, place, out),
+        Typed::And { left, right } => Ok(inherited(both(alloc, left, right, place, out)?)),
+        Typed::Or { left, right } => Ok(inherited(either(alloc, left, right, place, out)?)),
         Typed::Choice {
             condition,
             then_branch,
             else_branch,
-        } => choice(alloc, condition, then_branch, else_branch, place, out),
+        } => Ok(inherited(choice(alloc, condition, then_branch, else_branch, place, out)?)),
         Typed::List { items, .. } => listed(alloc, &items.items, place, out),
         Typed::Predicate {
             predicate,
@@ -130,14 +120,15 @@ fn field<'t: 'v, 'v>(
     name: &Text,
     place: &Place<'v>,
     out: &mut Explanation<'t>,
-) -> Result<Result<Operand<'v>, Failure>, AllocError>
-    ensures { Explains operand_view (place_view place.now) out.old out.new result
+) -> Result<Result<Operand<'v>, Failed>, AllocError>
+    ensures { ExplainsOn operand_view (place_view place.now) out.old out.new result
         (meant (place_view place.now) (typed.field (typed_view owner.now) name.now))
+        (failed_at (place_view place.now) (typed.field (typed_view owner.now) name.now))
         (lines_at (place_view place.now) (typed_view owner.now)) }
 {
     match walk(alloc, owner, place, out)? {
-        Ok(operand) => Ok(field_of(&operand, name.as_str())),
-        Err(failure) => Ok(Err(failure)),
+        Ok(operand) => field_on(alloc, &operand, name.as_str()),
+        Err(failure) => Ok(Err(Failed::inside(failure))),
     }
 }
 
@@ -148,14 +139,15 @@ fn unary<'t: 'v, 'v>(
     operator: UnaryOperator,
     place: &Place<'v>,
     out: &mut Explanation<'t>,
-) -> Result<Result<Operand<'v>, Failure>, AllocError>
-    ensures { Explains operand_view (place_view place.now) out.old out.new result
+) -> Result<Result<Operand<'v>, Failed>, AllocError>
+    ensures { ExplainsOn operand_view (place_view place.now) out.old out.new result
         (meant (place_view place.now) (typed.unary operator (typed_view operand.now)))
+        (failed_at (place_view place.now) (typed.unary operator (typed_view operand.now)))
         (lines_at (place_view place.now) (typed_view operand.now)) }
 {
     match walk(alloc, operand, place, out)? {
-        Ok(mut operand) => Ok(apply_unary(operator, &mut operand)),
-        Err(failure) => Ok(Err(failure)),
+        Ok(operand) => unary_on(alloc, operator, operand),
+        Err(failure) => Ok(Err(Failed::inside(failure))),
     }
 }
 
@@ -167,14 +159,15 @@ fn binary<'t: 'v, 'v>(
     operator: BinaryOperator,
     place: &Place<'v>,
     out: &mut Explanation<'t>,
-) -> Result<Result<Operand<'v>, Failure>, AllocError>
-    ensures { Explains operand_view (place_view place.now) out.old out.new result
+) -> Result<Result<Operand<'v>, Failed>, AllocError>
+    ensures { ExplainsOn operand_view (place_view place.now) out.old out.new result
         (meant (place_view place.now) (typed.binary operator (typed_view left.now) (typed_view right.now)))
+        (failed_at (place_view place.now) (typed.binary operator (typed_view left.now) (typed_view right.now)))
         (earlier_at (place_view place.now) (typed.binary operator (typed_view left.now) (typed_view right.now))) }
 {
     match walk(alloc, left, place, out)? {
         Ok(left) => binary_after(alloc, right, left, operator, place, out),
-        Err(failure) => Ok(Err(failure)),
+        Err(failure) => Ok(Err(Failed::inside(failure))),
     }
 }
 
@@ -183,18 +176,19 @@ fn binary<'t: 'v, 'v>(
 fn binary_after<'t: 'v, 'v>(
     alloc: Global,
     right: &'t Typed,
-    mut left: Operand<'v>,
+    left: Operand<'v>,
     operator: BinaryOperator,
     place: &Place<'v>,
     out: &mut Explanation<'t>,
-) -> Result<Result<Operand<'v>, Failure>, AllocError>
-    ensures { Explains operand_view (place_view place.now) out.old out.new result
+) -> Result<Result<Operand<'v>, Failed>, AllocError>
+    ensures { ExplainsOn operand_view (place_view place.now) out.old out.new result
         (operated operator (operand_view left.entry) (place_view place.now) (typed_view right.now))
+        (operated_on operator (operand_view left.entry) (place_view place.now) (typed_view right.now))
         (lines_at (place_view place.now) (typed_view right.now)) }
 {
     match walk(alloc, right, place, out)? {
-        Ok(mut right) => Ok(apply_binary(operator, &mut left, &mut right)),
-        Err(failure) => Ok(Err(failure)),
+        Ok(right) => binary_on(alloc, operator, left, right),
+        Err(failure) => Ok(Err(Failed::inside(failure))),
     }
 }
 
@@ -340,16 +334,17 @@ fn listed<'t: 'v, 'v>(
     items: &'t [Typed],
     place: &Place<'v>,
     out: &mut Explanation<'t>,
-) -> Result<Result<Operand<'v>, Failure>, AllocError>
-    ensures { Explains operand_view (place_view place.now) out.old out.new result
+) -> Result<Result<Operand<'v>, Failed>, AllocError>
+    ensures { ExplainsOn operand_view (place_view place.now) out.old out.new result
         (list_meant (place_view place.now) (typeds_view items.now))
+        (items_failed_at (place_view place.now) (typeds_view items.now))
         (items_lines_at (place_view place.now) (typeds_view items.now)) }
 {
     let mut made = Vec::new(alloc);
     for item in items {
         match scalar(alloc, item, place, out)? {
             Ok(value) => made.push(value)?,
-            Err(failure) => return Ok(Err(failure)),
+            Err(failed) => return Ok(Err(failed)),
         }
     }
     Ok(Ok(Operand::Made(made)))
@@ -362,14 +357,15 @@ fn scalar<'t: 'v, 'v>(
     item: &'t Typed,
     place: &Place<'v>,
     out: &mut Explanation<'t>,
-) -> Result<Result<ValueRef<'v>, Failure>, AllocError>
-    ensures { Explains value_of (place_view place.now) out.old out.new result
+) -> Result<Result<ValueRef<'v>, Failed>, AllocError>
+    ensures { ExplainsOn value_of (place_view place.now) out.old out.new result
         (scalar_meant (place_view place.now) (typed_view item.now))
+        (scalar_failed_at (place_view place.now) (typed_view item.now))
         (lines_at (place_view place.now) (typed_view item.now)) }
 {
     match walk(alloc, item, place, out)? {
-        Ok(operand) => Ok(scalar_of(&operand)),
-        Err(failure) => Ok(Err(failure)),
+        Ok(operand) => scalar_on(alloc, &operand),
+        Err(failure) => Ok(Err(Failed::inside(failure))),
     }
 }
 
@@ -382,15 +378,16 @@ fn over<'t: 'v, 'v>(
     predicate: Predicate,
     place: &Place<'v>,
     out: &mut Explanation<'t>,
-) -> Result<Result<Operand<'v>, Failure>, AllocError>
-    ensures { Explains operand_view (place_view place.now) out.old out.new result
+) -> Result<Result<Operand<'v>, Failed>, AllocError>
+    ensures { ExplainsOn operand_view (place_view place.now) out.old out.new result
         (meant (place_view place.now) (typed.predicate predicate (typed_view list.now) (typed_view body.now)))
+        (failed_at (place_view place.now) (typed.predicate predicate (typed_view list.now) (typed_view body.now)))
         (earlier_at (place_view place.now)
         (typed.predicate predicate (typed_view list.now) (typed_view body.now))) }
 {
     match walk(alloc, list, place, out)? {
         Ok(many) => over_operand(alloc, body, &many, predicate, place, out),
-        Err(failure) => Ok(Err(failure)),
+        Err(failure) => Ok(Err(Failed::inside(failure))),
     }
 }
 
@@ -402,14 +399,15 @@ fn over_operand<'t: 'v, 'v>(
     predicate: Predicate,
     place: &Place<'v>,
     out: &mut Explanation<'t>,
-) -> Result<Result<Operand<'v>, Failure>, AllocError>
-    ensures { Explains operand_view (place_view place.now) out.old out.new result
+) -> Result<Result<Operand<'v>, Failed>, AllocError>
+    ensures { ExplainsOn operand_view (place_view place.now) out.old out.new result
         (over_meant predicate (operand_view many.now) (place_view place.now) (typed_view body.now))
+        (over_failed_on (operand_view many.now))
         (over_lines predicate (operand_view many.now) (place_view place.now) (typed_view body.now)) }
 {
     match list_of(many) {
-        Ok(list) => each_item(alloc, body, list, predicate, place, out),
-        Err(failure) => Ok(Err(failure)),
+        Ok(list) => Ok(inherited(each_item(alloc, body, list, predicate, place, out)?)),
+        Err(failure) => Ok(Err(Failed::on_operand(alloc, failure, operand_ref(many))?)),
     }
 }
 
@@ -507,7 +505,8 @@ pub fn tell<'t>(
     ensures parts { IfOk result (λ evaluation. explanation_view evaluation.parts
         ≡ explained (earlier_lines (value_view value.now) None (typed_view condition.now))) }
     ensures answer { IfOk result (λ evaluation. said_view evaluation.answer
-        ≡ said_of (mean (value_view value.now) None (typed_view condition.now))) }
+        ≡ outcome_of (mean (value_view value.now) None (typed_view condition.now))
+        (failed_on (value_view value.now) None (typed_view condition.now))) }
 {
     let place = Place::outermost(alloc, value);
     let mut parts_said = Explanation::new(alloc);

@@ -39,8 +39,8 @@ literal_length quote escaped (byte ∷ bytes) =
     if is_plain escaped byte quote then 1 else suc (literal_length quote (is_plain escaped byte 92) bytes)
 
 -- how many bytes of the token come after its first
-abbrev pub others : (first : ℕ) → (rest : List ℕ) → ℕ
-others first rest =
+abbrev pub rest_length : (first : ℕ) → (rest : List ℕ) → ℕ
+rest_length first rest =
     if is_quotation_mark first then literal_length first false rest
     else (if is_ascii_digit first then prefix_len is_of_number rest
     else (if is_of_word first || first == 46 then prefix_len is_of_word rest
@@ -50,7 +50,7 @@ others first rest =
 -- how many bytes the token has that a text begins with
 abbrev pub token_length : (text : List ℕ) → ℕ
 token_length [] = 0
-token_length (first ∷ rest) = suc (others first rest)
+token_length (first ∷ rest) = suc (rest_length first rest)
 
 -- ---- offsets
 

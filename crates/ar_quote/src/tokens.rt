@@ -3,7 +3,7 @@
 ghost use Rattle.std.specs.Prelude.{◌≡◌, ◌≤◌, false, length, option_map};
 ghost use Rattle.std.specs.List.{prefix_len};
 ghost use Rattle.ar_quote.specs.Private.Runs.{continues};
-ghost use Rattle.ar_quote.specs.Tokens.{halves_at, found, is_inner, is_of_number, is_of_word, is_pair, is_plain, is_quotation_mark, literal_length, others, token_at, token_length};
+ghost use Rattle.ar_quote.specs.Tokens.{halves_at, found, is_inner, is_of_number, is_of_word, is_pair, is_plain, is_quotation_mark, literal_length, rest_length, token_at, token_length};
 
 // ---- tokens
 
@@ -104,8 +104,8 @@ fn is_pair(first: u8, rest: &[u8]) -> bool
 }
 
 /// How many bytes of a token come after its first.
-fn others(first: u8, rest: &[u8]) -> usize
-    ensures exact { result ≡ others first rest.now }
+fn rest_length(first: u8, rest: &[u8]) -> usize
+    ensures exact { result ≡ rest_length first rest.now }
     ensures bound { result ≤ length rest.now }
 {
     if is_quote(first) {
@@ -127,7 +127,7 @@ fn token_length(text: &str) -> usize
 {
     match text.as_bytes().split_first() {
         None => 0,
-        Some((first, rest)) => others(*first, rest) + 1,
+        Some((first, rest)) => rest_length(*first, rest) + 1,
     }
 }
 

@@ -36,12 +36,12 @@ use Rattle.ar_show.specs.Words.{between, boolean_text}
 
 -- ---- words and signs
 
-abbrev pub literal_text : Literal → List ℕ
-literal_text literals.Nil = codes "nil"
-literal_text (literals.Bool boolean) = boolean_text boolean
-literal_text (literals.Whole whole) = signed_decimal whole
-literal_text (literals.Decimal millionths) = decimal_text millionths
-literal_text (literals.Text text) = quoted text
+abbrev pub shown_literal : Literal → List ℕ
+shown_literal literals.Nil = codes "nil"
+shown_literal (literals.Bool boolean) = boolean_text boolean
+shown_literal (literals.Whole whole) = signed_decimal whole
+shown_literal (literals.Decimal millionths) = decimal_text millionths
+shown_literal (literals.Text text) = quoted text
 
 abbrev pub arithmetic_sign : Arithmetic → List ℕ
 arithmetic_sign wholes.Add = codes "+"
@@ -201,7 +201,7 @@ abbrev mutual
   pub shown_part : Typed → List ℕ
   shown_part typed.result = codes "result"
   shown_part typed.item = codes "#"
-  shown_part (typed.literal literal) = literal_text literal
+  shown_part (typed.literal literal) = shown_literal literal
   shown_part (typed.field whole name) = owner_text whole (shown_part whole) ++ field_text name
   shown_part (typed.unary operator operand) = unary_text operator operand (shown_part operand)
   shown_part (typed.binary operator left right) =

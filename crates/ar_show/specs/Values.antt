@@ -11,8 +11,8 @@ use Rattle.ar_quote.specs.Shown.{most_characters, quoted}
 use Rattle.ar_show.specs.Words.{between, boolean_text, left_out, units}
 
 -- how many items of a list are shown
-abbrev pub most_items : ℕ
-most_items = 3
+abbrev pub most_shown_items : ℕ
+most_shown_items = 3
 
 -- how many fields of a record are shown
 abbrev pub most_fields : ℕ
@@ -41,7 +41,7 @@ abbrev mutual
   shown_within levels (values.list items) =
       if levels == 0
       then codes "[" ++ (decimal (count items) ++ (codes " " ++ (units (codes "item") (count items) ++ codes "]")))
-      else codes "[" ++ (shown_items (levels - 1) most_items true items ++ codes "]")
+      else codes "[" ++ (shown_items (levels - 1) most_shown_items true items ++ codes "]")
   shown_within levels (values.object fields) =
       if levels == 0
       then codes "{" ++ (decimal (field_count fields)

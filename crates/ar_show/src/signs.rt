@@ -3,7 +3,7 @@
 ghost use Rattle.std.specs.Prelude.{◌≡◌, ◌++◌, OnOk, string_bytes};
 ghost use Rattle.std.specs.List.{list_all};
 ghost use Rattle.ar_quote.specs.Tokens.{is_of_word};
-ghost use Rattle.ar_show.specs.PartText.{arithmetic_sign, decimal_sign, field_text, is_below_zero, is_infix, is_hidden, is_sign, is_word, literal_text, order_sign, predicate_word, test_word};
+ghost use Rattle.ar_show.specs.PartText.{arithmetic_sign, decimal_sign, field_text, is_below_zero, is_infix, is_hidden, is_sign, is_word, shown_literal, order_sign, predicate_word, test_word};
 
 use crate::words::push_boolean;
 use ar_quote::push_quoted;
@@ -17,7 +17,7 @@ use std::fmt::Write;
 // ---- literals
 
 pub(crate) fn push_literal(out: &mut String, literal: &Literal) -> Result<(), AllocError>
-    ensures { OnOk result (string_bytes out.new ≡ string_bytes out.old ++ literal_text literal.now) }
+    ensures { OnOk result (string_bytes out.new ≡ string_bytes out.old ++ shown_literal literal.now) }
 {
     match literal {
         Literal::Nil => out.push_str("nil"),

@@ -7,7 +7,7 @@ ghost use Rattle.ar_value.specs.Value.{fields_from, items_of};
 ghost use Rattle.ar_value.specs.View.{fields_view, value_view};
 ghost use Rattle.ar_machine.specs.Operand.{list_values, operand_value, value_of};
 ghost use Rattle.ar_quote.specs.Shown.{quoted};
-ghost use Rattle.ar_show.specs.Values.{most_fields, most_items, shown_fields, shown_items, shown_text, shown_value, shown_within};
+ghost use Rattle.ar_show.specs.Values.{most_fields, most_shown_items, shown_fields, shown_items, shown_text, shown_value, shown_within};
 ghost use Rattle.ar_show.specs.Words.{between};
 
 use crate::words::{plural, push_between, push_boolean, push_left_out};
@@ -84,7 +84,7 @@ fn push_list(out: &mut String, list: ListRef<'_, '_>, levels: usize) -> Result<(
 #[tactic(auto, using(crate::proofs::Shortened::next_item, crate::proofs::Shortened::no_item))]
 fn push_items(out: &mut String, list: ListRef<'_, '_>, levels: usize) -> Result<(), AllocError>
     ensures { OnOk result (string_bytes out.new ≡ string_bytes out.old
-        ++ shown_items levels most_items true (items_of (list_values list.entry))) }
+        ++ shown_items levels most_shown_items true (items_of (list_values list.entry))) }
 {
     let mut first = true;
     for index in 0..list.len().min(MOST_ITEMS) {

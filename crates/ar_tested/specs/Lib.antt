@@ -1,3 +1,4 @@
+pub mod Failures
 pub mod Operand
 pub mod Run
 pub mod Private

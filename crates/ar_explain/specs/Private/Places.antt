@@ -1,8 +1,9 @@
 -- Where parts are evaluated, and what is said of them there.
-use Rattle.std.specs.Prelude.{◌≡◌, ℕ, Bool, List, [], ◌∷◌, ◌++◌, map, IfOk, Option, Some, option_map, Result, Ok, Err}
+use Rattle.std.specs.Prelude.{◌≡◌, ℕ, Bool, List, [], ◌∷◌, ◌++◌, map, IfOk, Option, Some, None, option_map, Result, Ok, Err}
 use Rattle.std.specs.declared.alloc.AllocError.{AllocError}
 use Rattle.ar_value.specs.Answer.{◌>>=◌}
 use Rattle.ar_value.specs.Operators.{Failure, Meaning, binary_meaning, boolean, items_in, scalar_item}
+use Rattle.ar_value.specs.Terms.{Text}
 use Rattle.ar_value.specs.Value.{Value, Items, list}
 use Rattle.ar_value.specs.View.{value_view}
 use Rattle.ar_value.specs.declared.operator.BinaryOperator.{BinaryOperator}
@@ -14,7 +15,9 @@ use Rattle.ar_tree.specs.declared.typed.Typed.{Typed as TypedCode}
 use Rattle.ar_machine.specs.Operand.{value_of}
 use Rattle.ar_tested.specs.Operand.{Meets, failure_of, operand_view}
 use Rattle.ar_tested.specs.declared.operand.Failure.{Failure as FailureCode}
-use Rattle.ar_explain.specs.Lines.{Explanation, Line, Said, each_item_lines, earlier_lines, failed, items_lines, unneeded, valued, with_own}
+use Rattle.ar_explain.specs.Lines.{Explanation, Line, Outcome, each_item_lines, earlier_lines, failed, items_lines, unneeded, valued, with_own}
+use Rattle.ar_explain.specs.Operands.{failed_on, item_failed_on, two_operands, on_value, refused_or}
+use Rattle.ar_explain.specs.Private.Failed.{MeetsOn}
 use Rattle.ar_explain.specs.Private.Keeping.{with_lines}
 use Rattle.ar_show.specs.Values.{shown_value}
 use Rattle.ar_explain.specs.Trace.{if_value}
@@ -22,6 +25,7 @@ use Rattle.ar_explain.specs.Views.{explanation_view}
 use Rattle.ar_explain.specs.declared.explanation.Explanation.{Explanation as ExplanationCode}
 use Rattle.ar_explain.specs.declared.explanation.Remark.{Remark}
 use Rattle.ar_explain.specs.declared.explanation.Remark.TheVariants as remarks
+use Rattle.ar_explain.specs.declared.failed.Failed.{Failed as FailedCode}
 use Rattle.ar_explain.specs.declared.place.Place.{Place as PlaceCode}
 
 -- where a part is evaluated
@@ -50,6 +54,9 @@ at_item number value silent place =
 abbrev pub meant : Place → Typed → Meaning
 meant place tree = mean place.result place.here tree
 
+abbrev pub failed_at : Place → Typed → Option Text
+failed_at place tree = failed_on place.result place.here tree
+
 abbrev pub earlier_at : Place → Typed → List Line
 earlier_at place tree = earlier_lines place.result place.here tree
 
@@ -64,11 +71,18 @@ holds_meant place tree = meant place tree >>= boolean
 abbrev pub operated : BinaryOperator → Value → Place → Typed → Meaning
 operated operator left place right = meant place right >>= binary_meaning operator left
 
+abbrev pub operated_on : BinaryOperator → Value → Place → Typed → Option Text
+operated_on operator left place right =
+    on_value (meant place right) (λ second. Some (two_operands operator left second))
+
 -- ---- list literals
 
 -- a part as an item
 abbrev pub scalar_meant : Place → Typed → Meaning
 scalar_meant place tree = meant place tree >>= scalar_item
+
+abbrev pub scalar_failed_at : Place → Typed → Option Text
+scalar_failed_at place tree = on_value (meant place tree) (λ value. refused_or (scalar_item value) value None)
 
 abbrev pub typeds_view : List TypedCode → Typeds
 typeds_view trees = typeds (map typed_view trees)
@@ -78,6 +92,9 @@ items_meant place trees = items_mean place.result place.here trees
 
 abbrev pub list_meant : Place → Typeds → Meaning
 list_meant place trees = items_meant place trees >>= λ items. Ok (list items)
+
+abbrev pub items_failed_at : Place → Typeds → Option Text
+items_failed_at place trees = item_failed_on place.result place.here trees
 
 abbrev pub items_lines_at : Place → Typeds → List Line
 items_lines_at place trees = items_lines place.result place.here trees
@@ -95,15 +112,18 @@ lines_on place body value = with_own place.result (Some value) body (earlier_lin
 abbrev pub over_meant : Predicate → Value → Place → Typed → Meaning
 over_meant predicate many place body = items_in many >>= over predicate (holds_on place body)
 
+abbrev pub over_failed_on : Value → Option Text
+over_failed_on many = refused_or (items_in many) many None
+
 abbrev pub over_lines : Predicate → Value → Place → Typed → List Line
 over_lines predicate many place body =
     if_value (items_in many) (each_item_lines predicate (holds_on place body) (lines_on place body) 0)
 
 -- ---- what is said
 
-abbrev pub said_by : Remark → Said
+abbrev pub said_by : Remark → Outcome
 said_by (remarks.Value operand) = valued (shown_value (operand_view operand.now))
-said_by (remarks.Failure failure) = failed (failure_of failure)
+said_by (remarks.Failure failure on) = failed (failure_of failure) (option_map (λ text. text.now) on)
 said_by remarks.Unneeded = unneeded
 
 -- what was met, as a meaning
@@ -119,3 +139,9 @@ abbrev pub Explains : {X Y : Type 0} → (X → Y) → Place → (old new : Expl
     → Result (Result X FailureCode) AllocError → Result Y Failure → List Line → Type 0
 Explains view place old new result meaning lines =
     IfOk result (λ met. Meets view met meaning × (explanation_view new ≡ with_lines_at place old lines))
+
+-- the same, where a failure arises on these operands
+abbrev pub ExplainsOn : {X Y : Type 0} → (X → Y) → Place → (old new : ExplanationCode)
+    → Result (Result X FailedCode) AllocError → Result Y Failure → Option Text → List Line → Type 0
+ExplainsOn view place old new result meaning on lines =
+    IfOk result (λ met. MeetsOn view met meaning on × (explanation_view new ≡ with_lines_at place old lines))

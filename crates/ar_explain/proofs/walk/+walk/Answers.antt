@@ -12,19 +12,21 @@ use Rattle.ar_tree.specs.Views.{typed_view}
 use Rattle.ar_tree.specs.declared.typed.Typed.{the_lemmas}
 use Rattle.ar_tested.specs.Operand.{failure_of, operand_view}
 use Rattle.ar_explain.specs.Lines.{each_item_lines, lines_on_item, unneeded_line}
+use Rattle.ar_explain.specs.Private.Failed.{on_of}
 use Rattle.ar_explain.specs.Private.Keeping.{with_lines}
-use Rattle.ar_explain.specs.Private.Places.{Explains, earlier_at, holds_meant, holds_on, items_lines_at, items_meant, lines_at, lines_on, meant, operated, place_view, scalar_meant, typeds_view, with_lines_at}
+use Rattle.ar_explain.specs.Private.Places.{ExplainsOn, earlier_at, failed_at, holds_meant, holds_on, items_failed_at, items_lines_at, items_meant, lines_at, lines_on, meant, operated, operated_on, over_failed_on, place_view, scalar_failed_at, scalar_meant, typeds_view, with_lines_at}
 use Rattle.ar_explain.specs.Views.{explanation_view}
-use Rattle.ar_explain.proofs.Walks.{after, after_operand, after_taken, failure_is, held_on, look_once, look_twice, more, otherwise, own_after, value_is}
-use Rattle.ar_explain.proofs.Loops.{all_items_made, all_lines_said, item_lines_after, item_lines_failed, items_after, items_failed, lines_after, rest_after, rest_of_all}
+use Rattle.ar_explain.proofs.Walks.{after_left, after_list, after_taken, failure_came, held_on, look_once, look_twice, more, otherwise, own_after, value_came, value_is}
+use Rattle.ar_explain.proofs.Loops.{all_items_made, all_lines_said, failed_after, failed_here, item_lines_after, item_lines_failed, items_after, items_failed, lines_after, rest_after, rest_of_all}
 use Rattle.ar_explain.proofs.walk.+walk.Goals as goal
 
 pub binary-returns-in-Ok : goal.binary-returns-in-Ok
 binary-returns-in-Ok t c =
     let place = place_view c.args.place.now in
     let left = c.in_ok-left.ensures in
-    after operand_view place c.args.out.now c.walk.new.out c.binary_after.new.out c.binary_after.result (meant place (typed_view c.args.left.now)) (operand_view c.in-Ok.left)
-    (λ value. operated c.args.operator value place (typed_view c.args.right.now)) (lines_at place (typed_view c.args.left.now)) (λ value. lines_at place (typed_view c.args.right.now))
+    after_left operand_view place c.args.out.now c.walk.new.out c.binary_after.new.out c.binary_after.result (meant place (typed_view c.args.left.now)) (operand_view c.in-Ok.left)
+    (λ value. operated c.args.operator value place (typed_view c.args.right.now)) (λ value. operated_on c.args.operator value place (typed_view c.args.right.now))
+    (lines_at place (typed_view c.args.left.now)) (λ value. lines_at place (typed_view c.args.right.now))
     (value_is operand_view c.in_ok-left.field-0 c.in-Ok.left (meant place (typed_view c.args.left.now)) c.in-Ok.is left.0) left.1 c.binary_after.ensures
 
 pub both-returns-in-Ok : goal.both-returns-in-Ok
@@ -74,8 +76,8 @@ over-returns-in-Ok t c =
     let place = place_view c.args.place.now in
     let many = c.in_ok-many.ensures in
     let body = typed_view c.args.body.now in
-    after_operand operand_view place c.args.out.now c.walk.new.out c.over_operand.new.out c.over_operand.result (meant place (typed_view c.args.list.now)) (operand_view c.in-Ok.many)
-    items_in (over c.args.predicate (holds_on place body)) (lines_at place (typed_view c.args.list.now)) (each_item_lines c.args.predicate (holds_on place body) (lines_on place body) 0)
+    after_list operand_view place c.args.out.now c.walk.new.out c.over_operand.new.out c.over_operand.result (meant place (typed_view c.args.list.now)) (operand_view c.in-Ok.many)
+    items_in (over c.args.predicate (holds_on place body)) over_failed_on (lines_at place (typed_view c.args.list.now)) (each_item_lines c.args.predicate (holds_on place body) (lines_on place body) 0)
     (value_is operand_view c.in_ok-many.field-0 c.in-Ok.many (meant place (typed_view c.args.list.now)) c.in-Ok.is many.0) many.1 c.over_operand.ensures
 
 pub holds_at-returns : goal.holds_at-returns
@@ -88,8 +90,10 @@ pub walk-returns : goal.walk-returns
 walk-returns t c =
     let place = place_view c.args.place.now in
     let tree = typed_view c.args.tree.now in
-    let met = c.in_ok-met.ensures in
-    (met.0, own_after operand_view place c.args.out.now c.parts.new.out c.say_own.new.out c.in_ok-met.met (meant place tree) tree (earlier_at place tree) met.0 met.1 c.in_ok-say_own.ensures)
+    let met = c.in_ok-met.ensures in (
+      c.plain.ensures (meant place tree) (failed_at place tree) met.0,
+      own_after operand_view place c.args.out.now c.parts.new.out c.say_own.new.out c.in_ok-met.met (meant place tree) (failed_at place tree) tree (earlier_at place tree) met.0 met.1 c.in_ok-say_own.ensures,
+    )
 
 pub then_taken-returns : goal.then_taken-returns
 then_taken-returns t c =
@@ -125,30 +129,39 @@ parts-returns-in-Field t c =
     let place = place_view c.args.place.now in
     let tree : typed_view c.args.tree.now ≡ typed.field (typed_view c.deref.result.now) c.in-Field.name =
     ap typed_view c.in-Field.is ∙ search (rules, the_lemmas) in
-    subst (λ tree. Explains operand_view place c.args.out.now c.field.new.out c.field.result (meant place tree) (earlier_at place tree)) (sym tree) c.field.ensures
+    subst (λ tree. ExplainsOn operand_view place c.args.out.now c.field.new.out c.field.result (meant place tree) (failed_at place tree) (earlier_at place tree)) (sym tree) c.field.ensures
 
 pub listed-returns-in-Err : goal.listed-returns-in-Err
 listed-returns-in-Err t c =
     let place = place_view c.args.place.now in
     let met = c.in_ok-value.ensures in
-    let fails = failure_is value_of c.in_ok-value.field-0 c.in-Err.failure (scalar_meant place (typed_view c.item-item.result)) c.in-Err.is met.0 in (
-      ap (λ m. m >>= λ items. Ok (list items)) (items_failed place c.args.items.now c.loop-item.item-index c.item-item.result c.loop-item-test.true c.item-item.is
-          (map value_of c.loop-item.made.items) (failure_of c.in-Err.failure) (items_meant place (typeds_view c.args.items.now)) fails c.loop-item.invariant.0),
+    let tree = typed_view c.item-item.result in
+    let fails = failure_came value_of c.in_ok-value.field-0 c.in-Err.failed (scalar_meant place tree) (scalar_failed_at place tree) c.in-Err.is met.0 in
+    let failure = failure_of c.in-Err.failed.failure in (
+      (
+        ap (λ m. m >>= λ items. Ok (list items)) (items_failed place c.args.items.now c.loop-item.item-index c.item-item.result c.loop-item-test.true c.item-item.is
+            (map value_of c.loop-item.made.items) failure (items_meant place (typeds_view c.args.items.now)) fails.0 c.loop-item.invariant.0),
+        failed_here place c.args.items.now c.loop-item.item-index c.item-item.result c.loop-item-test.true c.item-item.is
+            failure (on_of c.in-Err.failed) (items_failed_at place (typeds_view c.args.items.now)) fails.0 fails.1 c.loop-item.invariant.2,
+      ),
       item_lines_failed place c.args.items.now c.loop-item.item-index c.item-item.result c.loop-item-test.true c.item-item.is c.loop-item.out c.scalar.new.out
-          (with_lines_at place c.args.out.now (items_lines_at place (typeds_view c.args.items.now))) c.loop-item.invariant.1 met.1 (failure_of c.in-Err.failure) fails,
+          (with_lines_at place c.args.out.now (items_lines_at place (typeds_view c.args.items.now))) c.loop-item.invariant.1 met.1 failure fails.0,
     )
 
 pub listed-loop-item-preserved : goal.listed-loop-item-preserved
 listed-loop-item-preserved t c =
     let place = place_view c.args.place.now in
     let met = c.in_ok-value.ensures in
-    let has = value_is value_of c.in_ok-value.field-0 c.in-Ok.value (scalar_meant place (typed_view c.item-item.result)) c.in-Ok.is met.0 in
+    let tree = typed_view c.item-item.result in
+    let has = value_came value_of c.in_ok-value.field-0 c.in-Ok.value (scalar_meant place tree) (scalar_failed_at place tree) c.in-Ok.is met.0 in
     let more : map value_of c.push.new.self.items ≡ map value_of c.loop-item.made.items ++ value_of c.in-Ok.value ∷ [] =
     ap (map value_of) c.in_ok-push-in-Ok.ensures.items ∙ map-append value_of c.loop-item.made.items (c.in-Ok.value ∷ []) in (
       items_after place c.args.items.now c.loop-item.item-index c.item-item.result c.loop-item-test.true c.item-item.is
           (map value_of c.loop-item.made.items) (map value_of c.push.new.self.items) (value_of c.in-Ok.value) (items_meant place (typeds_view c.args.items.now)) has more c.loop-item.invariant.0,
       item_lines_after place c.args.items.now c.loop-item.item-index c.item-item.result c.loop-item-test.true c.item-item.is c.loop-item.out c.scalar.new.out
           (with_lines_at place c.args.out.now (items_lines_at place (typeds_view c.args.items.now))) c.loop-item.invariant.1 met.1 (value_of c.in-Ok.value) has,
+      failed_after place c.args.items.now c.loop-item.item-index c.item-item.result c.loop-item-test.true c.item-item.is
+          (value_of c.in-Ok.value) (items_failed_at place (typeds_view c.args.items.now)) has c.loop-item.invariant.2,
     )
 
 pub listed-returns : goal.listed-returns

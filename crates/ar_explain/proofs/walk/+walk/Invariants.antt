@@ -6,7 +6,7 @@ use Rattle.ar_tree.specs.Views.{typed_view}
 use Rattle.ar_tree.specs.declared.typed.Typed.{size-Typed}
 use Rattle.ar_explain.specs.Lines.{each_item_lines}
 use Rattle.ar_explain.specs.Private.Loops.{after_made, over_rest}
-use Rattle.ar_explain.specs.Private.Places.{holds_on, items_lines_at, items_meant, lines_on, place_view, typeds_view, with_lines_at}
+use Rattle.ar_explain.specs.Private.Places.{holds_on, items_failed_at, items_lines_at, items_meant, lines_on, place_view, typeds_view, with_lines_at}
 use Rattle.ar_explain.proofs.walk.+walk.Given as goal
 
 -- what is left leads to the whole
@@ -16,6 +16,7 @@ invariant-listed-loop-item l =
     let rest = typeds_view (drop l.item-index l.items) in
     (after_made (map value_of l.made.items) (items_meant place rest) ≡ items_meant place (typeds_view l.items))
     × (with_lines_at place l.out (items_lines_at place rest) ≡ with_lines_at place l.fn.out (items_lines_at place (typeds_view l.items)))
+    × (items_failed_at place rest ≡ items_failed_at place (typeds_view l.items))
 
 abbrev pub invariant-each_item-loop-number : goal.invariant-each_item-loop-number
 invariant-each_item-loop-number l =

@@ -1,0 +1,24 @@
+-- What came of parts in memory.
+use Rattle.std.specs.Prelude.{◌≡◌, string_bytes, Option, None, option_map, Result, Ok, Err}
+use Rattle.ar_value.specs.Operators.{Failure}
+use Rattle.ar_value.specs.Terms.{Text}
+use Rattle.ar_tested.specs.Failures.{failure_of}
+use Rattle.ar_explain.specs.declared.failed.Failed.{Failed as FailedCode}
+
+-- on which operands a failure arises
+abbrev pub on_of : FailedCode → Option Text
+on_of failed = option_map string_bytes failed.on
+
+-- What a helper gave, seen by a view, is what is meant, and so is why it gave nothing, on these operands.
+abbrev pub MeetsOn : {X Y : Type 0} → (X → Y) → Result X FailedCode → Result Y Failure → Option Text → Type 0
+MeetsOn view (Ok x) meaning on = meaning ≡ Ok (view x)
+MeetsOn view (Err failed) meaning on = (meaning ≡ Err (failure_of failed.failure)) × (on_of failed ≡ on)
+
+-- what was met, as a meaning and a text
+abbrev pub came : {X Y : Type 0} → (X → Y) → Result X FailedCode → Result Y Failure
+came view (Ok x) = Ok (view x)
+came view (Err failed) = Err (failure_of failed.failure)
+
+abbrev pub came_on : {X : Type 0} → Result X FailedCode → Option Text
+came_on (Ok x) = None
+came_on (Err failed) = on_of failed
