@@ -11,7 +11,8 @@ use Rattle.ar_json.specs.Document.{json_in, most_bytes}
 use Rattle.ar_document.specs.declared.error.BundleError.{BundleError}
 use Rattle.ar_command_line.specs.Input.{ReadsUpToLimit}
 use Rattle.ar_eval.specs.Evaluation.{Evaluates, Follows, eval_json_error, prepared, prepared_input}
-use Rattle.ar_command.specs.Serving.{RefusesInput, Reports, Says, WritesFront}
+use Rattle.ar_command_line.specs.Selection.{Selected, selected}
+use Rattle.ar_command.specs.Serving.{Explains, LacksSelected, RefusesInput, Reports, Says, WritesFront}
 use Rattle.ar_command_line.specs.Output.{AppendsFront}
 use Rattle.ar_eval.specs.declared.eval.EvalError.{EvalError}
 use Rattle.ar_command.specs.declared.serving.Closing.{Closing}
@@ -56,6 +57,12 @@ module _ (input bytes : List ℕ) (same : json_in input ≡ json_in bytes) where
   reports_too : (format : Format) (text : List ℕ) (closing : Closing) → Reports format bytes text closing → Reports format input text closing
   reports_too format text closing says = record { bundle = says.bundle; reads = reads_too (Ok says.bundle) says.reads; histories = says.histories; reported = says.reported }
 
+  explains_too : (selection : Selected) (format : Format) (text : List ℕ) → Explains selection format bytes text → Explains selection format input text
+  explains_too selection format text says = record { bundle = says.bundle; reads = reads_too (Ok says.bundle) says.reads; given = says.given; is_given = same ∙ says.is_given; histories = says.histories; lawful = says.lawful; rise = says.rise; asked = says.asked; chooses = says.chooses; is = says.is }
+
+  lacks_too : (selection : Selected) → LacksSelected selection bytes → LacksSelected selection input
+  lacks_too selection lacks = record { bundle = lacks.bundle; reads = reads_too (Ok lacks.bundle) lacks.reads; none = lacks.none }
+
   says_too : (command : Command) (text : List ℕ) (closing : Closing) → Says command bytes text closing → Says command input text closing
   unfolding reports_too
   says_too (commands.Eval format) text closing says = (record { answer = says.0.answer; evaluates = evaluates_too (Ok says.0.answer) says.0.evaluates; is = says.0.is }, says.1)
@@ -64,20 +71,30 @@ module _ (input bytes : List ℕ) (same : json_in input ≡ json_in bytes) where
   says_too (commands.Run workers format) text closing says = reports_too format text closing says
   says_too (commands.Plain format) text closing says = record { reports = reports_too format text closing says.reports; rise = says.rise }
   says_too (commands.Ordered workers format) text closing says = record { reports = reports_too format text closing says.reports; rise = says.rise }
+  says_too (commands.Explain selection format) text closing says = (explains_too (selected selection) format text says.0, says.1)
 
   refuses_too : (command : Command) (refusal : Refusal) → RefusesInput command bytes refusal → RefusesInput command input refusal
   refuses_too (commands.Eval format) (refusals.Eval fault) refuses = evaluates_too (Err fault) refuses
   refuses_too (commands.Eval format) (refusals.Bundle error) refuses = absurd refuses
+  refuses_too (commands.Eval format) refusals.NotThere refuses = absurd refuses
   refuses_too (commands.Check format) (refusals.Bundle error) refuses = reads_too (Err error) refuses
   refuses_too (commands.Check format) (refusals.Eval fault) refuses = absurd refuses
+  refuses_too (commands.Check format) refusals.NotThere refuses = absurd refuses
   refuses_too commands.List (refusals.Bundle error) refuses = reads_too (Err error) refuses
   refuses_too commands.List (refusals.Eval fault) refuses = absurd refuses
+  refuses_too commands.List refusals.NotThere refuses = absurd refuses
   refuses_too (commands.Run workers format) (refusals.Bundle error) refuses = reads_too (Err error) refuses
   refuses_too (commands.Run workers format) (refusals.Eval fault) refuses = absurd refuses
+  refuses_too (commands.Run workers format) refusals.NotThere refuses = absurd refuses
   refuses_too (commands.Plain format) (refusals.Bundle error) refuses = reads_too (Err error) refuses
   refuses_too (commands.Plain format) (refusals.Eval fault) refuses = absurd refuses
+  refuses_too (commands.Plain format) refusals.NotThere refuses = absurd refuses
   refuses_too (commands.Ordered workers format) (refusals.Bundle error) refuses = reads_too (Err error) refuses
   refuses_too (commands.Ordered workers format) (refusals.Eval fault) refuses = absurd refuses
+  refuses_too (commands.Ordered workers format) refusals.NotThere refuses = absurd refuses
+  refuses_too (commands.Explain selection format) (refusals.Bundle error) refuses = reads_too (Err error) refuses
+  refuses_too (commands.Explain selection format) (refusals.Eval fault) refuses = absurd refuses
+  refuses_too (commands.Explain selection format) refusals.NotThere refuses = lacks_too (selected selection) refuses
 
 of_known : (P : List ℕ → Type 0) (bytes : List ℕ) (known : Option (List ℕ)) → IfSome known (λ input. json_in input ≡ json_in bytes) → ((input : List ℕ) → json_in input ≡ json_in bytes → P input) → IfSome known P
 of_known P bytes None same says = tt

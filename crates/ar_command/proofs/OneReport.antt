@@ -1,6 +1,6 @@
 -- That a command for one thread says one text of an input. Reports of bundles that are the same but for where they lie in
 -- memory, by the same numbers, are one text.
-use Rattle.std.proofs.Common.{◌≡◌, ◌≢◌, ℕ, zero, suc, List, [], ◌∷◌, ◌++◌, length, map, Option, Some, None, refl, sym, ◌∙◌, ap}
+use Rattle.std.proofs.Common.{◌≡◌, ℕ, zero, suc, List, [], ◌∷◌, length, map, Option, Some, None, refl, sym, ◌∙◌, ap}
 use Rattle.std.specs.Prelude.{option_and_then, option_map, slice_get, unwrap_or}
 use Rattle.std.specs.List.{filter_map}
 use Rattle.std.proofs.lemmas.List.{length-map}
@@ -28,11 +28,10 @@ use Rattle.ar_report.specs.Facts.{facts_found, facts_of_events, facts_of_metrics
 use Rattle.ar_report.specs.Report.{report_text}
 use Rattle.ar_report.specs.ReportData.{report_data}
 use Rattle.ar_command.proofs.OneNumbering.{same_numbers}
-use Rattle.ar_command.proofs.OneText.{one_bundle, one_check, one_line, one_listing, one_printed}
+use Rattle.ar_command.proofs.OneText.{one_bundle, one_printed}
 use Rattle.ar_command.specs.Alike.{AreOfSameRuns, AreSameConditions, AreSameJudges, AreSameRuns, IsSameBundle, IsSameRun}
 use Rattle.ar_command.specs.Serving.{ReportsInOrder, Says, closing_of}
 use Rattle.ar_command.specs.declared.serving.Closing.{Closing}
-use Rattle.ar_command_line.specs.declared.command_line.Command.{Command}
 use Rattle.ar_command_line.specs.declared.command_line.Command.TheVariants as commands
 use Rattle.ar_command_line.specs.declared.command_line.Format.{Format}
 use Rattle.ar_command_line.specs.declared.command_line.Format.TheVariants as formats
@@ -53,7 +52,7 @@ same_verdict (measured value) one other success failure = rw (same_said value on
 
 -- ---- judges by their indexes
 
-abbrev AreSameHere : (one other : Option Judge) → Type 0
+abbrev pub AreSameHere : (one other : Option Judge) → Type 0
 AreSameHere (Some one) (Some other) = AreSameConditions one.success other.success × AreSameConditions one.failure other.failure
 AreSameHere None None = Unit {0}
 AreSameHere one other = ⊥
@@ -68,7 +67,7 @@ same_judge (one ∷ some) (other ∷ others) (suc place) same = same_judge some 
 abbrev judges_at : Option RunPart → (metric : ℕ) → Option Judge
 judges_at run metric = option_and_then (λ (run : RunPart). slice_get run.judges metric) run
 
-same_judge_at : (some others : List RunPart) (run metric : ℕ) → AreSameRuns some others → AreSameHere (judges_at (slice_get some run) metric) (judges_at (slice_get others run) metric)
+pub same_judge_at : (some others : List RunPart) (run metric : ℕ) → AreSameRuns some others → AreSameHere (judges_at (slice_get some run) metric) (judges_at (slice_get others run) metric)
 same_judge_at [] [] run metric same = tt
 same_judge_at [] (other ∷ others) run metric same = absurd same
 same_judge_at (one ∷ some) [] run metric same = absurd same
@@ -77,12 +76,12 @@ same_judge_at (one ∷ some) (other ∷ others) (suc run) metric same = same_jud
 
 -- ---- entries by their indexes
 
-abbrev AreSameEntries : (one other : Option EventPart) → Type 0
+abbrev pub AreSameEntries : (one other : Option EventPart) → Type 0
 AreSameEntries (Some one) (Some other) = entry_view one ≡ entry_view other
 AreSameEntries None None = Unit {0}
 AreSameEntries one other = ⊥
 
-same_entry : (some others : List EventPart) (place : ℕ) → map entry_view some ≡ map entry_view others → AreSameEntries (slice_get some place) (slice_get others place)
+pub same_entry : (some others : List EventPart) (place : ℕ) → map entry_view some ≡ map entry_view others → AreSameEntries (slice_get some place) (slice_get others place)
 same_entry [] [] place same = tt
 same_entry [] (other ∷ others) place same = absurd cc
 same_entry (one ∷ some) [] place same = absurd cc
@@ -106,7 +105,7 @@ same_event_of Stop Stop finding same = refl
 -- ---- the texts of two bundles
 
 module _ (one other : Bundle) (same : IsSameBundle one other) where
-  same_found : (run : ℕ) (what its : What) → what_view what ≡ what_view its → found_of one run what ≡ found_of other run its
+  pub same_found : (run : ℕ) (what its : What) → what_view what ≡ what_view its → found_of one run what ≡ found_of other run its
   same_found run (Measure metric sample) (Measure place also) view =
       let metric_is : metric ≡ place = cc in
       let sample_is : sample_view sample ≡ sample_view also = cc in
@@ -132,10 +131,10 @@ module _ (one other : Bundle) (same : IsSameBundle one other) where
   happened_by None (Some its) view = absurd view
   happened_by None None view = refl
 
-  same_happened : (number : ℕ) → happened one number ≡ happened other number
+  pub same_happened : (number : ℕ) → happened one number ≡ happened other number
   same_happened number = happened_by (slice_get one.entries number) (slice_get other.entries number) (same_entry one.entries other.entries number same.entries)
 
-  same_events : (numbers : List ℕ) → events_of one numbers ≡ events_of other numbers
+  pub same_events : (numbers : List ℕ) → events_of one numbers ≡ events_of other numbers
   same_events numbers = ap (λ h. filter_map h numbers) (λ k number. same_happened number k)
 
   run_by : (entry its : Option EventPart) → AreSameEntries entry its → option_map (λ (e : EventPart). e.run) entry ≡ option_map (λ (e : EventPart). e.run) its
@@ -144,7 +143,7 @@ module _ (one other : Bundle) (same : IsSameBundle one other) where
   run_by None (Some its) view = absurd view
   run_by None None view = refl
 
-  same_run : (number : ℕ) → run_at one number ≡ run_at other number
+  pub same_run : (number : ℕ) → run_at one number ≡ run_at other number
   same_run number = run_by (slice_get one.entries number) (slice_get other.entries number) (same_entry one.entries other.entries number same.entries)
 
   name_by : (metrics its : List MetricPart) (place : ℕ) → map metric_view metrics ≡ map metric_view its → name_at metrics place ≡ name_at its place
@@ -173,7 +172,7 @@ module _ (one other : Bundle) (same : IsSameBundle one other) where
   facts_found_by None (Some its) view = absurd view
   facts_found_by None None view = refl
 
-  same_facts_found : (number : ℕ) → facts_found one number ≡ facts_found other number
+  pub same_facts_found : (number : ℕ) → facts_found one number ≡ facts_found other number
   same_facts_found number = ap (λ facts. unwrap_or facts stopped) (facts_found_by (slice_get one.entries number) (slice_get other.entries number) (same_entry one.entries other.entries number same.entries))
 
   same_facts_of_events : (numbers : List ℕ) (some : List Effect) → facts_of_events one numbers some ≡ facts_of_events other numbers some
@@ -181,7 +180,7 @@ module _ (one other : Bundle) (same : IsSameBundle one other) where
   same_facts_of_events (number ∷ numbers) [] = refl
   same_facts_of_events (number ∷ numbers) (effect ∷ some) = rw (same_facts_found number) (rw (same_facts_of_events numbers some) refl)
 
-  same_facts_of_metrics : (metrics its : List MetricPart) (limits : List Limits) (phases : List Phase) (counts : List Counts) → map metric_view metrics ≡ map metric_view its → facts_of_metrics metrics limits phases counts ≡ facts_of_metrics its limits phases counts
+  pub same_facts_of_metrics : (metrics its : List MetricPart) (limits : List Limits) (phases : List Phase) (counts : List Counts) → map metric_view metrics ≡ map metric_view its → facts_of_metrics metrics limits phases counts ≡ facts_of_metrics its limits phases counts
   same_facts_of_metrics [] [] limits phases counts view = refl
   same_facts_of_metrics [] (own ∷ its) limits phases counts view = absurd cc
   same_facts_of_metrics (metric ∷ metrics) [] limits phases counts view = absurd cc
@@ -210,7 +209,7 @@ module _ (one other : Bundle) (same : IsSameBundle one other) where
   same_facts_of_runs (run ∷ runs) (own ∷ its) (some ∷ numbers) are =
       ap (λ facts. facts ∷ facts_of_runs one runs numbers) (same_run_facts run own some are.0) ∙ ap (λ more. run_facts other own some ∷ more) (same_facts_of_runs runs its numbers are.1)
 
-  as_many_runs : (runs its : List RunPart) → AreSameRuns runs its → length runs ≡ length its
+  pub as_many_runs : (runs its : List RunPart) → AreSameRuns runs its → length runs ≡ length its
   as_many_runs [] [] are = refl
   as_many_runs [] (own ∷ its) are = absurd are
   as_many_runs (run ∷ runs) [] are = absurd are
@@ -230,21 +229,12 @@ one_report_facts format its_format input text other closing closing_of_other say
     let numbers = same_numbers one.bundle its.bundle (same_run one.bundle its.bundle same) one.histories its.histories (as_many_runs one.bundle its.bundle same one.bundle.runs its.bundle.runs same.runs) as_many one.reported.lawful says.rise its.reported.lawful also.rise in
     same_facts one.bundle its.bundle same (map numbers_of one.histories) ∙ ap (report_facts its.bundle) numbers
 
-one_report : (format : Format) (input text other : List ℕ) (closing closing_of_other : Closing) → ReportsInOrder format input text closing → ReportsInOrder format input other closing_of_other → (text ≡ other) × (closing ≡ closing_of_other)
+pub one_report : (format : Format) (input text other : List ℕ) (closing closing_of_other : Closing) → ReportsInOrder format input text closing → ReportsInOrder format input other closing_of_other → (text ≡ other) × (closing ≡ closing_of_other)
 one_report format input text other closing closing_of_other says also =
     let facts = one_report_facts format format input text other closing closing_of_other says also in (
       one_printed format _ _ _ _ text other (ap report_text facts) (ap report_data facts) says.reports.reported.is also.reports.reported.is,
       says.reports.reported.closes ∙ (ap (λ facts. closing_of (phases_of facts)) facts ∙ sym also.reports.reported.closes),
     )
-
-pub one_text : (command : Command) (input text other : List ℕ) (closing closing_of_other : Closing) → ((workers : ℕ) (format : Format) → command ≢ commands.Run workers format) → Says command input text closing → Says command input other closing_of_other
-    → (text ≡ other) × (closing ≡ closing_of_other)
-one_text (commands.Eval format) input text other closing closing_of_other not_run says also = (one_line format input text other closing closing_of_other says also, says.1 ∙ sym also.1)
-one_text (commands.Check format) input text other closing closing_of_other not_run says also = (one_check format input text other closing closing_of_other says also, says.1 ∙ sym also.1)
-one_text commands.List input text other closing closing_of_other not_run says also = (one_listing input text other closing closing_of_other says also, says.1 ∙ sym also.1)
-one_text (commands.Run workers format) input text other closing closing_of_other not_run says also = absurd (not_run workers format refl)
-one_text (commands.Plain format) input text other closing closing_of_other not_run says also = one_report format input text other closing closing_of_other says also
-one_text (commands.Ordered workers format) input text other closing closing_of_other not_run says also = one_report format input text other closing closing_of_other says also
 
 pub ordered_is_plain : (workers : ℕ) (format : Format) (input text other : List ℕ) (closing closing_of_other : Closing) → Says (commands.Ordered workers format) input text closing → Says (commands.Plain format) input other closing_of_other
     → (text ≡ other) × (closing ≡ closing_of_other)

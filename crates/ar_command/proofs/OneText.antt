@@ -6,7 +6,6 @@ use Rattle.ar_value.specs.declared.fault.Fault.{Fault}
 use Rattle.ar_manifest.specs.declared.bound.BoundMetric.{BoundMetric}
 use Rattle.ar_compile.specs.Compiled.{compiled}
 use Rattle.ar_safety.specs.Verdict.{IsVerified}
-use Rattle.ar_safety.specs.Bounds.{Verified}
 use Rattle.ar_safety.proofs.OneVerdict.{same_bounds}
 use Rattle.ar_judge.proofs.Trees.{tree_by_parser}
 use Rattle.ar_judge.specs.Built.{IsBuilt}

@@ -1,5 +1,5 @@
 -- What commands write for an input, for what they refuse it, and how they end.
-use Rattle.std.specs.Prelude.{◌≡◌, ◌≢◌, ◌≤◌, ℕ, Bool, true, false, List, ◌++◌, Option, codes, map, if◌then◌else◌, Result, Ok, Err}
+use Rattle.std.specs.Prelude.{◌≡◌, ◌≢◌, ◌≤◌, ℕ, nat_lt, Bool, true, false, List, ◌++◌, length, Option, Some, None, option_map, codes, map, if◌then◌else◌, Result, Ok, Err}
 use Rattle.std.specs.Io.KnownBytes.{Appends}
 use Rattle.std.specs.List.{list_any}
 use Rattle.ar_value.specs.Terms.{Bytes, Text}
@@ -9,13 +9,22 @@ use Rattle.ar_limits.specs.Metric.{is_unsuccessful}
 use Rattle.ar_limits.specs.declared.phase.Phase.{Phase}
 use Rattle.ar_bundle.specs.Bundle.{Bundle}
 use Rattle.ar_bundle.specs.Lawful.{AllRise, AreLawful, numbers_of}
+use Rattle.ar_bundle.specs.declared.bundle.MetricPart.{MetricPart}
+use Rattle.ar_bundle.specs.declared.bundle.RunPart.{RunPart}
 use Rattle.ar_bundle.specs.declared.history.Entry.{Entry}
+use Rattle.ar_json.specs.Document.{json_in}
 use Rattle.serde_json.specs.Data.{Data}
 use Rattle.ar_report.specs.Check.{check_text, list_text}
 use Rattle.ar_report.specs.Facts.{RunFacts, check_facts, phases_of, report_facts}
 use Rattle.ar_report.specs.Report.{report_text}
 use Rattle.ar_report.specs.ReportData.{IsJsonLine, answer_data, check_data, report_data}
+use Rattle.ar_reason.specs.Reason.{reasons_of}
+use Rattle.ar_reason.specs.ReasonData.{reasons_data}
+use Rattle.ar_reason.specs.ReasonText.{reasons_text}
+use Rattle.ar_reason.specs.declared.chosen.Chosen.{Chosen}
+use Rattle.ar_reason.specs.declared.chosen.Chosen.TheVariants as chosen
 use Rattle.ar_document.specs.Document as document
+use Rattle.ar_document.specs.Opening.{index_of_name}
 use Rattle.ar_document.specs.declared.error.BundleError.{BundleError}
 use Rattle.ar_document.specs.declared.error.BundleError.TheVariants as bundle
 use Rattle.ar_eval.specs.Evaluation.{Evaluates}
@@ -28,6 +37,8 @@ use Rattle.ar_command.specs.declared.serving.Closing.{Closing}
 use Rattle.ar_command.specs.declared.serving.Closing.TheVariants.{Good, Bad}
 use Rattle.ar_command_line.specs.declared.command_line.Command.{Command}
 use Rattle.ar_command_line.specs.declared.command_line.Command.TheVariants as commands
+use Rattle.ar_command_line.specs.Selection.{Selected, selected}
+use Rattle.ar_command_line.specs.Selection as selections
 use Rattle.ar_command_line.specs.declared.command_line.Format.{Format}
 use Rattle.ar_command_line.specs.declared.command_line.Format.TheVariants as formats
 use Rattle.ar_command.specs.declared.serving.Refusal.{Refusal}
@@ -95,6 +106,35 @@ pub record ReportsInOrder (format : Format) (input : Bytes) (text : Text) (closi
   pub reports : Reports format input text closing
   pub rise : AllRise reports.histories
 
+-- ---- what is explained
+
+-- the events that a selection asks for, where the bundle has what it names
+abbrev pub chosen_of : Bundle → Selected → Option Chosen
+chosen_of bundle selections.all = Some chosen.All
+chosen_of bundle (selections.event number) =
+    if nat_lt number (length bundle.entries) then Some (chosen.Event number) else None
+chosen_of bundle (selections.of_run name) =
+    option_map chosen.Run (index_of_name name (map (λ (run : RunPart). run.name) bundle.runs))
+chosen_of bundle (selections.of_metric name) =
+    option_map chosen.Metric (index_of_name name (map (λ (metric : MetricPart). metric.name) bundle.metrics))
+
+-- what led to the verdicts and effects of the plain run's events, of those that a selection asks for
+pub record Explains (selection : Selected) (format : Format) (input : Bytes) (text : Text) : Type 0 where
+  pub bundle : Bundle
+  pub reads : document.ReadsInput input (Ok bundle)
+  -- the document, which has measurements as they were given
+  pub given : Data
+  pub is_given : json_in input ≡ Ok given
+  pub histories : List (List Entry)
+  pub lawful : AreLawful bundle histories
+  pub rise : AllRise histories
+  pub asked : Chosen
+  pub chooses : chosen_of bundle selection ≡ Some asked
+  pub is : IsPrinted format (reasons_text (reasons_of given bundle asked histories))
+      (reasons_data (reasons_of given bundle asked histories)) text
+
+-- ---- what a command says
+
 -- what a command writes for an input, and how it closes
 abbrev pub Says : Command → (input : Bytes) (text : Text) → Closing → Type 0
 Says (commands.Eval format) input text closing = Writes format input text × (closing ≡ Good)
@@ -103,6 +143,8 @@ Says commands.List input text closing = Shows IsListed input text × (closing �
 Says (commands.Run workers format) input text closing = Reports format input text closing
 Says (commands.Plain format) input text closing = ReportsInOrder format input text closing
 Says (commands.Ordered workers format) input text closing = ReportsInOrder format input text closing
+Says (commands.Explain selection format) input text closing =
+    Explains (selected selection) format input text × (closing ≡ Good)
 
 -- a command was carried out: what it says of the bytes that were taken was written
 pub record IsCarriedOut (command : Command) (taken_before taken_after contents_before contents_after : Option (List ℕ))
@@ -133,12 +175,20 @@ pub record WritesFront (command : Command) (contents_before contents_after : Opt
 
 -- ---- what is refused
 
+-- the bundle of an input has no run, metric or measurement that the selection names
+pub record LacksSelected (selection : Selected) (input : Bytes) : Type 0 where
+  pub bundle : Bundle
+  pub reads : document.ReadsInput input (Ok bundle)
+  pub none : chosen_of bundle selection ≡ None
+
 -- the first fault of an input for a command
 abbrev pub RefusesInput : Command → (input : Bytes) → Refusal → Type 0
 RefusesInput (commands.Eval format) input (refusals.Eval fault) = Evaluates input (Err fault)
 RefusesInput (commands.Eval format) input (refusals.Bundle error) = ⊥
+RefusesInput (commands.Explain selection format) input refusals.NotThere = LacksSelected (selected selection) input
 RefusesInput command input (refusals.Bundle error) = document.ReadsInput input (Err error)
 RefusesInput command input (refusals.Eval fault) = ⊥
+RefusesInput command input refusals.NotThere = ⊥
 
 -- the bytes that were taken are refused
 pub record RefusesTaken (command : Command) (taken_before taken_after : Option (List ℕ))

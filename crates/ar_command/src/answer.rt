@@ -13,6 +13,7 @@ ghost use Rattle.ar_command.specs.Serving.{Breaks, IsCauseOf, IsChecked, IsPrint
 ghost use Rattle.ar_command.specs.declared.serving.Closing.TheVariants.{Good};
 ghost use Rattle.ar_command_line.specs.declared.command_line.Command.TheVariants as commands;
 
+use crate::explained::explained;
 use crate::serving::{Closing, ServeError};
 use ar_board::MOST_WORKERS;
 use ar_bundle::{Bundle, Histories, run_plain};
@@ -35,16 +36,17 @@ pub(crate) struct Said {
 }
 
 /// The text and the closing of a command that runs on one thread, for an input; or why the input is refused.
-pub(crate) fn answer(alloc: Global, command: Command, input: &[u8]) -> Result<Said, ServeError>
+pub(crate) fn answer(alloc: Global, command: Command<'_>, input: &[u8]) -> Result<Said, ServeError>
     requires { RunsAlone command }
-    ensures said { IfOk result (λ said. Says command input.now (string_bytes said.text) said.closing) }
-    ensures refused { IfRefused is_serve_memory result (NamesRefusal (RefusesInput command input.now)) }
+    ensures said { IfOk result (λ said. Says command.entry input.now (string_bytes said.text) said.closing) }
+    ensures refused { IfRefused is_serve_memory result (NamesRefusal (RefusesInput command.entry input.now)) }
 {
     match command {
         Command::Eval(format) => evaluated(alloc, format, input),
         Command::Check(format) => checked(alloc, format, input),
         Command::List => listed(alloc, input),
         Command::Plain(format) => reported_in_order(alloc, format, input),
+        Command::Explain(selection, format) => explained(alloc, selection, format, input),
         Command::Run(..) | Command::Ordered(..) => unreachable!(),
     }
 }
@@ -53,14 +55,14 @@ pub(crate) fn answer(alloc: Global, command: Command, input: &[u8]) -> Result<Sa
 pub(crate) fn judged<G: Gate, R: Threads + Wait + Sync>(
     rt: &R,
     alloc: Global,
-    command: Command,
+    command: Command<'_>,
     input: &[u8],
     gate: &G,
 ) -> Result<Said, ServeError>
     requires { RunsWith command MOST_WORKERS }
-    ensures said { IfOk result (λ said. Says command input.now (string_bytes said.text) said.closing) }
+    ensures said { IfOk result (λ said. Says command.entry input.now (string_bytes said.text) said.closing) }
     ensures ends { IfRefused is_serve_memory result
-        (Names (RefusesInput command input.now) (Breaks command input.now)) }
+        (Names (RefusesInput command.entry input.now) (Breaks command.entry input.now)) }
 {
     let bundle = read_bundle(alloc, input)?;
     match command {
@@ -68,7 +70,11 @@ pub(crate) fn judged<G: Gate, R: Threads + Wait + Sync>(
         Command::Ordered(workers, format) => {
             put_in_order(rt, alloc, workers, format, &bundle, gate)
         }
-        Command::Eval(_) | Command::Check(_) | Command::List | Command::Plain(_) => unreachable!(),
+        Command::Eval(_)
+        | Command::Check(_)
+        | Command::List
+        | Command::Plain(_)
+        | Command::Explain(..) => unreachable!(),
     }
 }
 

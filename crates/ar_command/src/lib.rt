@@ -10,16 +10,19 @@
 //! `ar_eval`'s.
 //!
 //! - [`serving`]: a command, from the bytes read to the bytes written
-//! - `answer`: what each command says of an input
+//! - `answer`: what each command says of an input; `explained`: what `explain` says
 //! - [`status`]: exit statuses
 //! - [`laws`]: that an input is one bundle, and has one text in a format, and both formats the same facts of runs
 #![tactic(auto)]
 
 mod answer;
+mod explained;
 pub mod laws;
 pub mod serving;
 pub mod status;
 
-pub use ar_command_line::{Command, Device, DeviceFault, Format, Kept, Sink, Source, write_output};
+pub use ar_command_line::{
+    Command, Device, DeviceFault, Format, Kept, Selection, Sink, Source, write_output,
+};
 pub use ar_eval::{EvalError, eval};
 pub use serving::{Closing, Refusal, ServeError, serve, serve_plain};

@@ -32,6 +32,9 @@ pub enum Refusal {
     Eval(EvalError),
     #[error(transparent)]
     Bundle(BundleError),
+    /// There is no run, metric or measurement that was named.
+    #[error("command line: NotThere: the document has none that was named")]
+    NotThere,
 }
 
 /// Why a command wasn't carried out.
@@ -126,7 +129,7 @@ impl From<AllocError> for ServeError {
 pub fn serve<S: Source, W: Sink, G: Gate, R: Threads + Wait + Sync>(
     rt: &R,
     alloc: Global,
-    command: Command,
+    command: Command<'_>,
     reader: &mut S,
     writer: &mut W,
     gate: &G,
@@ -135,11 +138,11 @@ pub fn serve<S: Source, W: Sink, G: Gate, R: Threads + Wait + Sync>(
     requires reader_works { S.has_failed reader.old ≡ false }
     requires writer_works { W.has_failed writer.old ≡ false }
 
-    ensures served { Served command S.taken S.remaining S.has_failed reader.old reader.new
+    ensures served { Served command.entry S.taken S.remaining S.has_failed reader.old reader.new
         W.contents W.has_failed writer.old writer.new result }
 
     // A lost number is shown, and an ordered run loses none.
-    ensures work { IfBroken result (IsBroken command (S.taken reader.old) (S.taken reader.new)) }
+    ensures work { IfBroken result (IsBroken command.entry (S.taken reader.old) (S.taken reader.new)) }
 {
     let input = read_input(alloc, reader)?;
     let said = judged(rt, alloc, command, &input, gate)?;
@@ -155,7 +158,7 @@ pub fn serve<S: Source, W: Sink, G: Gate, R: Threads + Wait + Sync>(
 /// document.
 pub fn serve_plain<S: Source, W: Sink>(
     alloc: Global,
-    command: Command,
+    command: Command<'_>,
     reader: &mut S,
     writer: &mut W,
 ) -> Result<Closing, ServeError>
@@ -163,7 +166,7 @@ pub fn serve_plain<S: Source, W: Sink>(
     requires reader_works { S.has_failed reader.old ≡ false }
     requires writer_works { W.has_failed writer.old ≡ false }
 
-    ensures served { Served command S.taken S.remaining S.has_failed reader.old reader.new
+    ensures served { Served command.entry S.taken S.remaining S.has_failed reader.old reader.new
         W.contents W.has_failed writer.old writer.new result }
 
     // There are no workers.

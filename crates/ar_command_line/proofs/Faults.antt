@@ -1,10 +1,10 @@
--- Where `clap` finds no fault in the words, they name a command, but for the number of workers.
+-- Where `clap` finds no fault in the words, they name a command, but for the values of its options.
 use Rattle.std.proofs.Common.{◌≡◌, ◌≢◌, Bool, true, false, List, [], ◌∷◌, Option, Some, None, Ok, Err, option_map, is_some, refl, ap, cond, find, ◌∙◌, sym, subst, Result, inl, inr, IfOk, codes, ℕ}
 use Rattle.std.specs.Prelude.{⊤, unwrap_or, IsErr}
 use Rattle.std.specs.Option.{option_map_or}
 use Rattle.std.specs.Result.{result_err}
 use Rattle.std.proofs.lemmas.Result.{IfOk-weaker}
-use Rattle.clap.specs.Words.{App, HasKind, HasMatchesOf, IsAmong, FailsBy, Kinds, Row, Shape, Text, fault_of, is_simple, is_simple_and_free, kind_of, subcommand_of, subcommand_rows_of}
+use Rattle.clap.specs.Words.{App, first_of, HasKind, HasMatchesOf, IsAmong, FailsBy, Kinds, Row, Shape, Text, fault_of, is_simple, is_simple_and_free, kind_of, subcommand_of, subcommand_rows_of}
 use Rattle.clap.specs.Faults.{check_fault, defaults_fault, entered_fault, level_fault, settle_fault, walk_fault}
 use Rattle.clap.specs.Walk.{Held, Names, finished, nothing_held, settled, walk, walk_from}
 use Rattle.clap.specs.Kinds.{or_else}
@@ -14,12 +14,14 @@ use Rattle.clap.specs.declared.error.kind.ErrorKind.{ErrorKind}
 use Rattle.clap.specs.declared.error.kind.ErrorKind.TheVariants.{OutOfMemory}
 use Rattle.clap.specs.declared.parser.matches.ArgMatches.{ArgMatches}
 use Rattle.ar_command_line.proofs.Bounds.{ordered_in_bounds, run_in_bounds}
-use Rattle.ar_command_line.specs.CommandLine.{AsksForCommand, AsksForText, application, command_named, format_of, has_flag, is_request, named, of_kind, run_command, run_of, workers_of}
+use Rattle.ar_command_line.specs.CommandLine.{AsksForCommand, AsksForText, application, command_named, event_of, explain_command, explain_of, format_of, has_flag, is_request, named, of_kind, run_command, run_of, selection_of, workers_of}
 use Rattle.ar_command_line.specs.declared.command_line.Command.{Command}
 use Rattle.ar_command_line.specs.declared.command_line.UsageError.{UsageError}
-use Rattle.ar_command_line.specs.declared.command_line.Command.TheVariants.{Eval, Check}
 use Rattle.ar_command_line.specs.declared.command_line.Format.{Format}
-use Rattle.ar_command_line.specs.declared.command_line.UsageError.TheVariants.{Words, Output}
+use Rattle.ar_command_line.specs.declared.command_line.UsageError.TheVariants.{Words, Event, Output, Several}
+use Rattle.ar_command_line.specs.Selection.{Selected}
+use Rattle.ar_command_line.specs.Task.{Task, asked, task_of}
+use Rattle.ar_command_line.specs.Task as task
 
 -- ---- the command line is one of those of which `clap` says what a parse gives
 
@@ -60,13 +62,35 @@ run_known rows = go (workers_of rows) refl
     go (Some n) is bad = let bad2 = rw is at bad in no_words (has_flag (codes "plain") rows) (has_flag (codes "ordered") rows) n (format_of rows) bad2
     go None is bad = let bad2 = rw is at bad in cc
 
-formatted_known : (command : Format → Command) (format : Option Format) → option_map_or (λ format. Ok (command format)) format (Err Output) ≢ Err Words
+no_selection : (selected : Option Selected) (format : Format) → option_map_or (λ selected. Ok (task.explain selected format)) selected (Err Several) ≢ Err Words
+no_selection None format bad = cc
+no_selection (Some selected) format bad = cc
+
+explain_words : (run metric : Option Text) (event : Option (Option ℕ)) (format : Option Format)
+    → option_map_or (λ event. option_map_or (explain_of run metric event) format (Err Output)) event (Err Event) ≢ Err Words
+explain_words run metric None format bad = cc
+explain_words run metric (Some event) None bad = cc
+explain_words run metric (Some event) (Some format) bad = no_selection (selection_of event run metric) format bad
+
+explain_known : (rows : List Row) → explain_command rows ≢ Err Words
+explain_known rows = explain_words (first_of (codes "run") rows) (first_of (codes "metric") rows) (event_of rows) (format_of rows)
+
+formatted_known : (command : Format → Task) (format : Option Format) → option_map_or (λ format. Ok (command format)) format (Err Output) ≢ Err Words
 formatted_known command None bad = cc
 formatted_known command (Some format) bad = cc
 
 all_known : AllKnown (built application).subs
 unfolding application
-all_known = (λ rows. formatted_known Eval (format_of rows), (λ rows. formatted_known Check (format_of rows), (λ rows bad. cc, (run_known, tt))))
+all_known = (
+  λ rows. formatted_known task.eval (format_of rows),
+  (
+    λ rows. formatted_known task.check (format_of rows),
+    (
+      λ rows bad. cc,
+      (run_known, (explain_known, tt)),
+    ),
+  ),
+)
 
 known : (f : Shape → Bool) (words : List Text) (subs : List Shape) → AllKnown subs
     → is_some (option_map (λ s. rows_at s words) (find f subs)) ≡ true → command_named (option_map (λ s. rows_at s words) (find f subs)) ≢ Err Words
@@ -130,26 +154,29 @@ pub refused_words : (a : App) (words : List Text) (e : Error) → a ≡ applicat
     → fault_of application words ≢ []
 refused_words a words e is parses answer = refused a words e is parses (λ memory. let bad = rw memory at answer in cc)
 
-if_named : {P : Type 0} (x r : Result Command UsageError) → r ≡ x → P → IfOk r (λ command. P × (x ≡ Ok command))
+if_named : {P : Type 0} (x : Result Task UsageError) (r : Result Command UsageError) → asked r ≡ x → P → IfOk r (λ command. P × (x ≡ Ok (task_of command)))
 if_named x (Ok command) is p = (p, sym is)
 if_named x (Err error) is p = tt
 
 -- and where it takes them
 pub answers : (a : App) (words : List Text) (m : ArgMatches) (r : Result Command UsageError) → a ≡ application → Parses a words (Ok m)
-    → HasMatchesOf a words m → r ≡ command_named (subcommand_rows_of m) → AsksForCommand words r
+    → HasMatchesOf a words m → asked r ≡ command_named (subcommand_rows_of m) → AsksForCommand words r
 answers a words m r is parses matches answer =
     let free = taken a words m is parses in
-    let same : r ≡ command_named (subcommand_of application words) = answer ∙ ap command_named (subcommand_is a words m is matches) in
-    let named : IfOk r (λ command. (fault_of application words ≡ []) × (command_named (subcommand_of application words) ≡ Ok command)) = if_named _ r same free in
-    let reported : IfOk r (λ command. command_named (subcommand_of application words) ≡ Ok command) = IfOk-weaker r _ _ (λ command both. both.1) named in
+    let same : asked r ≡ command_named (subcommand_of application words) = answer ∙ ap command_named (subcommand_is a words m is matches) in
+    let named : IfOk r (λ command. (fault_of application words ≡ []) × (command_named (subcommand_of application words) ≡ Ok (task_of command))) =
+    if_named _ r same free in
+    let reported : IfOk r (λ command. command_named (subcommand_of application words) ≡ Ok (task_of command)) = IfOk-weaker r _ _ (λ command both. both.1) named in
     record {
       named = named;
       bounds = λ n format. run_in_bounds (subcommand_of application words) r n format reported;
       ordered_bounds = λ n format. ordered_in_bounds (subcommand_of application words) r n format reported;
-      words = λ bad _. named_or_workers words free (sym same ∙ bad);
-      workers = λ bad. (free, sym same ∙ bad);
-      output = λ bad. (free, sym same ∙ bad);
-      conflict = λ bad. (free, sym same ∙ bad);
+      words = λ bad _. named_or_workers words free (sym same ∙ ap asked bad);
+      workers = λ bad. (free, sym same ∙ ap asked bad);
+      event = λ bad. (free, sym same ∙ ap asked bad);
+      output = λ bad. (free, sym same ∙ ap asked bad);
+      conflict = λ bad. (free, sym same ∙ ap asked bad);
+      several = λ bad. (free, sym same ∙ ap asked bad);
     }
 
 pub same_error : (e f : UsageError) → ◌≡◌ {A = Result Command UsageError} (Err e) (Err f) → e ≡ f

@@ -1,9 +1,10 @@
 -- What the matches of a parse name.
-use Rattle.std.proofs.Common.{◌≡◌, ◌≢◌, ◌∙◌, ◌<◌, ◌≤◌, ℕ, Bool, true, false, Option, Some, None, Ok, Err, ap, sym, refl, subst, arith, cond, unwrap_or, codes, List, option_map}
+use Rattle.std.proofs.Common.{◌≡◌, ◌≢◌, ◌∙◌, ◌<◌, ◌≤◌, ◌-◌, ◌^◌, ℕ, Result, Bool, true, false, Option, Some, None, Ok, Err, ap, sym, refl, subst, arith, cond, unwrap_or, codes, List, option_map}
 use Rattle.std.specs.Box.{box_value}
 use Rattle.std.specs.declared.boxed.Box.{Box}
 use Rattle.clap.specs.declared.parser.matches.SubCommand.{SubCommand}
 use Rattle.std.specs.Option.{option_map_or}
+use Rattle.std.specs.Result.{result_ok}
 use Rattle.std.specs.Str.{bytes_eq}
 use Rattle.std.specs.Str.Parse.{ParsesBool, ParsesUnsigned, digits_value, true_text, without_leading_plus}
 use Rattle.std.specs.declared.str.ParseBoolError.{ParseBoolError}
@@ -19,34 +20,42 @@ use Rattle.clap.specs.declared.parser.matches.ArgMatches.{ArgMatches}
 use Rattle.clap.specs.declared.parser.matches.ArgMatches.TheViews.{out-ArgMatches, out-SubCommand}
 use Rattle.clap.proofs.ValueTestLemmas.{Accepts-accepts, accepts-Accepts}
 use Rattle.clap.proofs.WalkLemmas.{first_value-rows, one_text-rows}
-use Rattle.ar_command_line.specs.CommandLine.{command_named, has_flag, named, number_of_workers}
+use Rattle.ar_command_line.specs.CommandLine.{command_named, event_named, has_flag, named, number_in, number_of_workers}
 
--- ---- the number of workers
+-- ---- numbers
 
-pub number_read : (text : Text) (n : ℕ) → ParsesUnsigned {E = ParseIntError} 64 10 text (Ok n) → 1 ≤ n → n ≤ most_workers → number_of_workers text ≡ Some n
-number_read text n parsed one most =
-    let value = digits_value 10 (without_leading_plus text) in
-    let same : n ≡ value = parsed.1 in
-    let is_in : is_unsigned_in 1 most_workers text ≡ true =
-    Accepts-accepts false (vp.Unsigned 1 most_workers) text (parsed.0.0, parsed.0.1, subst (λ (k : ℕ). 1 ≤ k) same one, subst (λ (k : ℕ). k ≤ 16) same most) in
-    ap (λ b. cond b (Some value) None) is_in ∙ ap Some (sym same)
+module _ (least most : ℕ) (text : Text) where
+  pub number_read : (n : ℕ) → ParsesUnsigned {E = ParseIntError} 64 10 text (Ok n) → least ≤ n → n ≤ most → number_in least most text ≡ Some n
+  number_read n parsed above below =
+      let value = digits_value 10 (without_leading_plus text) in
+      let same : n ≡ value = parsed.1 in
+      let is_in : is_unsigned_in least most text ≡ true =
+      Accepts-accepts false (vp.Unsigned least most) text (parsed.0.0, parsed.0.1, subst (λ (k : ℕ). least ≤ k) same above, subst (λ (k : ℕ). k ≤ most) same below) in
+      ap (λ b. cond b (Some value) None) is_in ∙ ap Some (sym same)
 
--- a text whose number isn't in the range
-named_none : (text : Text) → (Accepts false (vp.Unsigned 1 most_workers) text → ⊥) → number_of_workers text ≡ None
-named_none text outside = go (is_unsigned_in 1 most_workers text) refl
-  where
-    go : (b : Bool) → is_unsigned_in 1 most_workers text ≡ b → number_of_workers text ≡ None
-    go true is = absurd (outside (accepts-Accepts false (vp.Unsigned 1 most_workers) text is))
-    go false is = ap (λ b. cond b (Some (digits_value 10 (without_leading_plus text))) None) is
+  -- a text whose number isn't in the range
+  named_none : (Accepts false (vp.Unsigned least most) text → ⊥) → number_in least most text ≡ None
+  named_none outside = go (is_unsigned_in least most text) refl
+    where
+      go : (b : Bool) → is_unsigned_in least most text ≡ b → number_in least most text ≡ None
+      go true is = absurd (outside (accepts-Accepts false (vp.Unsigned least most) text is))
+      go false is = ap (λ b. cond b (Some (digits_value 10 (without_leading_plus text))) None) is
+
+  pub no_number : (error : ParseIntError) → ParsesUnsigned 64 10 text (Err error) → number_in least most text ≡ None
+  no_number error parsed = named_none (λ inside. parsed (inside.0, inside.1))
 
 pub too_few : (text : Text) (n : ℕ) → ParsesUnsigned {E = ParseIntError} 64 10 text (Ok n) → n < 1 → number_of_workers text ≡ None
-too_few text n parsed few = named_none text (λ inside. let least = inside.2 in let same = parsed.1 in omega (arith, least, same, few))
+too_few text n parsed few = named_none 1 most_workers text (λ inside. let least = inside.2 in let same = parsed.1 in omega (arith, least, same, few))
 
 pub too_many : (text : Text) (n : ℕ) → ParsesUnsigned {E = ParseIntError} 64 10 text (Ok n) → most_workers < n → number_of_workers text ≡ None
-too_many text n parsed many = named_none text (λ inside. let most = inside.3 in let same = parsed.1 in omega (arith, most, same, many))
+too_many text n parsed many = named_none 1 most_workers text (λ inside. let most = inside.3 in let same = parsed.1 in omega (arith, most, same, many))
 
-pub no_number : (text : Text) (error : ParseIntError) → ParsesUnsigned 64 10 text (Err error) → number_of_workers text ≡ None
-no_number text error parsed = named_none text (λ inside. parsed (inside.0, inside.1))
+pub event_read : (text : Text) (r : Result ℕ ParseIntError) → ParsesUnsigned 64 10 text r → result_ok r ≡ event_named text
+event_read text (Ok n) parsed =
+    let below = parsed.0.1 in
+    let same = parsed.1 in
+    sym (number_read 0 (2 ^ 64 - 1) text n parsed (omega arith) (omega (arith, below, same)))
+event_read text (Err error) parsed = sym (no_number 0 (2 ^ 64 - 1) text error parsed)
 
 -- ---- the arguments
 

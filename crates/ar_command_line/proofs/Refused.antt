@@ -1,8 +1,12 @@
 -- Words of a command line, one after another.
-use Rattle.std.proofs.Common.{◌≡◌, ◌<◌, ◌≤◌, ℕ, suc, ◌+◌, arith, List, [], ◌∷◌, length, map, drop, Option, Some, None, refl, sym, ◌∙◌, ap, add-one, drop-cons}
+use Rattle.std.proofs.Common.{codes, cond, false, nat_eq, subst, ◌≡◌, ◌<◌, ◌≤◌, ℕ, suc, ◌+◌, arith, List, [], ◌∷◌, length, map, drop, Option, Some, None, refl, sym, ◌∙◌, ap, add-one, drop-cons}
 use Rattle.std.specs.Prelude.{slice_index_or}
 use Rattle.std.proofs.Math.ListN.{drop_of_length-le}
-use Rattle.ar_command_line.specs.Usage.{after, at_end, first_refused, value_given, value_of}
+use Rattle.std.proofs.lemmas.Str.Pattern.{starts_text}
+use Rattle.std.specs.List.{starts_with}
+use Rattle.std.specs.Option.{option_and_then}
+use Rattle.std.specs.Str.Pattern.{LacksTextAt}
+use Rattle.ar_command_line.specs.Usage.{after, after_prefix, at_end, first_refused, name_of, value_given, value_in, value_of}
 use Rattle.ar_command_line.specs.declared.usage.Next.{Next}
 use Rattle.ar_command_line.specs.declared.usage.Valued.{Valued}
 
@@ -30,6 +34,11 @@ unfolding first_refused
 none_left text words index next total past so_far = ap (λ rest. first_refused next (map text rest)) (sym (drop_of_length-le words past)) ∙ so_far
 
 -- ---- the value of an option
+
+pub no_name : (option : Valued) (name word : List ℕ) → name ≡ name_of option → LacksTextAt name word 0 → None ≡ value_in option word
+no_name option name word is lacks =
+    let differs : false ≡ starts_with nat_eq word (name_of option) = starts_text false (name_of option) word (subst (λ (n : List ℕ). LacksTextAt n word 0) is lacks) in
+    ap (λ b. option_and_then (after_prefix (codes "=")) (cond b (Some (drop (length (name_of option)) word)) None)) differs
 
 module _ {B : Type 0} (text : B → List ℕ) (option : Valued) where
   module _ (words following : List B) (word : B) (first : words ≡ word ∷ following) (name : List ℕ) (is : name ≡ text word) (total : Option (List ℕ)) (so_far : value_given option (map text words) ≡ total) where

@@ -3,5 +3,7 @@ pub mod Device
 pub mod Kept
 pub mod Input
 pub mod Output
+pub mod Selection
+pub mod Task
 pub mod CommandLine
 pub mod Usage

@@ -2,9 +2,11 @@
 
 ghost use Rattle.std.specs.Prelude.{◌≡◌, ◌≢◌, ◌≤◌, [], codes, false, is_some, Err, IfOk, IsErr, Ok};
 ghost use Rattle.clap.specs.Words.{app_of, fault_of, found_of, kind_of, new_app, rows_of, rule_of, subcommand_rows_of, with_rule};
-ghost use Rattle.ar_command_line.specs.CommandLine.{AsksForText, application, command_named, flag_named, has_flag, is_request, format_named, format_of, named, number_of_workers, output_option, program, run_app, run_command, texts_of, with_output, without_run, workers_of, workers_option, AsksForCommand};
+ghost use Rattle.ar_command_line.specs.CommandLine.{AsksForText, application, command_named, explain_app, explain_command, flag_named, has_flag, is_request, format_named, format_of, named, number_of_workers, option_named, program, run_app, run_command, texts_of, with_output, without_run, workers_of, AsksForCommand};
+ghost use Rattle.ar_command_line.specs.Task.{asked};
 
-use crate::help::{CHECK_HELP, EVAL_HELP, HELP, LIST_HELP, RUN_HELP};
+use crate::help::{CHECK_HELP, EVAL_HELP, EXPLAIN_HELP, HELP, LIST_HELP, RUN_HELP};
+use crate::selection::{Selection, event_of, selection_of};
 use ar_value::limits::MOST_WORKERS;
 use clap::error::ErrorKind;
 use clap::{Arg, ArgAction, ArgMatches};
@@ -25,7 +27,7 @@ pub enum Format {
 
 /// What the program can be asked to do.
 #[derive(Clone, Copy, Debug)]
-pub enum Command {
+pub enum Command<'w> {
     /// Judge one condition on one value.
     Eval(Format),
     /// Report the bounds of each condition of a bundle.
@@ -39,20 +41,26 @@ pub enum Command {
     /// Judge a bundle's measurements with n workers, from 1 to 16, apply them in their order, and
     /// report its runs.
     Ordered(usize, Format),
+    /// Run a bundle in one thread, and say what led to the verdict and the effect of each event that is selected.
+    Explain(Selection<'w>, Format),
 }
 
 /// Why a command line asks for nothing.
 #[derive(Clone, Copy, Debug, Error)]
 pub enum UsageError {
-    #[error("command line: Words: expected `eval`, `check`, `list` or `run`, with the document on \
+    #[error("command line: Words: expected `eval`, `check`, `list`, `run` or `explain`, with the document on \
              standard input, or --help")]
     Words,
     #[error("command line, --workers: Workers: expected a whole number from 1 to 16")]
     Workers,
+    #[error("command line, --event: Event: expected the number of a measurement, from 0")]
+    Event,
     #[error("command line, --output: Output: expected text or json")]
     Output,
     #[error("command line, --ordered: Conflict: expected --ordered or --plain, not both")]
     Conflict,
+    #[error("command line: Several: expected one of --event, --run and --metric, not several")]
+    Several,
     #[error("out of memory")]
     OutOfMemory,
 }
@@ -88,13 +96,14 @@ impl From<clap::Error> for UsageError {
 /// # Errors
 ///
 /// `Words` where they are no command line of the program's, or ask for a text by `--help` or
-/// `--version`; then `Workers` where `--workers` names no number from 1 to 16; then `Output` where `--output` names no
-/// format; then `Conflict` where both `--ordered` and `--plain` are given; `OutOfMemory` for out of memory.
-pub fn command_of(alloc: Global, words: Vec<String>) -> Result<Command, UsageError>
-    ensures { AsksForCommand (texts_of words.items) result }
+/// `--version`; then `Workers` where `--workers` names no number from 1 to 16, and `Event` where `--event` names no
+/// number; then `Output` where `--output` names no format; then `Conflict` where both `--ordered` and `--plain` are
+/// given, and `Several` where more than one of `--event`, `--run` and `--metric` are; `OutOfMemory` for out of memory.
+pub fn command_of<'w>(alloc: Global, words: &'w [String]) -> Result<Command<'w>, UsageError>
+    ensures { AsksForCommand (texts_of words.entry.now) result }
 {
     let command_line = application(alloc)?;
-    let matches = command_line.try_get_matches_from(words.as_slice())?;
+    let matches = command_line.try_get_matches_from(words)?;
     command_named(&matches)
 }
 
@@ -128,8 +137,8 @@ fn text_of(alloc: Global, error: &clap::Error) -> Result<Option<String>, AllocEr
 }
 
 /// The command that the parsed words name.
-fn command_named(matches: &ArgMatches<'_>) -> Result<Command, UsageError>
-    ensures { result ≡ command_named (subcommand_rows_of matches.now) }
+fn command_named<'w>(matches: &ArgMatches<'w>) -> Result<Command<'w>, UsageError>
+    ensures { asked result ≡ command_named (subcommand_rows_of matches.now) }
 {
     match matches.subcommand() {
         Some((name, matches)) => named(name, matches),
@@ -138,22 +147,23 @@ fn command_named(matches: &ArgMatches<'_>) -> Result<Command, UsageError>
 }
 
 /// The command that a subcommand with these arguments names.
-fn named(name: &str, matches: &ArgMatches<'_>) -> Result<Command, UsageError>
-    ensures { result ≡ named name.now (rows_of (found_of matches.now)) }
+fn named<'w>(name: &str, matches: &ArgMatches<'w>) -> Result<Command<'w>, UsageError>
+    ensures { asked result ≡ named name.now (rows_of (found_of matches.now)) }
 {
     match name {
         "eval" => Ok(Command::Eval(format_of(matches).ok_or(UsageError::Output)?)),
         "check" => Ok(Command::Check(format_of(matches).ok_or(UsageError::Output)?)),
         "list" => Ok(Command::List),
         "run" => run_command(matches),
+        "explain" => explain_command(matches),
         _ => Err(UsageError::Words),
     }
 }
 
 /// The command that `run` with these arguments asks for. A run in one thread has no use for a
 /// number of workers, which is checked all the same.
-fn run_command(matches: &ArgMatches<'_>) -> Result<Command, UsageError>
-    ensures { result ≡ run_command (rows_of (found_of matches.now)) }
+fn run_command<'w>(matches: &ArgMatches<'w>) -> Result<Command<'w>, UsageError>
+    ensures { asked result ≡ run_command (rows_of (found_of matches.now)) }
 {
     let workers = workers_of(matches).ok_or(UsageError::Workers)?;
     let format = format_of(matches).ok_or(UsageError::Output)?;
@@ -163,6 +173,19 @@ fn run_command(matches: &ArgMatches<'_>) -> Result<Command, UsageError>
         (false, true) => Ok(Command::Ordered(workers, format)),
         (true, true) => Err(UsageError::Conflict),
     }
+}
+
+/// The command that `explain` with these arguments asks for.
+#[tactic(auto, using(crate::proofs::Parsing::first_text))]
+fn explain_command<'w>(matches: &ArgMatches<'w>) -> Result<Command<'w>, UsageError>
+    ensures { asked result ≡ explain_command (rows_of (found_of matches.now)) }
+{
+    let event = event_of(matches).ok_or(UsageError::Event)?;
+    let format = format_of(matches).ok_or(UsageError::Output)?;
+    let run = matches.get_str("run");
+    let metric = matches.get_str("metric");
+    let selection = selection_of(event, run, metric).ok_or(UsageError::Several)?;
+    Ok(Command::Explain(selection, format))
 }
 
 /// The number of workers that `run` is given, and `DEFAULT_WORKERS` where it is given none.
@@ -227,10 +250,11 @@ fn application<'a>(alloc: Global) -> Result<clap::Command<'a>, AllocError>
     ensures { IfOk result (λ command. app_of command ≡ application) }
 {
     let run = run(alloc)?;
-    without_run(alloc)?.subcommand(run)
+    let explain = explain(alloc)?;
+    without_run(alloc)?.subcommand(run)?.subcommand(explain)
 }
 
-/// The command line but for its subcommand `run`.
+/// The command line but for the subcommands that make a run.
 fn without_run<'a>(alloc: Global) -> Result<clap::Command<'a>, AllocError>
     ensures { IfOk result (λ command. app_of command ≡ without_run) }
 {
@@ -271,17 +295,15 @@ fn subcommand<'a>(alloc: Global, name: &'a str, about: &'a str, help: &'a str) -
         .after_help(help)
 }
 
-/// `--output FORMAT`.
-fn output<'a>(alloc: Global) -> Arg<'a>
-    ensures rule { rule_of result ≡ output_option }
+/// An option that takes a value: `--`, its name and the value.
+fn option<'a>(alloc: Global, name: &'a str, value: &'a str, help: &'a str) -> Arg<'a>
+    ensures rule { rule_of result ≡ option_named name.entry.now }
     ensures local { result.global ≡ false }
 {
-    Arg::new(alloc, "output")
-        .long("output")
-        .value_name("FORMAT")
-        .help(
-            "How the answer is written: `text`, which is the default, or `json`, one object in one line",
-        )
+    Arg::new(alloc, name)
+        .long(name)
+        .value_name(value)
+        .help(help)
 }
 
 /// A subcommand whose answer has a format.
@@ -293,43 +315,65 @@ fn with_output<'a>(
 ) -> Result<clap::Command<'a>, AllocError>
     ensures { IfOk result (λ command. app_of command ≡ with_output name.entry.now) }
 {
-    subcommand(alloc, name, about, help).arg(output(alloc))
-}
-
-/// The subcommand `run`, as far as it has `--output` and `--workers`.
-fn run_with_workers<'a>(alloc: Global) -> Result<clap::Command<'a>, AllocError>
-    ensures { IfOk result (λ command. app_of command ≡ with_rule (with_output (codes "run")) workers_option) }
-{
-    let workers = Arg::new(alloc, "workers")
-        .long("workers")
-        .value_name("N")
-        .help(
-            "How many workers judge, 1 to 16, 4 unless it is given; workers are threads that judge side by side",
-        );
-    with_output(
+    subcommand(alloc, name, about, help).arg(option(
         alloc,
-        "run",
-        "Judge a document's measurements, and report its runs",
-        RUN_HELP,
-    )?
-    .arg(workers)
+        "output",
+        "FORMAT",
+        "How the answer is written: `text`, which is the default, or `json`, one object in one line",
+    ))
 }
 
 /// The subcommand `run`.
 fn run<'a>(alloc: Global) -> Result<clap::Command<'a>, AllocError>
     ensures { IfOk result (λ command. app_of command ≡ run_app) }
 {
-    run_with_workers(alloc)?
-        .arg(flag(
-            alloc,
-            "plain",
-            "Judge without workers, one measurement after another; --workers is then checked, but not used",
-        ))?
-        .arg(flag(
-            alloc,
-            "ordered",
-            "Judge with workers, and report what --plain does: the events of a run are in the order of their numbers",
-        ))
+    with_output(
+        alloc,
+        "run",
+        "Judge a document's measurements, and report its runs",
+        RUN_HELP,
+    )?
+    .arg(option(
+        alloc,
+        "workers",
+        "N",
+        "How many workers judge, 1 to 16, 4 unless it is given; workers are threads that judge side by side",
+    ))?
+    .arg(flag(
+        alloc,
+        "plain",
+        "Judge without workers, one measurement after another; --workers is then checked, but not used",
+    ))?
+    .arg(flag(
+        alloc,
+        "ordered",
+        "Judge with workers, and report what --plain does: the events of a run are in the order of their numbers",
+    ))
+}
+
+/// The subcommand `explain`.
+fn explain<'a>(alloc: Global) -> Result<clap::Command<'a>, AllocError>
+    ensures { IfOk result (λ command. app_of command ≡ explain_app) }
+{
+    with_output(
+        alloc,
+        "explain",
+        "Make the plain run of a document, and say what led to each event's verdict and effect",
+        EXPLAIN_HELP,
+    )?
+    .arg(option(
+        alloc,
+        "event",
+        "N",
+        "Explain the event with this number alone, its place in `measurements`, from 0",
+    ))?
+    .arg(option(alloc, "run", "NAME", "Explain the events of this run alone"))?
+    .arg(option(
+        alloc,
+        "metric",
+        "NAME",
+        "Explain the events of this metric alone, in each run",
+    ))
 }
 
 /// An option that takes no value, `--` and its name.

@@ -4,15 +4,17 @@ pub(crate) const HELP: &str =
     "Each command reads one JSON document from standard input and writes its answer to standard output.
 A fault is one line on standard error: where it is, its name, and what was found or expected.
 
-  eval   tries one condition on one value, before a template has it
-  check  checks a whole document, and prints what each condition may cost at most
-  list   checks a whole document, and lists the code of each condition
-  run    judges a document's measurements, and reports the phase of each run
+  eval     tries one condition on one value, before a template has it
+  check    checks a whole document, and prints what each condition may cost at most
+  list     checks a whole document, and lists the code of each condition
+  run      judges a document's measurements, and reports the phase of each run
+  explain  makes the plain run of a document, and says what led to each event's verdict and effect
 
-A document for check, list and run has a template, the shapes of its metrics' measured values, runs
-and measurements; `argo_judge run --help` shows one.
+A document for check, list, run and explain has a template, the shapes of its metrics' measured
+values, runs and measurements; `argo_judge run --help` shows one.
 
-With --output json, eval, check and run write one JSON object in one line, with the same facts.
+With --output json, eval, check, run and explain write one JSON object in one line, with the same
+facts.
 
 Exit status:
   0  the command was carried out
@@ -29,7 +31,8 @@ Examples:
   kubectl get analysistemplate success-rate -o json |
     jq '{manifest: ., shapes: {\"success-rate\": {list: \"decimal\", max: 10}}, runs: [{name: \"canary-1\"}],
          measurements: [{run: \"canary-1\", metric: \"success-rate\", value: [\"0.97\"]}]}' |
-    argo_judge run --plain";
+    argo_judge run --plain
+  argo_judge explain --run canary-1 < document.json";
 
 pub(crate) const EVAL_HELP: &str =
     "Standard input is {\"condition\":TEXT,\"shape\":SHAPE,\"value\":VALUE}.
@@ -49,7 +52,7 @@ Examples:
   echo '{\"condition\":\"all(result, # < 500)\",\"shape\":{\"list\":\"whole\",\"max\":10},\
          \"value\":[437,512]}' | argo_judge eval";
 
-/// The help of `check`, `list` and `run`: the document that they read, and what they make of it.
+/// The help of `check`, `list`, `run` and `explain`: the document that they read, and what they make of it.
 macro_rules! document_help {
     ($answer:literal) => {
         concat!(
@@ -128,7 +131,7 @@ what happened to it, by its number in `measurements`, from 0:
   event 1 success-rate Failed closed Failed
 
 A phase is Pending, Running, Successful, Failed, Error or Inconclusive. The exit status is 1 where a
-run is Failed, Error or Inconclusive, as it is here.
+run is Failed, Error or Inconclusive, as it is here. Why? Ask `argo_judge explain`.
 
 There are three ways to run, whose reports hold each measurement once:
   --plain    one thread, one measurement after another. The events of a run are in the order of
@@ -138,4 +141,22 @@ There are three ways to run, whose reports hold each measurement once:
   neither    workers, and each posts what it judged as soon as it has, as a controller would see it.
              The events of a run are in the order in which they were posted, which may differ from
              the order of their numbers, and from one start to the next."
+);
+
+pub(crate) const EXPLAIN_HELP: &str = document_help!(
+    "Standard output has each event of the plain run (argo_judge run --plain), and what led to its
+verdict and its effect:
+  - the value that was measured
+  - each condition, its arguments put in, and the values of its parts in the order of evaluation
+  - the counts of the metric next to its limits
+  - why the event closed its run, or what had closed the run before an event that came late
+  - what each metric still waits for
+
+All events are explained, unless one of --event N, --run NAME and --metric NAME selects some of them.
+The exit status is 0 even where a run is Failed, Error or Inconclusive. What `run` refuses is refused
+with the same status.
+
+Examples:
+  argo_judge explain --run canary-2 < document.json
+  argo_judge explain --event 1 --output json < document.json"
 );

@@ -2,11 +2,14 @@
 //!
 //! [`command_of`] returns what the words of a command line ask for: a [`Command`], or why they ask
 //! for none. `specs/CommandLine` has the command line as `clap`'s specifications see it,
-//! `application`, and the command that a subcommand with its matches names, `command_named`. Where
-//! `clap` finds no fault in the words, that command is returned, or `Workers` where its number of
-//! workers is none from 1 to 16, `Output` where its [`Format`] is none, or else `Conflict` where `run` is to be
-//! both ordered and plain; where it finds one, `Words`. Only out of memory can keep it from that. [`shown`] is
-//! the text of `--help` or `--version`, where the words ask for one.
+//! `application`, and what a subcommand with its matches asks for, `command_named`. Where `clap` finds no
+//! fault in the words, the command that asks for that is returned, or why there is none: `Workers` where its
+//! number of workers is none from 1 to 16, `Event` where the number of an event is none; else `Output` where
+//! its [`Format`] is none; else `Conflict` where `run` is to be both ordered and plain, and `Several` where
+//! the [`Selection`] of `explain` has several options. Where `clap` finds a fault, `Words` is returned. Only
+//! out of memory can keep it from that. [`shown`] is the text of `--help` or `--version`, where the words
+//! ask for one. The names in a selection are words of the command line, which it borrows; contracts compare
+//! commands by their tasks (`specs/Task`), in which a name is its bytes.
 //!
 //! A [`Source`] and a [`Sink`] report what was read and written and whether that failed. A [`Device`] makes
 //! either of a reader or a writer of the standard library, and keeps the first fault; [`Kept`] is a source
@@ -14,11 +17,12 @@
 //! a document may have; [`write_output`] writes all of an output, or a front of it where the writer fails.
 //! Only out of memory, and a read or a write that failed, can keep them from that.
 //!
-//! - `command_line`: the calls, and the command line as `clap` builds it
+//! - `command_line`: the calls, and the command line as `clap` builds it; `selection`: which events are
+//!   explained
 //! - `help`: the texts of `--help`
 //! - [`usage`]: what is said of words that are refused (`specs/Usage`, which reads the words without
 //!   `clap`): the first that isn't taken, and why ([`words_text`]), the number of workers
-//!   ([`workers_text`]) or the format ([`output_text`])
+//!   ([`workers_text`]) or of an event ([`event_text`]), or the format ([`output_text`])
 //! - [`stream`]: what an input is read from and what an output is written to; [`input`]: reading a whole
 //!   document; [`output`]: writing a whole output
 //! - [`device`]: readers and writers of the standard library, over `retrying`; [`kept`]: a reader that keeps
@@ -32,6 +36,7 @@ pub mod input;
 pub mod kept;
 pub mod output;
 mod retrying;
+mod selection;
 pub mod stream;
 pub mod usage;
 
@@ -40,5 +45,6 @@ pub use device::Device;
 pub use input::{InputError, read_input};
 pub use kept::Kept;
 pub use output::write_output;
+pub use selection::Selection;
 pub use stream::{DeviceFault, Sink, Source};
-pub use usage::{output_text, words_text, workers_text};
+pub use usage::{event_text, output_text, words_text, workers_text};

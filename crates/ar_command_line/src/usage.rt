@@ -1,7 +1,7 @@
 //! What is said of a command line whose words aren't taken.
 
 ghost use Rattle.std.specs.Prelude.{◌≡◌, ◌++◌, IfOk, OnOk, drop, map, option_map, string_bytes};
-ghost use Rattle.ar_command_line.specs.Usage.{after, after_option, after_run_option, at_end, first_refused, has_output, has_value, is_new, is_option, name_of, option_reason, option_text, output_text, reason, said, value_given, value_in, value_of, value_said, words_text, workers_text};
+ghost use Rattle.ar_command_line.specs.Usage.{after, after_flag, after_option, after_own, after_valued, at_end, event_text, expected, first_refused, has_output, is_given, is_new, is_option, name_of, noun_of, option_reason, option_text, output_text, reason, said, value_given, value_in, value_of, value_reason, value_said, with, word_reason, words_text, workers_text};
 
 use ar_quote::push_quoted;
 use std::alloc::{AllocError, Global};
@@ -13,20 +13,27 @@ pub struct Given {
     pub plain: bool,
     pub ordered: bool,
     pub output: bool,
+    pub event: bool,
+    pub run: bool,
+    pub metric: bool,
 }
 
 /// An option that has a value.
 #[derive(Clone, Copy, Debug)]
-enum Valued {
+pub enum Valued {
     Workers,
     Output,
+    Event,
+    RunName,
+    MetricName,
 }
 
 /// A command that takes options.
 #[derive(Clone, Copy, Debug)]
 pub enum Taker {
-    Run,
     EvalOrCheck,
+    Run,
+    Explain,
 }
 
 /// What may come next on a command line.
@@ -36,10 +43,8 @@ pub enum Next {
     Nothing,
     /// Options, but those that were given.
     Options(Taker, Given),
-    /// The number after `--workers`, and then options of `run`.
-    Number(Given),
-    /// The format after `--output`, and then options.
-    FormatName(Taker, Given),
+    /// The value of an option, and then options.
+    Value(Valued, Taker, Given),
 }
 
 /// No options.
@@ -48,7 +53,97 @@ const NONE: Given = Given {
     plain: false,
     ordered: false,
     output: false,
+    event: false,
+    run: false,
+    metric: false,
 };
+
+fn name_of(option: Valued) -> &'static str
+    ensures { result.now ≡ name_of option }
+{
+    match option {
+        Valued::Workers => "--workers",
+        Valued::Output => "--output",
+        Valued::Event => "--event",
+        Valued::RunName => "--run",
+        Valued::MetricName => "--metric",
+    }
+}
+
+/// What the value of an option is.
+fn noun_of(option: Valued) -> &'static str
+    ensures { result.now ≡ noun_of option }
+{
+    match option {
+        Valued::Workers | Valued::Event => "number",
+        Valued::Output => "format",
+        Valued::RunName | Valued::MetricName => "name",
+    }
+}
+
+/// What is expected as the value of an option.
+fn expected(option: Valued) -> &'static str
+    ensures { result.now ≡ expected option }
+{
+    match option {
+        Valued::Workers => "a whole number from 1 to 16",
+        Valued::Output => "text or json",
+        Valued::Event => "the number of a measurement, from 0",
+        Valued::RunName => "the name of a run",
+        Valued::MetricName => "the name of a metric",
+    }
+}
+
+/// Whether an option was given.
+fn is_given(option: Valued, given: Given) -> bool
+    ensures { result ≡ is_given option given }
+{
+    match option {
+        Valued::Workers => given.workers,
+        Valued::Output => given.output,
+        Valued::Event => given.event,
+        Valued::RunName => given.run,
+        Valued::MetricName => given.metric,
+    }
+}
+
+/// The options given, with one more.
+fn with(option: Valued, given: Given) -> Given
+    ensures { result ≡ with option given }
+{
+    let mut given = given;
+    match option {
+        Valued::Workers => given.workers = true,
+        Valued::Output => given.output = true,
+        Valued::Event => given.event = true,
+        Valued::RunName => given.run = true,
+        Valued::MetricName => given.metric = true,
+    }
+    given
+}
+
+/// What a word has after an option's name and `=`, if it begins so.
+#[tactic(auto, using(crate::proofs::Refused::no_name))]
+fn value_in<'a>(option: Valued, word: &'a str) -> Option<&'a str>
+    ensures { option_map (λ value. value.now) result ≡ value_in option word.now }
+{
+    word.strip_prefix(name_of(option))?.strip_prefix("=")
+}
+
+/// What may come after an option and perhaps its value, if it wasn't given before.
+fn after_valued(option: Valued, taker: Taker, given: Given, word: &str) -> Option<Next>
+    ensures { result ≡ after_valued option taker given word.now }
+{
+    if is_given(option, given) {
+        None
+    } else if word == name_of(option) {
+        Some(Next::Value(option, taker, with(option, given)))
+    } else if value_in(option, word).is_some() {
+        Some(Next::Options(taker, with(option, given)))
+    } else {
+        None
+    }
+}
 
 /// Whether a word is a name that wasn't given before.
 fn is_new(name: &str, word: &str, given: bool) -> bool
@@ -57,53 +152,33 @@ fn is_new(name: &str, word: &str, given: bool) -> bool
     word == name && !given
 }
 
-/// What a word has after an option's name and `=`, if it begins so.
-fn value_in<'a>(option: Valued, word: &'a str) -> Option<&'a str>
-    ensures { option_map (λ value. value.now) result ≡ value_in option word.now }
+/// What may come after an option of `run` that has no value, if it is taken.
+fn after_flag(given: Given, word: &str) -> Option<Next>
+    ensures { result ≡ after_flag given word.now }
 {
-    match option {
-        Valued::Workers => word.strip_prefix("--workers="),
-        Valued::Output => word.strip_prefix("--output="),
-    }
-}
-
-/// Whether a word is an option with its value, if that wasn't given before.
-fn has_value(option: Valued, word: &str, given: bool) -> bool
-    ensures { result ≡ has_value option word.now given }
-{
-    value_in(option, word).is_some() && !given
-}
-
-/// What may come after an option of `run` alone, if it is taken.
-fn after_run_option(given: Given, word: &str) -> Option<Next>
-    ensures { result ≡ after_run_option given word.now }
-{
-    let with_workers = Given {
-        workers: true,
-        ..given
-    };
-    if is_new("--workers", word, given.workers) {
-        Some(Next::Number(with_workers))
-    } else if has_value(Valued::Workers, word, given.workers) {
-        Some(Next::Options(Taker::Run, with_workers))
-    } else if is_new("--plain", word, given.plain) {
-        Some(Next::Options(
-            Taker::Run,
-            Given {
-                plain: true,
-                ..given
-            },
-        ))
+    let mut given = given;
+    if is_new("--plain", word, given.plain) {
+        given.plain = true;
     } else if is_new("--ordered", word, given.ordered) {
-        Some(Next::Options(
-            Taker::Run,
-            Given {
-                ordered: true,
-                ..given
-            },
-        ))
+        given.ordered = true;
     } else {
-        None
+        return None;
+    }
+    Some(Next::Options(Taker::Run, given))
+}
+
+/// What may come after an option that one command alone takes, if it is taken.
+fn after_own(taker: Taker, given: Given, word: &str) -> Option<Next>
+    ensures { result ≡ after_own taker given word.now }
+{
+    match taker {
+        Taker::EvalOrCheck => None,
+        Taker::Run => {
+            after_valued(Valued::Workers, taker, given, word).or(after_flag(given, word))
+        }
+        Taker::Explain => after_valued(Valued::Event, taker, given, word)
+            .or(after_valued(Valued::RunName, taker, given, word))
+            .or(after_valued(Valued::MetricName, taker, given, word)),
     }
 }
 
@@ -111,20 +186,7 @@ fn after_run_option(given: Given, word: &str) -> Option<Next>
 fn after_option(taker: Taker, given: Given, word: &str) -> Option<Next>
     ensures { result ≡ after_option taker given word.now }
 {
-    let with_output = Given {
-        output: true,
-        ..given
-    };
-    if is_new("--output", word, given.output) {
-        return Some(Next::FormatName(taker, with_output));
-    }
-    if has_value(Valued::Output, word, given.output) {
-        return Some(Next::Options(taker, with_output));
-    }
-    match taker {
-        Taker::Run => after_run_option(given, word),
-        Taker::EvalOrCheck => None,
-    }
+    after_valued(Valued::Output, taker, given, word).or(after_own(taker, given, word))
 }
 
 /// Whether a command takes `--output` and no other option.
@@ -147,13 +209,13 @@ fn after(next: Next, word: &str) -> Option<Next>
 {
     match next {
         Next::Command if word == "run" => Some(Next::Options(Taker::Run, NONE)),
+        Next::Command if word == "explain" => Some(Next::Options(Taker::Explain, NONE)),
         Next::Command if has_output(word) => Some(Next::Options(Taker::EvalOrCheck, NONE)),
         Next::Command if word == "list" => Some(Next::Nothing),
         Next::Command | Next::Nothing => None,
         Next::Options(taker, given) => after_option(taker, given, word),
-        Next::Number(_) | Next::FormatName(..) if is_option(word) => None,
-        Next::Number(given) => Some(Next::Options(Taker::Run, given)),
-        Next::FormatName(taker, given) => Some(Next::Options(taker, given)),
+        Next::Value(..) if is_option(word) => None,
+        Next::Value(_, taker, given) => Some(Next::Options(taker, given)),
     }
 }
 
@@ -162,8 +224,7 @@ fn at_end(next: Next) -> Option<(Next, &'static str)>
     ensures { option_map (λ found. (found.0, found.1.now)) result ≡ at_end next }
 {
     match next {
-        Next::Number(_) => Some((next, "--workers")),
-        Next::FormatName(..) => Some((next, "--output")),
+        Next::Value(option, _, _) => Some((next, name_of(option))),
         Next::Command | Next::Nothing | Next::Options(..) => None,
     }
 }
@@ -185,41 +246,71 @@ fn first_refused(words: &[String]) -> Option<(Next, &str)>
     at_end(next)
 }
 
-fn reason(next: Next, word: &str) -> &'static str
-    ensures { result.now ≡ reason next word.now }
-{
-    match next {
-        Next::Command => " is no command; expected `eval`, `check`, `list` or `run`, or --help",
-        Next::Number(_) if word == "--workers" => {
-            " has no number after it; expected a whole number from 1 to 16"
-        }
-        Next::Number(_) => " is no number; expected --workers and a whole number from 1 to 16",
-        Next::FormatName(..) if word == "--output" => {
-            " has no format after it; expected text or json"
-        }
-        Next::FormatName(..) => " is no format; expected --output and text or json",
-        Next::Nothing if is_option(word) => " isn't taken; `list` has no options",
-        Next::Options(taker, _) if is_option(word) => option_reason(taker),
-        Next::Nothing | Next::Options(Taker::EvalOrCheck, _) => {
-            " isn't taken; the document is read from standard input, as by: argo_judge COMMAND < document.json"
-        }
-        Next::Options(Taker::Run, _) => {
-            " isn't taken; the document is read from standard input, as by: argo_judge run --plain < document.json"
-        }
-    }
-}
-
 /// Why an option isn't taken.
 fn option_reason(taker: Taker) -> &'static str
     ensures { result.now ≡ option_reason taker }
 {
     match taker {
+        Taker::EvalOrCheck => " isn't taken; `eval` and `check` take --output FORMAT, once",
         Taker::Run => {
             " isn't taken; `run` takes --workers N, --plain, --ordered and --output FORMAT, each once"
         }
-        Taker::EvalOrCheck => {
-            " isn't taken; `eval` and `check` take --output FORMAT, once, and other options are for `run`"
+        Taker::Explain => {
+            " isn't taken; `explain` takes one of --event N, --run NAME and --metric NAME, and \
+             --output FORMAT, each once"
         }
+    }
+}
+
+/// Why a word that is no option isn't taken.
+fn word_reason(taker: Taker) -> &'static str
+    ensures { result.now ≡ word_reason taker }
+{
+    match taker {
+        Taker::EvalOrCheck => {
+            " isn't taken; the document is read from standard input, as by: argo_judge COMMAND < document.json"
+        }
+        Taker::Run => {
+            " isn't taken; the document is read from standard input, as by: argo_judge run --plain < document.json"
+        }
+        Taker::Explain => {
+            " isn't taken; the document is read from standard input, as by: argo_judge explain < document.json"
+        }
+    }
+}
+
+/// Why an option has no value, or a word is none.
+fn push_value_reason(out: &mut String, option: Valued, word: &str) -> Result<(), AllocError>
+    ensures { OnOk result (string_bytes out.new ≡ string_bytes out.old ++ value_reason option word.now) }
+{
+    if word == name_of(option) {
+        out.push_str(" has no ")?;
+        out.push_str(noun_of(option))?;
+        out.push_str(" after it; expected ")?;
+    } else {
+        out.push_str(" is no ")?;
+        out.push_str(noun_of(option))?;
+        out.push_str("; expected ")?;
+        out.push_str(name_of(option))?;
+        out.push_str(" and ")?;
+    }
+    out.push_str(expected(option))
+}
+
+fn push_reason(out: &mut String, next: Next, word: &str) -> Result<(), AllocError>
+    ensures { OnOk result (string_bytes out.new ≡ string_bytes out.old ++ reason next word.now) }
+{
+    match next {
+        Next::Command => out.push_str(
+            " is no command; expected `eval`, `check`, `list`, `run` or `explain`, or --help",
+        ),
+        Next::Nothing if is_option(word) => {
+            out.push_str(" isn't taken; `list` has no options but --help")
+        }
+        Next::Nothing => out.push_str(word_reason(Taker::EvalOrCheck)),
+        Next::Options(taker, _) if is_option(word) => out.push_str(option_reason(taker)),
+        Next::Options(taker, _) => out.push_str(word_reason(taker)),
+        Next::Value(option, _, _) => push_value_reason(out, option, word),
     }
 }
 
@@ -230,10 +321,10 @@ fn push_said(out: &mut String, refused: Option<(Next, &str)>) -> Result<(), Allo
     match refused {
         Some((next, word)) => {
             push_quoted(out, word)?;
-            out.push_str(reason(next, word))
+            push_reason(out, next, word)
         }
         None => out.push_str(
-            "expected `eval`, `check`, `list` or `run`, with the document on standard input, or --help",
+            "expected `eval`, `check`, `list`, `run` or `explain`, with the document on standard input, or --help",
         ),
     }
 }
@@ -253,15 +344,6 @@ pub fn words_text(alloc: Global, words: &[String]) -> Result<String, AllocError>
 }
 
 // ---- the values of options
-
-fn name_of(option: Valued) -> &'static str
-    ensures { result.now ≡ name_of option }
-{
-    match option {
-        Valued::Workers => "--workers",
-        Valued::Output => "--output",
-    }
-}
 
 /// The value of an option: the word after it, or what comes after its `=`.
 fn value_of<'a>(option: Valued, word: &'a str, rest: &'a [String]) -> Option<&'a str>
@@ -304,16 +386,17 @@ fn push_value(out: &mut String, value: Option<&str>) -> Result<(), AllocError>
 /// Where the value of an option is, the value, and what was expected.
 fn option_text(
     alloc: Global,
+    option: Valued,
     place: &str,
-    value: Option<&str>,
-    expected: &str,
+    words: &[String],
 ) -> Result<String, AllocError>
     ensures { IfOk result (λ text. string_bytes text
-        ≡ option_text place.now (option_map (λ value. value.now) value.entry) expected.now) }
+        ≡ option_text option place.now (map (λ word. string_bytes word) words.now)) }
 {
     let mut text = String::from_str(alloc, place)?;
-    push_value(&mut text, value)?;
-    text.push_str(expected)?;
+    push_value(&mut text, value_given(option, words))?;
+    text.push_str("expected ")?;
+    text.push_str(expected(option))?;
     Ok(text)
 }
 
@@ -328,9 +411,26 @@ pub fn workers_text(alloc: Global, words: &[String]) -> Result<String, AllocErro
 {
     option_text(
         alloc,
+        Valued::Workers,
         "command line, --workers: Workers: ",
-        value_given(Valued::Workers, words),
-        "expected a whole number from 1 to 16",
+        words,
+    )
+}
+
+/// What is said of an event's number that isn't taken: the number, and what was expected.
+///
+/// # Errors
+///
+/// Out of memory alone.
+pub fn event_text(alloc: Global, words: &[String]) -> Result<String, AllocError>
+    ensures { IfOk result
+        (λ text. string_bytes text ≡ event_text (map (λ word. string_bytes word) words.now)) }
+{
+    option_text(
+        alloc,
+        Valued::Event,
+        "command line, --event: Event: ",
+        words,
     )
 }
 
@@ -345,8 +445,8 @@ pub fn output_text(alloc: Global, words: &[String]) -> Result<String, AllocError
 {
     option_text(
         alloc,
+        Valued::Output,
         "command line, --output: Output: ",
-        value_given(Valued::Output, words),
-        "expected text or json",
+        words,
     )
 }

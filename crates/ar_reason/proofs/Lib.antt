@@ -1,1 +1,7 @@
+pub mod Events
+pub mod Histories
 pub mod Joined
+pub mod Lists
+pub mod Metrics
+pub mod Objects
+pub mod Runs

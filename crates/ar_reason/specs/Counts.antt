@@ -39,8 +39,8 @@ limits_text limits before after =
     ++ next_limit (codes "consecutiveError") before.succession after.succession
     (codes "consecutiveErrorLimit") limits.consecutive_error)
 
-unfoldable pub counts_text : Limits → (before after : Counts) → Text
-counts_text limits before after =
+unfoldable pub changed_counts : Limits → (before after : Counts) → Text
+changed_counts limits before after =
     limits_text limits before after ++ (codes ", " ++ measured_text (counted before) (counted after) limits.count)
 
 -- ---- Worked rows
@@ -56,20 +56,20 @@ abbrev counting : (successful failed errors : ℕ) → Counts
 counting successful failed errors =
     record { successful = successful; failed = failed; inconclusive = 0; error = errors; succession = errors }
 
-second_failure : counts_text one_may_fail (counting 0 1 0) (counting 0 2 0)
+second_failure : changed_counts one_may_fail (counting 0 1 0) (counting 0 2 0)
     ≡ codes "failed 1 -> 2 > failureLimit 1, inconclusive 0 <= inconclusiveLimit 0, "
     ++ codes "consecutiveError 0 <= consecutiveErrorLimit 4, measured 1 -> 2 of count 3"
-unfolding counts_text next_limit count_and_limit measured_text digits
+unfolding changed_counts next_limit count_and_limit measured_text digits
 second_failure = refl
 
-late_measurement : counts_text one_may_fail (counting 1 0 0) (counting 1 0 0)
+late_measurement : changed_counts one_may_fail (counting 1 0 0) (counting 1 0 0)
     ≡ codes "failed 0 <= failureLimit 1, inconclusive 0 <= inconclusiveLimit 0, "
     ++ codes "consecutiveError 0 <= consecutiveErrorLimit 4, measured 1 of count 3"
-unfolding counts_text next_limit count_and_limit measured_text digits
+unfolding changed_counts next_limit count_and_limit measured_text digits
 late_measurement = refl
 
-fifth_error : counts_text without_count (counting 7 0 4) (counting 7 0 5)
+fifth_error : changed_counts without_count (counting 7 0 4) (counting 7 0 5)
     ≡ codes "failed 0 <= failureLimit 1, inconclusive 0 <= inconclusiveLimit 0, "
     ++ codes "consecutiveError 4 -> 5 > consecutiveErrorLimit 4, measured 7, no count"
-unfolding counts_text next_limit count_and_limit measured_text digits
+unfolding changed_counts next_limit count_and_limit measured_text digits
 fifth_error = refl

@@ -1,2 +1,9 @@
 pub mod Counts
 pub mod Waiting
+pub mod Steps
+pub mod Why
+pub mod Reason
+pub mod Views
+pub mod ReasonText
+pub mod ReasonData
+pub mod Private

@@ -1,10 +1,11 @@
 -- What a metric that isn't complete waits for.
-use Rattle.std.specs.Prelude.{ℕ, ◌++◌, codes, decimal, Option, Some, None, ◌≡◌, refl, false}
+use Rattle.std.specs.Prelude.{ℕ, if◌then◌else◌, ◌++◌, codes, decimal, Option, Some, None, ◌≡◌, refl, false}
 use Rattle.std.specs.Fmt.{digits}
 use Rattle.ar_value.specs.Terms.{Text}
 use Rattle.ar_limits.specs.declared.counts.Counts.{Counts}
 use Rattle.ar_limits.specs.declared.limits.Limits.{Limits}
-use Rattle.ar_limits.specs.Metric.{counted}
+use Rattle.ar_limits.specs.declared.phase.Phase.{Phase}
+use Rattle.ar_limits.specs.Metric.{counted, is_complete}
 
 -- `measured`: the measurements that count, all but errors
 abbrev pub waiting_for : (count : Option ℕ) → (measured : ℕ) → Text
@@ -14,6 +15,10 @@ waiting_for None measured =
 
 unfoldable pub waiting_text : Limits → Counts → Text
 waiting_text limits counts = waiting_for limits.count (counted counts)
+
+-- nothing where the metric is complete
+abbrev pub waits_for : Phase → Limits → Counts → Option Text
+waits_for phase limits counts = if is_complete phase then None else Some (waiting_text limits counts)
 
 -- ---- Worked rows
 

@@ -2,7 +2,7 @@
 
 ghost use Rattle.std.specs.Prelude.{◌≡◌, ◌++◌, OnOk, string_bytes};
 ghost use Rattle.ar_limits.specs.Metric.{counted};
-ghost use Rattle.ar_reason.specs.Counts.{measured_text, count_and_limit, change_text, counts_text, limits_text, next_limit, order_text};
+ghost use Rattle.ar_reason.specs.Counts.{measured_text, count_and_limit, change_text, changed_counts, limits_text, next_limit, order_text};
 
 use ar_limits::{Counts, Limits};
 use std::alloc::AllocError;
@@ -118,14 +118,14 @@ fn push_limits(
 /// # Errors
 ///
 /// Out of memory alone.
-#[tactic(auto, unfolding(crate::specs::Counts::counts_text))]
+#[tactic(auto, unfolding(crate::specs::Counts::changed_counts))]
 pub fn push_counts(
     out: &mut String,
     limits: Limits,
     before: Counts,
     after: Counts,
 ) -> Result<(), AllocError>
-    ensures { OnOk result (string_bytes out.new ≡ string_bytes out.old ++ counts_text limits before after) }
+    ensures { OnOk result (string_bytes out.new ≡ string_bytes out.old ++ changed_counts limits before after) }
 {
     push_limits(out, limits, before, after)?;
     out.push_str(", ")?;

@@ -1,18 +1,37 @@
-//! The counts of a metric in words: for a person who asks why it ended, or what it still waits for.
+//! Why each event of runs had its verdict and its effect: for a person who asks why a run ended, or what it still
+//! waits for.
 //!
-//! [`push_counts`] appends each count that has a limit, before and after a measurement, with the limit, and how many
-//! measurements there are of the metric's `count` (`specs/Counts`). [`push_waiting`] appends what a metric that isn't
-//! complete waits for (`specs/Waiting`).
+//! [`reasons_text`] and [`reasons_json`] say of the events of a bundle's histories, or of those that are asked for
+//! ([`Chosen`]), what led to their verdicts and effects: what the provider gave, or where that doesn't fit its shape;
+//! each condition with its arguments put in and what came of its parts, in the order of evaluation; the metric's
+//! counts before and after, next to its limits; and why the event closed its run or what had made it late. Then each
+//! metric has what it still waits for. What there is to say is defined once (`specs/Steps`, `specs/Why`,
+//! `specs/Reason`), and printed by two definitions: as lines (`specs/ReasonText`, `specs/Counts`, `specs/Waiting`) and
+//! as a JSON object, which reads back as what was written (`specs/ReasonData`).
 //!
-//! What is proved, for all inputs: each call appends the text that these define. Only a refused allocation can keep
-//! it from that, and then a part of the text may be there.
+//! What is proved, for all inputs: each call returns the text that these define. Only a refused allocation can keep
+//! it from that.
 //!
-//! - `counts`: counts next to their limits
-//! - `waiting`: what a metric waits for
+//! - [`chosen`]: which events are asked for; [`steps`]: what each did to its metric; `why`: what closed a run, or made
+//!   an event late
+//! - `given`: what a provider gave; `evaluated`: the trees of conditions; `parts`: the lines of their parts
+//! - `counts`: counts next to their limits; `waiting`: what a metric waits for
+//! - `lines`: the text; `data`: the object
 #![tactic(auto)]
 
+pub mod chosen;
 mod counts;
+mod data;
+mod evaluated;
+mod given;
+mod lines;
+mod parts;
+pub mod steps;
 mod waiting;
+pub mod why;
 
+pub use chosen::Chosen;
 pub use counts::push_counts;
+pub use data::reasons_json;
+pub use lines::reasons_text;
 pub use waiting::push_waiting;

@@ -64,22 +64,22 @@ no_run bundle runs histories index found total past so_far =
 
 -- ---- no number of a report is a float
 
-none_float : {A : Type 0} (data_of : A → Data) → ((x : A) → has_float (data_of x) ≡ false) → (xs : List A) → items_have_float (items_of (map data_of xs)) ≡ false
+pub none_float : {A : Type 0} (data_of : A → Data) → ((x : A) → has_float (data_of x) ≡ false) → (xs : List A) → items_have_float (items_of (map data_of xs)) ≡ false
 none_float data_of each [] = refl
 none_float data_of each (x ∷ xs) = rw (each x, none_float data_of each xs) refl
 
-count_exact : (found : Option ℕ) → has_float (count_or_null found) ≡ false
+pub count_exact : (found : Option ℕ) → has_float (count_or_null found) ≡ false
 count_exact (Some n) = refl
 count_exact None = refl
 
-text_exact : (found : Option (List ℕ)) → has_float (text_or_null found) ≡ false
+pub text_exact : (found : Option (List ℕ)) → has_float (text_or_null found) ≡ false
 text_exact (Some text) = refl
 text_exact None = refl
 
-metric_exact : (metric : MetricFacts) → has_float (metric_data metric) ≡ false
+pub metric_exact : (metric : MetricFacts) → has_float (metric_data metric) ≡ false
 metric_exact metric = rw (count_exact metric.limits.count) refl
 
-finding_exact : (event : EventFacts) (finding : FindingFacts) → has_float (finding_data event.number event.effect finding) ≡ false
+pub finding_exact : (event : EventFacts) (finding : FindingFacts) → has_float (finding_data event.number event.effect finding) ≡ false
 finding_exact event (judged metric verdict) = rw (text_exact (cause_if_error verdict), text_exact (fault_if_error verdict), text_exact (closed_as event.effect)) refl
 finding_exact event stopped = rw (text_exact (closed_as event.effect)) refl
 
@@ -98,33 +98,33 @@ answer_exact (Err fault) = refl
 
 -- ---- and no object is deep
 
-none_deep : {A : Type 0} (data_of : A → Data) (levels : ℕ) → ((x : A) → depth (data_of x) ≤ levels) → (xs : List A) → items_depth (items_of (map data_of xs)) ≤ levels
+pub none_deep : {A : Type 0} (data_of : A → Data) (levels : ℕ) → ((x : A) → depth (data_of x) ≤ levels) → (xs : List A) → items_depth (items_of (map data_of xs)) ≤ levels
 none_deep data_of levels each [] = omega arith
 none_deep data_of levels each (x ∷ xs) = max-le (each x) (none_deep data_of levels each xs)
 
-count_flat : (found : Option ℕ) → depth (count_or_null found) ≡ 0
+pub count_flat : (found : Option ℕ) → depth (count_or_null found) ≡ 0
 count_flat (Some n) = refl
 count_flat None = refl
 
-text_flat : (found : Option (List ℕ)) → depth (text_or_null found) ≡ 0
+pub text_flat : (found : Option (List ℕ)) → depth (text_or_null found) ≡ 0
 text_flat (Some text) = refl
 text_flat None = refl
 
-metric_flat : (metric : MetricFacts) → depth (metric_data metric) ≡ 2
+pub metric_flat : (metric : MetricFacts) → depth (metric_data metric) ≡ 2
 metric_flat metric = rw (count_flat metric.limits.count) refl
 
-finding_flat : (event : EventFacts) (finding : FindingFacts) → depth (finding_data event.number event.effect finding) ≡ 1
+pub finding_flat : (event : EventFacts) (finding : FindingFacts) → depth (finding_data event.number event.effect finding) ≡ 1
 finding_flat event (judged metric verdict) = rw (text_flat (cause_if_error verdict), text_flat (fault_if_error verdict), text_flat (closed_as event.effect)) refl
 finding_flat event stopped = rw (text_flat (closed_as event.effect)) refl
 
-above : {a b : ℕ} → a ≤ b → suc a ≤ suc b
+pub above : {a b : ℕ} → a ≤ b → suc a ≤ suc b
 above less = omega arith
 
 -- an object with two lists, and with one
-two_deep : (a b levels : ℕ) → a ≤ levels → b ≤ levels → suc (max a (max b 0)) ≤ suc levels
+pub two_deep : (a b levels : ℕ) → a ≤ levels → b ≤ levels → suc (max a (max b 0)) ≤ suc levels
 two_deep a b levels one other = let none : 0 ≤ levels = omega arith in above (max-le one (max-le other none))
 
-one_deep : (a levels : ℕ) → a ≤ levels → suc (max a 0) ≤ suc levels
+pub one_deep : (a levels : ℕ) → a ≤ levels → suc (max a 0) ≤ suc levels
 one_deep a levels one = let none : 0 ≤ levels = omega arith in above (max-le one none)
 
 run_flat : (run : RunFacts) → depth (run_data run) ≤ 4
@@ -133,7 +133,7 @@ run_flat run =
     let metrics = above (none_deep metric_data 2 (λ metric. let is = metric_flat metric in omega arith) run.metrics) in
     two_deep _ _ 3 events metrics
 
-few : {a : ℕ} → a ≤ 10 → a ≤ max_depth
+pub few : {a : ℕ} → a ≤ 10 → a ≤ max_depth
 few less = omega arith
 
 pub report_flat : (runs : List RunFacts) → depth (report_data runs) ≤ max_depth

@@ -30,7 +30,8 @@ use std::alloc::{AllocError, Global};
 /// The version of the form of these documents.
 const VERSION: u64 = 1;
 
-fn text_or_null(alloc: Global, text: Option<&str>) -> Result<Json, AllocError>
+/// A text, or null where there is none.
+pub fn text_or_null(alloc: Global, text: Option<&str>) -> Result<Json, AllocError>
     ensures { IfOk result (λ json. view json ≡ text_or_null (option_map (λ text. text.now) text.entry)) }
 {
     match text {
@@ -40,8 +41,12 @@ fn text_or_null(alloc: Global, text: Option<&str>) -> Result<Json, AllocError>
 }
 
 /// The text of an object, and a line feed.
+///
+/// # Errors
+///
+/// Out of memory alone.
 #[tactic(auto, using(crate::proofs::Objects::line_read))]
-fn line(alloc: Global, object: &Json) -> Result<String, AllocError>
+pub fn json_line(alloc: Global, object: &Json) -> Result<String, AllocError>
     requires exact { has_float (view object.now) ≡ false }
     requires flat { depth (view object.now) ≤ max_depth }
     ensures { IfOk result (λ text. IsJsonLine (view object.now) (string_bytes text)) }
@@ -53,7 +58,8 @@ fn line(alloc: Global, object: &Json) -> Result<String, AllocError>
 
 // ---- metrics
 
-fn counts_json(alloc: Global, counts: Counts) -> Result<Json, AllocError>
+/// The counts of a metric.
+pub fn counts_json(alloc: Global, counts: Counts) -> Result<Json, AllocError>
     ensures { IfOk result (λ json. view json ≡ counts_data counts) }
 {
     json!(in alloc; {
@@ -65,7 +71,8 @@ fn counts_json(alloc: Global, counts: Counts) -> Result<Json, AllocError>
     })
 }
 
-fn limits_json(alloc: Global, own: Limits) -> Result<Json, AllocError>
+/// The limits of a metric.
+pub fn limits_json(alloc: Global, own: Limits) -> Result<Json, AllocError>
     ensures { IfOk result (λ json. view json ≡ limits_data own) }
 {
     json!(in alloc; {
@@ -76,7 +83,8 @@ fn limits_json(alloc: Global, own: Limits) -> Result<Json, AllocError>
     })
 }
 
-fn metric_json(
+/// A metric with its phase and counts.
+pub fn metric_json(
     alloc: Global,
     metric: &MetricPart,
     own: Limits,
@@ -181,8 +189,9 @@ fn finding_json(
     }
 }
 
+/// An event of a history.
 #[tactic(auto, using(crate::proofs::Lines::found_inside, crate::proofs::Lines::facts_found_are))]
-fn event_json(alloc: Global, bundle: &Bundle, entry: Entry) -> Result<Json, AllocError>
+pub fn event_json(alloc: Global, bundle: &Bundle, entry: Entry) -> Result<Json, AllocError>
     requires { finding_at bundle.now entry.number ≡ Some entry.finding }
     ensures { IfOk result
         (λ json. view json ≡ event_data (event_facts bundle.now entry.number entry.effect)) }
@@ -207,7 +216,8 @@ fn events_json(alloc: Global, bundle: &Bundle, entries: &[Entry]) -> Result<Vec<
 
 // ---- runs
 
-fn run_object(
+/// A run with its metrics and its events.
+pub fn run_object(
     alloc: Global,
     name: &str,
     phase: Phase,
@@ -260,7 +270,8 @@ fn runs_json(alloc: Global, bundle: &Bundle, histories: &Histories) -> Result<Ve
     Ok(found)
 }
 
-fn report_object(alloc: Global, runs: Vec<Json>) -> Result<Json, AllocError>
+/// Runs, and the version of the form.
+pub fn runs_object(alloc: Global, runs: Vec<Json>) -> Result<Json, AllocError>
     ensures { IfOk result (λ json. view json ≡ named_list (codes "runs") (map view runs.items)) }
 {
     json!(in alloc; {"runs": runs, "version": VERSION})
@@ -282,8 +293,8 @@ pub fn report_json(
         (report_data (report_facts bundle.now (map numbers_of histories.now))) (string_bytes text)) }
 {
     let runs = runs_json(alloc, bundle, histories)?;
-    let report = report_object(alloc, runs)?;
-    line(alloc, &report)
+    let report = runs_object(alloc, runs)?;
+    json_line(alloc, &report)
 }
 
 // ---- conditions
@@ -335,7 +346,7 @@ pub fn check_json(alloc: Global, bundle: &Bundle) -> Result<String, AllocError>
     let found = conditions(alloc, bundle)?;
     let shown = conditions_json(alloc, &found)?;
     let object = check_object(alloc, shown)?;
-    line(alloc, &object)
+    json_line(alloc, &object)
 }
 
 // ---- one condition on one value
@@ -361,5 +372,5 @@ pub fn answer_json(alloc: Global, answer: Result<bool, Fault>) -> Result<String,
     ensures { IfOk result (λ text. IsJsonLine (answer_data answer) (string_bytes text)) }
 {
     let object = answer_object(alloc, answer)?;
-    line(alloc, &object)
+    json_line(alloc, &object)
 }

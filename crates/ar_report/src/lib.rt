@@ -7,7 +7,8 @@
 //!
 //! [`report`] and [`report_json`] print the histories of a bundle's runs, and [`run_phases`] returns the phases of
 //! the runs. [`check_text`] and [`check_json`] print the bounds of each condition, [`list_text`] its code, and
-//! [`answer_json`] what one condition says.
+//! [`answer_json`] what one condition says. Those who print more of a run take the parts of both: [`put_event`],
+//! [`event_json`] and the like.
 //!
 //! - `conditions`: the conditions of a bundle, and their lines
 //! - `json`: the objects of reports, conditions and answers
@@ -23,6 +24,9 @@ mod names;
 mod reports;
 
 pub use conditions::{check_text, list_text};
-pub use json::{answer_json, check_json, report_json};
+pub use json::{
+    answer_json, check_json, counts_json, event_json, json_line, limits_json, metric_json,
+    report_json, run_object, runs_object, text_or_null,
+};
 pub use names::{phase_name, put_verdict};
-pub use reports::{report, run_phases};
+pub use reports::{put_event, put_metric, put_run_line, report, run_phases};

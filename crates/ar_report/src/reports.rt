@@ -60,7 +60,8 @@ fn put_dry(out: &mut String, own: Limits) -> Result<(), AllocError>
     Ok(())
 }
 
-fn put_metric(
+/// Writes the line of a metric after what is in a text.
+pub fn put_metric(
     out: &mut String,
     metric: &MetricPart,
     own: Limits,
@@ -109,8 +110,9 @@ fn put_finding(
     }
 }
 
+/// Writes the line of an event after what is in a text.
 #[tactic(auto, using(crate::proofs::Lines::found_inside))]
-fn put_event(out: &mut String, bundle: &Bundle, entry: Entry) -> Result<(), AllocError>
+pub fn put_event(out: &mut String, bundle: &Bundle, entry: Entry) -> Result<(), AllocError>
     requires { finding_at bundle.now entry.number ≡ Some entry.finding }
     ensures { OnOk result
         (string_bytes out.new ≡ string_bytes out.old ++ event_line (event_facts bundle.now entry.number entry.effect)) }
@@ -139,7 +141,8 @@ fn put_event_effect(out: &mut String, effect: Effect) -> Result<(), AllocError>
     out.push_str("\n")
 }
 
-fn put_run_line(out: &mut String, run: &RunPart, phase: Phase) -> Result<(), AllocError>
+/// Writes the line of a run after what is in a text.
+pub fn put_run_line(out: &mut String, run: &RunPart, phase: Phase) -> Result<(), AllocError>
     ensures { OnOk result (string_bytes out.new ≡ string_bytes out.old ++ run_line run.now.name phase) }
 {
     out.push_str("run ")?;

@@ -20,9 +20,11 @@ use ar_command::{
     Closing, Command, Device, Kept, Refusal, ServeError, Sink, Source, serve, serve_plain, status,
     write_output,
 };
-use ar_command_line::{UsageError, command_of, output_text, shown, words_text, workers_text};
+use ar_command_line::{
+    UsageError, command_of, event_text, output_text, shown, words_text, workers_text,
+};
 use ar_workers::{FreeGate, WorkError};
-use std::alloc::AllocError;
+use std::alloc::{AllocError, Global};
 use std::process::ExitCode;
 use std::rt::Env;
 use std::sync::Wait;
@@ -32,8 +34,8 @@ use words::{refusal_text, warning_lines};
 
 /// What a command line can ask for.
 #[derive(Drop)]
-enum Request {
-    CarryOut(Command),
+enum Request<'w> {
+    CarryOut(Command<'w>),
     /// The text of `--help` or `--version`.
     Show(String),
 }
@@ -44,22 +46,40 @@ fn main(rt: HostRuntime) -> ExitCode {
 
 /// Does what the command line asks for, and returns the exit status.
 fn run<R: Env + AllocGlobal + Input + Print + Eprint + Threads + Wait + Sync>(rt: &R) -> u8 {
-    match requested(rt) {
-        Ok(Request::CarryOut(command)) => carry_out(rt, command),
-        Ok(Request::Show(text)) => show(rt, text.as_str()),
-        Err(error) => refuse_words(rt, error),
+    match arguments(rt) {
+        Ok(words) => obey(rt, &words),
+        Err(error) => refuse_usage(rt, error),
     }
 }
 
-/// Reports a command line that asks for nothing in one line, and returns the exit status.
-fn refuse_words<R: Env + AllocGlobal + Eprint>(rt: &R, error: UsageError) -> u8 {
-    match usage_text(rt, error) {
+/// Does what the words of a command line ask for, and returns the exit status.
+fn obey<R>(rt: &R, words: &[String]) -> u8
+where
+    R: AllocGlobal + Input + Print + Eprint + Threads + Wait + Sync,
+{
+    match requested(rt, words) {
+        Ok(Request::CarryOut(command)) => carry_out(rt, command),
+        Ok(Request::Show(text)) => show(rt, text.as_str()),
+        Err(error) => refuse_words(rt, words, error),
+    }
+}
+
+/// Reports a command line that asks for nothing in one line, with the word at fault, and returns the exit status.
+fn refuse_words<R: AllocGlobal + Eprint>(rt: &R, words: &[String], error: UsageError) -> u8 {
+    match usage_text(rt.alloc(), words, error) {
         Ok(text) => {
             let _ = eprintln!(rt; "argo_judge: {text}");
             status::REFUSED
         }
-        Err(UsageError::OutOfMemory) => out_of_memory(rt, ServeError::OutOfMemory),
-        Err(error) => {
+        Err(error) => refuse_usage(rt, error),
+    }
+}
+
+/// Reports a command line that asks for nothing in one line, and returns the exit status.
+fn refuse_usage<R: Eprint>(rt: &R, error: UsageError) -> u8 {
+    match error {
+        UsageError::OutOfMemory => out_of_memory(rt, ServeError::OutOfMemory),
+        error => {
             let _ = eprintln!(rt; "argo_judge: {error}");
             status::REFUSED
         }
@@ -67,13 +87,13 @@ fn refuse_words<R: Env + AllocGlobal + Eprint>(rt: &R, error: UsageError) -> u8 
 }
 
 /// What is said of a command line that asks for nothing, with the word at fault.
-fn usage_text<R: Env + AllocGlobal>(rt: &R, error: UsageError) -> Result<String, UsageError> {
-    let words = arguments(rt)?;
+fn usage_text(alloc: Global, words: &[String], error: UsageError) -> Result<String, UsageError> {
     match error {
-        UsageError::Words => Ok(words_text(rt.alloc(), &words)?),
-        UsageError::Workers => Ok(workers_text(rt.alloc(), &words)?),
-        UsageError::Output => Ok(output_text(rt.alloc(), &words)?),
-        UsageError::Conflict | UsageError::OutOfMemory => Err(error),
+        UsageError::Words => Ok(words_text(alloc, words)?),
+        UsageError::Workers => Ok(workers_text(alloc, words)?),
+        UsageError::Event => Ok(event_text(alloc, words)?),
+        UsageError::Output => Ok(output_text(alloc, words)?),
+        UsageError::Conflict | UsageError::Several | UsageError::OutOfMemory => Err(error),
     }
 }
 
@@ -90,14 +110,13 @@ fn show<R: Print + Eprint>(rt: &R, text: &str) -> u8 {
 }
 
 /// What the command line asks for.
-fn requested<R: Env + AllocGlobal>(rt: &R) -> Result<Request, UsageError>
+fn requested<'w, R: AllocGlobal>(rt: &R, words: &'w [String]) -> Result<Request<'w>, UsageError>
     ensures workers { (n : ℕ) (format : Format) → result ≡ Ok (Request.CarryOut (commands.Run n format))
         → (1 ≤ n) × (n ≤ MOST_WORKERS) }
     ensures ordered { (n : ℕ) (format : Format) → result ≡ Ok (Request.CarryOut (commands.Ordered n format))
         → (1 ≤ n) × (n ≤ MOST_WORKERS) }
 {
-    let words = arguments(rt)?;
-    match shown(rt.alloc(), &words)? {
+    match shown(rt.alloc(), words)? {
         Some(text) => Ok(Request::Show(text)),
         None => Ok(Request::CarryOut(command_of(rt.alloc(), words)?)),
     }
@@ -120,7 +139,7 @@ fn arguments<R: Env + AllocGlobal>(rt: &R) -> Result<Vec<String>, UsageError> {
 }
 
 /// Carries a command out on the standard streams, and reports a fault in one line.
-fn carry_out<R>(rt: &R, command: Command) -> u8
+fn carry_out<R>(rt: &R, command: Command<'_>) -> u8
 where
     R: AllocGlobal + Input + Print + Eprint + Threads + Wait + Sync,
     requires workers { (n : ℕ) (format : Format) → command ≡ commands.Run n format → (1 ≤ n) × (n ≤ MOST_WORKERS) }
@@ -132,11 +151,11 @@ where
     if warns(command, &outcome) {
         warn(rt, reader.bytes());
     }
-    close(rt, &reader, &writer, &outcome)
+    close(rt, command, &reader, &writer, &outcome)
 }
 
 /// Whether a command that was carried out warns of what its document has that is probably not meant.
-fn warns(command: Command, outcome: &Result<Closing, ServeError>) -> bool {
+fn warns(command: Command<'_>, outcome: &Result<Closing, ServeError>) -> bool {
     matches!(command, Command::Check(_)) && outcome.is_ok()
 }
 
@@ -153,7 +172,7 @@ fn warn<R: AllocGlobal + Eprint>(rt: &R, input: &[u8]) {
 /// Carries a command out, with workers where it is for them.
 fn served<R, S: Source, W: Sink>(
     rt: &R,
-    command: Command,
+    command: Command<'_>,
     reader: &mut S,
     writer: &mut W,
 ) -> Result<Closing, ServeError>
@@ -175,13 +194,14 @@ where
 /// The exit status of a command's result, with one line where that is a fault.
 fn close<R: AllocGlobal + Eprint, I, O>(
     rt: &R,
+    command: Command<'_>,
     reader: &Kept<Device<I>>,
     writer: &Device<O>,
     outcome: &Result<Closing, ServeError>,
 ) -> u8 {
     match outcome {
         Ok(_) => status::status_of(outcome),
-        Err(ServeError::Refused(refusal)) => refuse(rt, reader.bytes(), refusal),
+        Err(ServeError::Refused(refusal)) => refuse(rt, command, reader.bytes(), refusal),
         Err(ServeError::Read) if reader.wants_memory() => {
             out_of_memory(rt, ServeError::OutOfMemory)
         }
@@ -206,8 +226,13 @@ fn cause<'a, I, O>(
 }
 
 /// Reports a refused input in one line.
-fn refuse<R: AllocGlobal + Eprint>(rt: &R, input: &[u8], refusal: &Refusal) -> u8 {
-    match refusal_text(rt.alloc(), input, refusal) {
+fn refuse<R: AllocGlobal + Eprint>(
+    rt: &R,
+    command: Command<'_>,
+    input: &[u8],
+    refusal: &Refusal,
+) -> u8 {
+    match refusal_text(rt.alloc(), command, input, refusal) {
         Ok(text) => {
             let _ = eprintln!(rt; "argo_judge: {text}");
             status::REFUSED

@@ -25,7 +25,7 @@ pub(crate) fn put(alloc: Global, call: &str, case: &Json, out: &mut Output) -> O
 /// The command that words ask for, or why they ask for none.
 fn put_command(alloc: Global, case: &Json, out: &mut Output) -> Written {
     let words = read_all(alloc, members::list(case, "command")?)?;
-    match command_of(alloc, words) {
+    match command_of(alloc, words.as_slice()) {
         Ok(command) => write!(out, "{command:?}"),
         Err(UsageError::OutOfMemory) => out.lose(),
         Err(error) => write!(out, "{error:?}"),

@@ -1,4 +1,4 @@
-use Rattle.ar_command.proofs.OneReport.{one_text}
+use Rattle.ar_command.proofs.OneReason.{one_text}
 use Rattle.ar_command.proofs.laws.one_text.Goals as goal
 
 pub returns : goal.returns

@@ -8,17 +8,17 @@ use Rattle.ar_report.specs.ReportData.{IsJsonLine}
 use Rattle.ar_report.proofs.Objects.{check_exact, check_flat, checked}
 use Rattle.ar_report.proofs.json.check_json.Goals as goal
 
-pub line-requires-clause-exact : goal.line-requires-clause-exact
-line-requires-clause-exact c =
+pub json_line-requires-clause-exact : goal.json_line-requires-clause-exact
+json_line-requires-clause-exact c =
     let is = checked _ _ _ _ _ c.in_ok-found.ensures c.deref.ensures.value c.in_ok-shown.ensures c.in_ok-object.ensures in
     subst (λ (written : Data). has_float written ≡ false) (sym is) (check_exact (check_facts c.args.bundle.now))
 
-pub line-requires-clause-flat : goal.line-requires-clause-flat
-line-requires-clause-flat c =
+pub json_line-requires-clause-flat : goal.json_line-requires-clause-flat
+json_line-requires-clause-flat c =
     let is = checked _ _ _ _ _ c.in_ok-found.ensures c.deref.ensures.value c.in_ok-shown.ensures c.in_ok-object.ensures in
     subst (λ (written : Data). depth written ≤ max_depth) (sym is) (check_flat (check_facts c.args.bundle.now))
 
 pub returns : goal.returns
 returns c =
     let is = checked _ _ _ _ _ c.in_ok-found.ensures c.deref.ensures.value c.in_ok-shown.ensures c.in_ok-object.ensures in
-    IfOk-weaker c.line.result _ _ (λ text. subst (λ (written : Data). IsJsonLine written (string_bytes text)) is) c.line.ensures
+    IfOk-weaker c.json_line.result _ _ (λ text. subst (λ (written : Data). IsJsonLine written (string_bytes text)) is) c.json_line.ensures

@@ -9,17 +9,17 @@ use Rattle.ar_report.specs.ReportData.{IsJsonLine, named_list}
 use Rattle.ar_report.proofs.Objects.{report_exact, report_flat}
 use Rattle.ar_report.proofs.json.report_json.Goals as goal
 
-pub line-requires-clause-exact : goal.line-requires-clause-exact
-line-requires-clause-exact c =
+pub json_line-requires-clause-exact : goal.json_line-requires-clause-exact
+json_line-requires-clause-exact c =
     let is = c.in_ok-report.ensures ∙ ap (named_list (codes "runs")) c.in_ok-runs.ensures in
     subst (λ (written : Data). has_float written ≡ false) (sym is) (report_exact (report_facts c.args.bundle.now (map numbers_of c.args.histories.now)))
 
-pub line-requires-clause-flat : goal.line-requires-clause-flat
-line-requires-clause-flat c =
+pub json_line-requires-clause-flat : goal.json_line-requires-clause-flat
+json_line-requires-clause-flat c =
     let is = c.in_ok-report.ensures ∙ ap (named_list (codes "runs")) c.in_ok-runs.ensures in
     subst (λ (written : Data). depth written ≤ max_depth) (sym is) (report_flat (report_facts c.args.bundle.now (map numbers_of c.args.histories.now)))
 
 pub returns : goal.returns
 returns c =
     let is = c.in_ok-report.ensures ∙ ap (named_list (codes "runs")) c.in_ok-runs.ensures in
-    IfOk-weaker c.line.result _ _ (λ text. subst (λ (written : Data). IsJsonLine written (string_bytes text)) is) c.line.ensures
+    IfOk-weaker c.json_line.result _ _ (λ text. subst (λ (written : Data). IsJsonLine written (string_bytes text)) is) c.json_line.ensures

@@ -1,0 +1,118 @@
+//! What `explain` says of an input.
+
+ghost use Rattle.std.specs.Prelude.{◌≡◌, Err, IfOk, Ok, string_bytes};
+ghost use Rattle.serde_json.specs.View.{view};
+ghost use Rattle.ar_value.specs.Answer.{IfRefused};
+ghost use Rattle.ar_bundle.specs.Lawful.{AllRise, AreLawful};
+ghost use Rattle.ar_document.specs.Document.{ReadsInput, is_bundle_memory};
+ghost use Rattle.ar_document.specs.Opening.{index_of_name};
+ghost use Rattle.ar_json.specs.Document.{json_in};
+ghost use Rattle.ar_reason.specs.Reason.{reasons_of};
+ghost use Rattle.ar_reason.specs.ReasonData.{reasons_data};
+ghost use Rattle.ar_reason.specs.ReasonText.{reasons_text};
+ghost use Rattle.ar_command.specs.Private.Counting.{metric_names, run_names};
+ghost use Rattle.ar_command.specs.Private.Refusing.{NamesRefusal, is_serve_memory};
+ghost use Rattle.ar_command.specs.Serving.{IsPrinted, RefusesInput, Says, chosen_of};
+ghost use Rattle.ar_command_line.specs.Selection.{selected};
+ghost use Rattle.ar_command_line.specs.declared.command_line.Command.TheVariants as commands;
+
+use crate::answer::Said;
+use crate::serving::{Closing, Refusal, ServeError};
+use ar_bundle::{Bundle, Histories, MetricPart, RunPart, run_plain};
+use ar_command_line::{Format, Selection};
+use ar_document::{BundleError, read_bundle};
+use ar_json::read_json;
+use ar_reason::{Chosen, reasons_json, reasons_text};
+use serde_json::Value as Json;
+use std::alloc::{AllocError, Global};
+
+/// The number of the run of a name.
+#[tactic(auto, using(crate::proofs::Naming::run_here, crate::proofs::Naming::run_later, crate::proofs::Naming::no_run, crate::proofs::Naming::from_first_run))]
+fn run_named(runs: &[RunPart], name: &str) -> Option<usize>
+    ensures { result ≡ index_of_name name.now (run_names runs.now) }
+{
+    for (number, run) in runs.iter().enumerate() {
+        if name == run.name.as_str() {
+            return Some(number);
+        }
+    }
+    None
+}
+
+/// The number of the metric of a name.
+#[tactic(auto, using(crate::proofs::Naming::metric_here, crate::proofs::Naming::metric_later, crate::proofs::Naming::no_metric, crate::proofs::Naming::from_first_metric))]
+fn metric_named(metrics: &[MetricPart], name: &str) -> Option<usize>
+    ensures { result ≡ index_of_name name.now (metric_names metrics.now) }
+{
+    for (number, metric) in metrics.iter().enumerate() {
+        if name == metric.name.as_str() {
+            return Some(number);
+        }
+    }
+    None
+}
+
+/// The events that a selection asks for, where the bundle has what it names.
+fn chosen_of(bundle: &Bundle, selection: Selection<'_>) -> Option<Chosen>
+    ensures { result ≡ chosen_of bundle.now (selected selection.entry) }
+{
+    match selection {
+        Selection::All => Some(Chosen::All),
+        Selection::Event(number) if number < bundle.events() => Some(Chosen::Event(number)),
+        Selection::Event(_) => None,
+        Selection::Run(name) => Some(Chosen::Run(run_named(bundle.runs(), name)?)),
+        Selection::Metric(name) => Some(Chosen::Metric(metric_named(bundle.metrics(), name)?)),
+    }
+}
+
+/// What led to the events that are asked for, as it is to be written.
+#[tactic(auto, using(crate::proofs::Reporting::lawful))]
+fn reasons(
+    alloc: Global,
+    format: Format,
+    document: &Json,
+    bundle: &Bundle,
+    histories: &Histories,
+    chosen: Chosen,
+) -> Result<String, AllocError>
+    requires lawful { AreLawful bundle.now histories.now }
+    ensures { IfOk result (λ text. IsPrinted format
+        (reasons_text (reasons_of (view document.now) bundle.now chosen histories.now))
+        (reasons_data (reasons_of (view document.now) bundle.now chosen histories.now)) (string_bytes text)) }
+{
+    match format {
+        Format::Text => reasons_text(alloc, document, bundle, histories, chosen),
+        Format::Json => reasons_json(alloc, document, bundle, histories, chosen),
+    }
+}
+
+/// The document that an input is.
+fn document_of(alloc: Global, input: &[u8]) -> Result<Json, BundleError>
+    ensures given { IfOk result (λ json. json_in input.now ≡ Ok (view json)) }
+    ensures refused { IfRefused is_bundle_memory result (λ error. ReadsInput input.now (Err error)) }
+{
+    Ok(read_json(alloc, input)?)
+}
+
+pub(crate) fn explained(
+    alloc: Global,
+    selection: Selection<'_>,
+    format: Format,
+    input: &[u8],
+) -> Result<Said, ServeError>
+    ensures said { IfOk result
+        (λ said. Says (commands.Explain selection.entry format) input.now (string_bytes said.text) said.closing) }
+    ensures refused { IfRefused is_serve_memory result
+        (NamesRefusal (RefusesInput (commands.Explain selection.entry format) input.now)) }
+{
+    let bundle = read_bundle(alloc, input)?;
+    let Some(chosen) = chosen_of(&bundle, selection) else {
+        return Err(ServeError::Refused(Refusal::NotThere));
+    };
+    let histories = run_plain(alloc, &bundle)?;
+    let document = document_of(alloc, input)?;
+    Ok(Said {
+        text: reasons(alloc, format, &document, &bundle, &histories, chosen)?,
+        closing: Closing::Good,
+    })
+}

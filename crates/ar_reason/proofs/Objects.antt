@@ -1,0 +1,95 @@
+-- What is written of reasons reads back: no number is a float, and no object is deep.
+use Rattle.std.proofs.Common.{◌≡◌, ◌≤◌, ℕ, suc, max, false, List, Option, Some, None, refl, arith}
+use Rattle.std.specs.Prelude.{option_map}
+use Rattle.std.specs.Option.{option_map_or}
+use Rattle.std.proofs.Math.Nat.{max-le}
+use Rattle.serde_json.specs.Data.{depth, null}
+use Rattle.serde_json.specs.Read.{max_depth}
+use Rattle.serde_json.specs.Written.{has_float}
+use Rattle.ar_explain.specs.Lines.{Line}
+use Rattle.ar_report.proofs.Objects.{above, count_exact, count_flat, finding_exact, finding_flat, metric_exact, metric_flat, none_deep, none_float, one_deep, text_exact, text_flat, two_deep}
+use Rattle.ar_report.specs.Facts.{MetricFacts}
+use Rattle.ar_report.specs.ReportData.{count_data, event_data, text_or_null}
+use Rattle.ar_reason.specs.Reason.{EvaluatedCondition, Reason, RunReasons}
+use Rattle.ar_reason.specs.ReasonData.{change_data, evaluated_data, failure_if_there, given_misfit, given_value, operands_if_there, part_data, reason_data, reasons_data, run_reasons_data, value_if_there, waiting_data}
+use Rattle.ar_reason.specs.Waiting.{waits_for}
+use Rattle.ar_reason.specs.Why.{why_words}
+use Rattle.ar_reason.specs.declared.steps.Change.{Change}
+
+-- ---- no float
+
+part_exact : (line : Line) → has_float (part_data line) ≡ false
+part_exact line = rw (text_exact (failure_if_there line.said), none_float count_data (λ n. refl) line.items, text_exact (operands_if_there line.said), text_exact (value_if_there line.said)) refl
+
+evaluated_exact : (condition : EvaluatedCondition) → has_float (evaluated_data condition) ≡ false
+evaluated_exact condition = rw (text_exact (value_if_there condition.answer), text_exact (failure_if_there condition.answer), text_exact (operands_if_there condition.answer), none_float part_data part_exact condition.parts.lines) refl
+
+change_exact : (change : Option Change) → has_float (option_map_or change_data change null) ≡ false
+change_exact (Some change) = rw (count_exact change.limits.count) refl
+change_exact None = refl
+
+reason_exact : (reason : Reason) → has_float (reason_data reason) ≡ false
+reason_exact reason =
+    rw (none_float evaluated_data evaluated_exact reason.conditions, change_exact reason.change, finding_exact reason.event reason.event.finding, text_exact (given_misfit reason.given), text_exact (option_map why_words reason.why), text_exact (given_value reason.given)) refl
+
+waiting_exact : (metric : MetricFacts) → has_float (waiting_data metric) ≡ false
+waiting_exact metric = rw (metric_exact metric, text_exact (waits_for metric.phase metric.limits metric.counts)) refl
+
+run_exact : (run : RunReasons) → has_float (run_reasons_data run) ≡ false
+run_exact run = rw (none_float reason_data reason_exact run.reasons, none_float waiting_data waiting_exact run.metrics) refl
+
+pub reasons_exact : (runs : List RunReasons) → has_float (reasons_data runs) ≡ false
+reasons_exact runs = rw (none_float run_reasons_data run_exact runs) refl
+
+-- ---- not deep
+
+text_small : (found : Option (List ℕ)) (levels : ℕ) → depth (text_or_null found) ≤ levels
+text_small found levels = let is = text_flat found in omega arith
+
+-- an object of six members, and of seven
+six_deep : (a b c d e f levels : ℕ) → a ≤ levels → b ≤ levels → c ≤ levels → d ≤ levels → e ≤ levels → f ≤ levels → suc (max a (max b (max c (max d (max e (max f 0)))))) ≤ suc levels
+six_deep a b c d e f levels in_a in_b in_c in_d in_e in_f =
+    let none : 0 ≤ levels = omega arith in
+    above (max-le in_a (max-le in_b (max-le in_c (max-le in_d (max-le in_e (max-le in_f none))))))
+
+seven_deep : (a b c d e f g levels : ℕ) → a ≤ levels → b ≤ levels → c ≤ levels → d ≤ levels → e ≤ levels → f ≤ levels → g ≤ levels → suc (max a (max b (max c (max d (max e (max f (max g 0))))))) ≤ suc levels
+seven_deep a b c d e f g levels in_a in_b in_c in_d in_e in_f in_g =
+    let none : 0 ≤ levels = omega arith in
+    above (max-le in_a (max-le in_b (max-le in_c (max-le in_d (max-le in_e (max-le in_f (max-le in_g none)))))))
+
+zero_small : (levels : ℕ) → 0 ≤ levels
+zero_small levels = omega arith
+
+part_flat : (line : Line) → depth (part_data line) ≤ 3
+part_flat line =
+    six_deep _ _ 0 _ 0 _ 2 (text_small (failure_if_there line.said) 2) (above (none_deep count_data 1 (λ n. omega arith) line.items)) (zero_small 2) (text_small (operands_if_there line.said) 2) (zero_small 2) (text_small (value_if_there line.said) 2)
+
+evaluated_flat : (condition : EvaluatedCondition) → depth (evaluated_data condition) ≤ 5
+evaluated_flat condition =
+    seven_deep _ 0 _ 0 _ _ 0 4 (text_small (value_if_there condition.answer) 4) (zero_small 4) (text_small (failure_if_there condition.answer) 4) (zero_small 4) (text_small (operands_if_there condition.answer) 4) (above (none_deep part_data 3 part_flat condition.parts.lines)) (zero_small 4)
+
+change_flat : (change : Option Change) → depth (option_map_or change_data change null) ≤ 6
+change_flat (Some change) = rw (count_flat change.limits.count) (omega arith)
+change_flat None = omega arith
+
+finding_small : (reason : Reason) → depth (event_data reason.event) ≤ 6
+finding_small reason = let is = finding_flat reason.event reason.event.finding in omega arith
+
+reason_flat : (reason : Reason) → depth (reason_data reason) ≤ 7
+reason_flat reason =
+    six_deep _ _ _ _ _ _ 6 (above (none_deep evaluated_data 5 evaluated_flat reason.conditions)) (change_flat reason.change) (finding_small reason) (text_small (given_misfit reason.given) 6) (text_small (option_map why_words reason.why) 6) (text_small (given_value reason.given) 6)
+
+waiting_flat : (metric : MetricFacts) → depth (waiting_data metric) ≡ 3
+waiting_flat metric = rw (metric_flat metric, text_flat (waits_for metric.phase metric.limits metric.counts)) refl
+
+run_flat : (run : RunReasons) → depth (run_reasons_data run) ≤ 9
+run_flat run =
+    let events = above (none_deep reason_data 7 reason_flat run.reasons) in
+    let metrics = above (none_deep waiting_data 7 (λ metric. let is = waiting_flat metric in omega arith) run.metrics) in
+    two_deep _ _ 8 events metrics
+
+more : {a : ℕ} → a ≤ 11 → a ≤ max_depth
+more less = omega arith
+
+pub reasons_flat : (runs : List RunReasons) → depth (reasons_data runs) ≤ max_depth
+reasons_flat runs = more (one_deep _ 10 (above (none_deep run_reasons_data 9 run_flat runs)))

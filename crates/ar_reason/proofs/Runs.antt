@@ -1,0 +1,115 @@
+-- Runs, one after another.
+use Rattle.std.proofs.Common.{◌≡◌, ◌<◌, ◌≤◌, ℕ, suc, ◌+◌, Bool, true, false, List, [], ◌∷◌, ◌++◌, drop, flat_map, length, map, refl, sym, ◌∙◌, ap, subst, arith}
+use Rattle.std.specs.Prelude.{if◌then◌else◌, slice_index_or}
+use Rattle.serde_json.specs.Data.{Data}
+use Rattle.serde_json.specs.View.{view}
+use Rattle.serde_json.specs.declared.value.Value.{Value as Json}
+use Rattle.ar_limits.specs.Replay.{Replays, Standing}
+use Rattle.ar_limits.specs.declared.limits.Limits.{Limits}
+use Rattle.ar_bundle.specs.Bundle.{Bundle, events_of}
+use Rattle.ar_bundle.specs.Lawful.{numbers_of}
+use Rattle.ar_bundle.specs.declared.bundle.RunPart.{RunPart}
+use Rattle.ar_bundle.specs.declared.history.Entry.{Entry}
+use Rattle.ar_report.proofs.Lines.{no_item, no_more, none_left, one_more, one_seen, read_at, three}
+use Rattle.ar_report.specs.Facts.{facts_of_metrics}
+use Rattle.ar_report.specs.Private.Entries.{AreFound}
+use Rattle.ar_report.specs.Report.{run_line}
+use Rattle.ar_report.specs.ReportData.{run_with}
+use Rattle.ar_reason.specs.Private.Found.{AreFoundSteps, IsFoundStep}
+use Rattle.ar_reason.specs.Reason.{RunReasons, reason_of, reasons_from, run_reasons}
+use Rattle.ar_reason.specs.ReasonData.{reason_data, run_reasons_data, waiting_data}
+use Rattle.ar_reason.specs.ReasonText.{metric_lines, reason_text, run_reasons_text}
+use Rattle.ar_reason.specs.Steps.{chosen_steps, if_chosen, is_chosen, is_chosen_run, step_after, steps_after}
+use Rattle.ar_reason.specs.declared.chosen.Chosen.{Chosen}
+use Rattle.ar_reason.specs.declared.steps.Step.{Step}
+
+-- ---- what is known of the events that are chosen
+
+chosen_found : (bundle : Bundle) (chosen : Chosen) (step : Step) (later : List Step) → IsFoundStep bundle step → AreFoundSteps bundle later → AreFoundSteps bundle (if_chosen chosen step ++ later)
+chosen_found bundle chosen step later is all = by_case (is_chosen chosen step) where
+  by_case : (asked : Bool) → AreFoundSteps bundle ((if asked then step ∷ [] else []) ++ later)
+  by_case true = (is, all)
+  by_case false = all
+
+found_after : (bundle : Bundle) (chosen : Chosen) (limits : List Limits) (earlier entries : List Entry) → AreFound bundle entries → AreFoundSteps bundle (flat_map (if_chosen chosen) (steps_after bundle limits earlier entries))
+found_after bundle chosen limits earlier [] all = tt
+found_after bundle chosen limits earlier (entry ∷ entries) all =
+    chosen_found bundle chosen (step_after bundle limits earlier entry) _ all.0 (found_after bundle chosen limits (earlier ++ entry ∷ []) entries all.1)
+
+pub are_found : (bundle : Bundle) (chosen : Chosen) (limits : List Limits) (entries : List Entry) (steps : List Step) → AreFound bundle entries → steps ≡ chosen_steps bundle chosen limits entries → AreFoundSteps bundle steps
+are_found bundle chosen limits entries steps all is = subst (AreFoundSteps bundle) (sym is) (found_after bundle chosen limits [] entries all)
+
+-- ---- a run
+
+reasons_are : (document : Data) (bundle : Bundle) (chosen : Chosen) (run : RunPart) (entries : List Entry) (state : Standing) (steps : List Step) → Replays run.limits (events_of bundle (numbers_of entries)) state → steps ≡ chosen_steps bundle chosen run.limits entries
+    → run_reasons document bundle chosen run entries ≡ record { name = run.name; phase = state.phase; reasons = map (reason_of document bundle) steps; metrics = facts_of_metrics bundle.metrics run.limits state.phases state.counts }
+reasons_are document bundle chosen run entries state steps replays is =
+    let phase = replays.phase_is in
+    let phases = replays.phases_are in
+    let counts = replays.counts_are in
+    rw (phase, phases, counts, is) refl
+
+pub text_is : (document : Data) (bundle : Bundle) (chosen : Chosen) (run : RunPart) (entries : List Entry) (state : Standing) (steps : List Step) (before lined reasoned all : List ℕ) → Replays run.limits (events_of bundle (numbers_of entries)) state → steps ≡ chosen_steps bundle chosen run.limits entries
+    → lined ≡ before ++ run_line run.name state.phase → reasoned ≡ lined ++ flat_map reason_text (map (reason_of document bundle) steps) → all ≡ reasoned ++ flat_map metric_lines (facts_of_metrics bundle.metrics run.limits state.phases state.counts) → all ≡ before ++ run_reasons_text (run_reasons document bundle chosen run entries)
+text_is document bundle chosen run entries state steps before lined reasoned all replays is line reasons metrics =
+    three before lined reasoned all (run_line run.name state.phase) (flat_map reason_text (map (reason_of document bundle) steps)) (flat_map metric_lines (facts_of_metrics bundle.metrics run.limits state.phases state.counts)) line reasons metrics
+    ∙ ap (λ (facts : RunReasons). before ++ run_reasons_text facts) (sym (reasons_are document bundle chosen run entries state steps replays is))
+
+pub data_is : (document : Data) (bundle : Bundle) (chosen : Chosen) (run : RunPart) (entries : List Entry) (state : Standing) (steps : List Step) (metrics events : List Data) → Replays run.limits (events_of bundle (numbers_of entries)) state → steps ≡ chosen_steps bundle chosen run.limits entries
+    → metrics ≡ map waiting_data (facts_of_metrics bundle.metrics run.limits state.phases state.counts) → events ≡ map reason_data (map (reason_of document bundle) steps) → run_with run.name state.phase metrics events ≡ run_reasons_data (run_reasons document bundle chosen run entries)
+data_is document bundle chosen run entries state steps metrics events replays is metrics_are events_are =
+    rw (metrics_are, events_are) (ap run_reasons_data (sym (reasons_are document bundle chosen run entries state steps replays is)))
+
+-- ---- one after another
+
+run_read : (document : Data) (bundle : Bundle) (chosen : Chosen) (runs : List RunPart) (histories : List (List Entry)) (index : ℕ) (run : RunPart) (history : List Entry) → index < length runs → run ≡ slice_index_or runs index run → index < length histories → history ≡ slice_index_or histories index history
+    → reasons_from document bundle chosen index (drop index runs) (drop index histories) ≡ (if is_chosen_run bundle chosen index then run_reasons document bundle chosen run history ∷ [] else []) ++ reasons_from document bundle chosen (index + 1) (drop (index + 1) runs) (drop (index + 1) histories)
+run_read document bundle chosen runs histories index run history inside read history_inside history_read =
+    let next : suc index ≡ index + 1 = omega arith in
+    rw (read_at runs index run inside read, read_at histories index history history_inside history_read)
+    (ap (λ from. (if is_chosen_run bundle chosen index then run_reasons document bundle chosen run history ∷ [] else []) ++ reasons_from document bundle chosen from (drop (index + 1) runs) (drop (index + 1) histories)) next)
+
+read_chosen : (document : Data) (bundle : Bundle) (chosen : Chosen) (runs : List RunPart) (histories : List (List Entry)) (index : ℕ) (run : RunPart) (history : List Entry) → index < length runs → run ≡ slice_index_or runs index run → index < length histories → history ≡ slice_index_or histories index history → is_chosen_run bundle chosen index ≡ true
+    → reasons_from document bundle chosen index (drop index runs) (drop index histories) ≡ run_reasons document bundle chosen run history ∷ reasons_from document bundle chosen (index + 1) (drop (index + 1) runs) (drop (index + 1) histories)
+read_chosen document bundle chosen runs histories index run history inside read history_inside history_read is =
+    run_read document bundle chosen runs histories index run history inside read history_inside history_read
+    ∙ ap (λ asked. (if asked then run_reasons document bundle chosen run history ∷ [] else []) ++ reasons_from document bundle chosen (index + 1) (drop (index + 1) runs) (drop (index + 1) histories)) is
+
+-- a run that isn't asked for, whatever its history is
+read_unchosen : (document : Data) (bundle : Bundle) (chosen : Chosen) (runs : List RunPart) (histories : List (List Entry)) (index : ℕ) (run : RunPart) (history : List Entry) → index < length runs → run ≡ slice_index_or runs index run → index < length histories → history ≡ slice_index_or histories index history → is_chosen_run bundle chosen index ≡ false
+    → reasons_from document bundle chosen index (drop index runs) (drop index histories) ≡ reasons_from document bundle chosen (index + 1) (drop (index + 1) runs) (drop (index + 1) histories)
+read_unchosen document bundle chosen runs histories index run history inside read history_inside history_read is =
+    run_read document bundle chosen runs histories index run history inside read history_inside history_read
+    ∙ ap (λ asked. (if asked then run_reasons document bundle chosen run history ∷ [] else []) ++ reasons_from document bundle chosen (index + 1) (drop (index + 1) runs) (drop (index + 1) histories)) is
+
+none_there : (document : Data) (bundle : Bundle) (chosen : Chosen) (runs : List RunPart) (histories : List (List Entry)) (index : ℕ) → length runs ≤ index → reasons_from document bundle chosen index (drop index runs) (drop index histories) ≡ []
+none_there document bundle chosen runs histories index past = ap (λ runs. reasons_from document bundle chosen index runs (drop index histories)) (none_left runs index past)
+
+pub next_run : (document : Data) (bundle : Bundle) (chosen : Chosen) (runs : List RunPart) (histories : List (List Entry)) (index : ℕ) (run : RunPart) (history : List Entry) (written total : List ℕ) → index < length runs → run ≡ slice_index_or runs index run → index < length histories → history ≡ slice_index_or histories index history → is_chosen_run bundle chosen index ≡ true
+    → written ++ flat_map run_reasons_text (reasons_from document bundle chosen index (drop index runs) (drop index histories)) ≡ total → (written ++ run_reasons_text (run_reasons document bundle chosen run history)) ++ flat_map run_reasons_text (reasons_from document bundle chosen (index + 1) (drop (index + 1) runs) (drop (index + 1) histories)) ≡ total
+next_run document bundle chosen runs histories index run history written total inside read history_inside history_read is so_far =
+    one_more run_reasons_text _ _ (run_reasons document bundle chosen run history) written total (read_chosen document bundle chosen runs histories index run history inside read history_inside history_read is) so_far
+
+pub run_passed : (document : Data) (bundle : Bundle) (chosen : Chosen) (runs : List RunPart) (histories : List (List Entry)) (index : ℕ) (run : RunPart) (history : List Entry) (written total : List ℕ) → index < length runs → run ≡ slice_index_or runs index run → index < length histories → history ≡ slice_index_or histories index history → is_chosen_run bundle chosen index ≡ false
+    → written ++ flat_map run_reasons_text (reasons_from document bundle chosen index (drop index runs) (drop index histories)) ≡ total → written ++ flat_map run_reasons_text (reasons_from document bundle chosen (index + 1) (drop (index + 1) runs) (drop (index + 1) histories)) ≡ total
+run_passed document bundle chosen runs histories index run history written total inside read history_inside history_read is so_far =
+    ap (λ left. written ++ flat_map run_reasons_text left) (sym (read_unchosen document bundle chosen runs histories index run history inside read history_inside history_read is)) ∙ so_far
+
+pub no_run_left : (document : Data) (bundle : Bundle) (chosen : Chosen) (runs : List RunPart) (histories : List (List Entry)) (index : ℕ) (written total : List ℕ) → length runs ≤ index → written ++ flat_map run_reasons_text (reasons_from document bundle chosen index (drop index runs) (drop index histories)) ≡ total → written ≡ total
+no_run_left document bundle chosen runs histories index written total past so_far =
+    no_more run_reasons_text (reasons_from document bundle chosen index (drop index runs) (drop index histories)) written total (none_there document bundle chosen runs histories index past) so_far
+
+pub next_object : (document : Data) (bundle : Bundle) (chosen : Chosen) (runs : List RunPart) (histories : List (List Entry)) (index : ℕ) (run : RunPart) (history : List Entry) (found : List Json) (new : Json) (total : List Data) → index < length runs → run ≡ slice_index_or runs index run → index < length histories → history ≡ slice_index_or histories index history → is_chosen_run bundle chosen index ≡ true
+    → view new ≡ run_reasons_data (run_reasons document bundle chosen run history)
+    → map view found ++ map run_reasons_data (reasons_from document bundle chosen index (drop index runs) (drop index histories)) ≡ total → map view (found ++ new ∷ []) ++ map run_reasons_data (reasons_from document bundle chosen (index + 1) (drop (index + 1) runs) (drop (index + 1) histories)) ≡ total
+next_object document bundle chosen runs histories index run history found new total inside read history_inside history_read is made so_far =
+    one_seen view run_reasons_data _ _ (run_reasons document bundle chosen run history) found new total (read_chosen document bundle chosen runs histories index run history inside read history_inside history_read is) made so_far
+
+pub object_passed : (document : Data) (bundle : Bundle) (chosen : Chosen) (runs : List RunPart) (histories : List (List Entry)) (index : ℕ) (run : RunPart) (history : List Entry) (found : List Json) (total : List Data) → index < length runs → run ≡ slice_index_or runs index run → index < length histories → history ≡ slice_index_or histories index history → is_chosen_run bundle chosen index ≡ false
+    → map view found ++ map run_reasons_data (reasons_from document bundle chosen index (drop index runs) (drop index histories)) ≡ total → map view found ++ map run_reasons_data (reasons_from document bundle chosen (index + 1) (drop (index + 1) runs) (drop (index + 1) histories)) ≡ total
+object_passed document bundle chosen runs histories index run history found total inside read history_inside history_read is so_far =
+    ap (λ left. map view found ++ map run_reasons_data left) (sym (read_unchosen document bundle chosen runs histories index run history inside read history_inside history_read is)) ∙ so_far
+
+pub no_object_left : (document : Data) (bundle : Bundle) (chosen : Chosen) (runs : List RunPart) (histories : List (List Entry)) (index : ℕ) (found : List Json) (total : List Data) → length runs ≤ index → map view found ++ map run_reasons_data (reasons_from document bundle chosen index (drop index runs) (drop index histories)) ≡ total → map view found ≡ total
+no_object_left document bundle chosen runs histories index found total past so_far =
+    no_item run_reasons_data (reasons_from document bundle chosen index (drop index runs) (drop index histories)) (map view found) total (none_there document bundle chosen runs histories index past) so_far

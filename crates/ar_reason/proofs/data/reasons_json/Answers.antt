@@ -1,0 +1,25 @@
+use Rattle.std.proofs.Common.{◌≡◌, ◌≤◌, ◌∙◌, ap, codes, false, string_bytes, subst, sym}
+use Rattle.serde_json.specs.Data.{Data, depth}
+use Rattle.serde_json.specs.Read.{max_depth}
+use Rattle.serde_json.specs.View.{view}
+use Rattle.serde_json.specs.Written.{has_float}
+use Rattle.std.proofs.lemmas.Result.{IfOk-weaker}
+use Rattle.ar_report.specs.ReportData.{IsJsonLine, named_list}
+use Rattle.ar_reason.specs.Reason.{reasons_of}
+use Rattle.ar_reason.proofs.Objects.{reasons_exact, reasons_flat}
+use Rattle.ar_reason.proofs.data.reasons_json.Goals as goal
+
+pub json_line-requires-clause-exact : goal.json_line-requires-clause-exact
+json_line-requires-clause-exact c =
+    let is = c.in_ok-object.ensures ∙ ap (named_list (codes "runs")) c.in_ok-runs.ensures in
+    subst (λ (written : Data). has_float written ≡ false) (sym is) (reasons_exact (reasons_of (view c.args.document.now) c.args.bundle.now c.args.chosen c.args.histories.now))
+
+pub json_line-requires-clause-flat : goal.json_line-requires-clause-flat
+json_line-requires-clause-flat c =
+    let is = c.in_ok-object.ensures ∙ ap (named_list (codes "runs")) c.in_ok-runs.ensures in
+    subst (λ (written : Data). depth written ≤ max_depth) (sym is) (reasons_flat (reasons_of (view c.args.document.now) c.args.bundle.now c.args.chosen c.args.histories.now))
+
+pub returns : goal.returns
+returns c =
+    let is = c.in_ok-object.ensures ∙ ap (named_list (codes "runs")) c.in_ok-runs.ensures in
+    IfOk-weaker c.json_line.result _ _ (λ text. subst (λ (written : Data). IsJsonLine written (string_bytes text)) is) c.json_line.ensures

@@ -1,0 +1,178 @@
+-- What led to the verdict and the effect of each event of runs that is asked for.
+use Rattle.std.specs.Prelude.{ℕ, suc, Bool, true, false, if◌then◌else◌, List, [], ◌∷◌, ◌++◌, codes, map, slice_get, Option, Some, None, option_and_then, Result, Ok, Err}
+use Rattle.std.specs.List.{list_any}
+use Rattle.serde_json.specs.Data.{Data}
+use Rattle.serde_json.specs.Find.{at, get}
+use Rattle.ar_value.specs.Terms.{Text}
+use Rattle.ar_value.specs.Value.{Value}
+use Rattle.ar_value.specs.View.{shape_view}
+use Rattle.ar_tree.specs.Meaning.{mean}
+use Rattle.ar_tree.specs.Typed.{Typed}
+use Rattle.ar_judge.specs.Condition.{typed_text}
+use Rattle.ar_judge.specs.Headline.{Condition}
+use Rattle.ar_judge.specs.Verdict.{Judge, Sample, measured, misfit as unfit, provider, sample_view}
+use Rattle.ar_judge.specs.declared.error.BuildCause.{BuildCause}
+use Rattle.ar_limits.specs.Run.{metric_counts, metric_phases, run_phase}
+use Rattle.ar_limits.specs.declared.phase.Phase.{Phase}
+use Rattle.ar_bundle.specs.Bundle.{Bundle, events_of, judge_at}
+use Rattle.ar_bundle.specs.Event.{EventNumber}
+use Rattle.ar_bundle.specs.Lawful.{numbers_of}
+use Rattle.ar_bundle.specs.declared.bundle.EventPart.{EventPart}
+use Rattle.ar_bundle.specs.declared.bundle.MetricPart.{MetricPart}
+use Rattle.ar_bundle.specs.declared.bundle.RunPart.{RunPart}
+use Rattle.ar_bundle.specs.declared.bundle.What.{What}
+use Rattle.ar_bundle.specs.declared.bundle.What.TheVariants.{Measure, Stop}
+use Rattle.ar_bundle.specs.declared.history.Entry.{Entry}
+use Rattle.ar_explain.specs.Operands.{failed_on}
+use Rattle.ar_explain.specs.Lines.{Explanation, Outcome, earlier_lines, explained, failed, outcome_of, unneeded, valued}
+use Rattle.ar_misfit.specs.Misfit.{misfit}
+use Rattle.ar_misfit.specs.MisfitText.{misfit_text_of}
+use Rattle.ar_report.specs.Facts.{EventFacts, MetricFacts, event_facts, facts_of_metrics}
+use Rattle.ar_show.specs.Values.{shown_value}
+use Rattle.ar_reason.specs.Steps.{chosen_steps, is_chosen_run}
+use Rattle.ar_reason.specs.Why.{why_of}
+use Rattle.ar_reason.specs.declared.chosen.Chosen.{Chosen}
+use Rattle.ar_reason.specs.declared.steps.Change.{Change}
+use Rattle.ar_reason.specs.declared.steps.Step.{Step}
+use Rattle.ar_reason.specs.declared.why.Why.{Why}
+
+-- ---- what the provider of a metric gave
+
+pub data Given : Type 0 where
+  -- nothing: the event is a stop, or the provider failed
+  gave_nothing : Given
+  -- a value, which is shown so
+  gave_value : (text : Text) → Given
+  -- what doesn't fit the metric's shape: where, and what was expected
+  gave_misfit : (text : Text) → Given
+
+-- the value of a measurement, as the document has it
+abbrev pub measured_value : (document : Data) → (number : EventNumber) → Option Data
+measured_value document number =
+    option_and_then (get (codes "value")) (option_and_then (at number) (get (codes "measurements") document))
+
+abbrev pub misfit_words : (found : Option Data) → (metric : Option MetricPart) → Text
+misfit_words (Some found) (Some metric) = misfit_text_of (misfit (shape_view metric.shape) found)
+misfit_words found metric = []
+
+abbrev pub given_by : (misfit_there : Text) → Sample → Given
+given_by misfit_there provider = gave_nothing
+given_by misfit_there (unfit fault) = gave_misfit misfit_there
+given_by misfit_there (measured found) = gave_value (shown_value found)
+
+abbrev pub given_of : (document : Data) → Bundle → (number : EventNumber) → What → Given
+given_of document bundle number (Measure metric sample) =
+    given_by (misfit_words (measured_value document number) (slice_get bundle.metrics metric)) (sample_view sample)
+given_of document bundle number Stop = gave_nothing
+
+-- ---- what the conditions said of it
+
+-- a condition that was evaluated, its arguments put in
+pub record EvaluatedCondition : Type 0 where
+  -- success or failure
+  pub which : Text
+  pub text : Text
+  pub tree : Typed
+  pub parts : Explanation
+  pub answer : Outcome
+
+abbrev pub evaluated_with : (which text : Text) → Value → Typed → EvaluatedCondition
+evaluated_with which text found tree = record {
+  which = which;
+  text = text;
+  tree = tree;
+  parts = explained (earlier_lines found None tree);
+  answer = outcome_of (mean found None tree) (failed_on found None tree);
+}
+
+-- the conditions of a bundle have trees, so that all of them are there
+abbrev pub evaluated : (which text : Text) → Value → Result Typed BuildCause → List EvaluatedCondition
+evaluated which text found (Ok tree) = evaluated_with which text found tree ∷ []
+evaluated which text found (Err cause) = []
+
+abbrev pub evaluated_if_there : (which : Text) → Value → Option Condition → List EvaluatedCondition
+evaluated_if_there which found None = []
+evaluated_if_there which found (Some condition) =
+    evaluated which condition.text found (typed_text (shape_view condition.verified.shape) condition.text)
+
+abbrev pub is_failure : Outcome → Bool
+is_failure (failed failure on) = true
+is_failure (valued text) = false
+is_failure unneeded = false
+
+abbrev pub has_failed : EvaluatedCondition → Bool
+has_failed condition = is_failure condition.answer
+
+-- where the success condition fails, the failure condition isn't evaluated
+abbrev pub after_success : (success failure : List EvaluatedCondition) → List EvaluatedCondition
+after_success success failure = if list_any has_failed success then success else success ++ failure
+
+abbrev pub conditions_on : Judge → Value → List EvaluatedCondition
+conditions_on judge found = after_success (evaluated_if_there (codes "success") found judge.success)
+    (evaluated_if_there (codes "failure") found judge.failure)
+
+abbrev pub conditions_by : Option Judge → Sample → List EvaluatedCondition
+conditions_by (Some judge) (measured found) = conditions_on judge found
+conditions_by judge sample = []
+
+abbrev pub conditions_of : Bundle → (run : ℕ) → What → List EvaluatedCondition
+conditions_of bundle run (Measure metric sample) = conditions_by (judge_at bundle run metric) (sample_view sample)
+conditions_of bundle run Stop = []
+
+-- ---- an event
+
+pub record Reason : Type 0 where
+  pub event : EventFacts
+  pub given : Given
+  pub conditions : List EvaluatedCondition
+  pub change : Option Change
+  pub why : Option Why
+
+abbrev pub reason_with : EventFacts → Given → List EvaluatedCondition → Step → Reason
+reason_with event given conditions step = record {
+  event = event;
+  given = given;
+  conditions = conditions;
+  change = step.change;
+  why = why_of step;
+}
+
+-- an entry that is there; a history has no other
+abbrev pub reason_if_there : (document : Data) → Bundle → Step → Option EventPart → Reason
+reason_if_there document bundle step (Some part) =
+    reason_with (event_facts bundle step.entry.number step.entry.effect)
+    (given_of document bundle step.entry.number part.what) (conditions_of bundle part.run part.what) step
+reason_if_there document bundle step None =
+    reason_with (event_facts bundle step.entry.number step.entry.effect) gave_nothing [] step
+
+abbrev pub reason_of : (document : Data) → Bundle → Step → Reason
+reason_of document bundle step = reason_if_there document bundle step (slice_get bundle.entries step.entry.number)
+
+-- ---- runs
+
+pub record RunReasons : Type 0 where
+  pub name : Text
+  pub phase : Phase
+  pub reasons : List Reason
+  pub metrics : List MetricFacts
+
+abbrev pub run_reasons : (document : Data) → Bundle → Chosen → RunPart → (history : List Entry) → RunReasons
+run_reasons document bundle chosen run history = record {
+  name = run.name;
+  phase = run_phase run.limits (events_of bundle (numbers_of history));
+  reasons = map (reason_of document bundle) (chosen_steps bundle chosen run.limits history);
+  metrics = facts_of_metrics bundle.metrics run.limits
+      (metric_phases run.limits (events_of bundle (numbers_of history)))
+      (metric_counts run.limits (events_of bundle (numbers_of history)));
+}
+
+-- the runs that are asked for, counting runs from one
+abbrev pub reasons_from : (document : Data) → Bundle → Chosen → (from : ℕ) → List RunPart → List (List Entry)
+    → List RunReasons
+reasons_from document bundle chosen from (run ∷ runs) (history ∷ histories) =
+    (if is_chosen_run bundle chosen from then run_reasons document bundle chosen run history ∷ [] else [])
+    ++ reasons_from document bundle chosen (suc from) runs histories
+reasons_from document bundle chosen from runs histories = []
+
+abbrev pub reasons_of : (document : Data) → Bundle → Chosen → List (List Entry) → List RunReasons
+reasons_of document bundle chosen histories = reasons_from document bundle chosen 0 bundle.runs histories

@@ -1,0 +1,96 @@
+-- The text of reasons: the line of each run, the lines of its events, and those of its metrics.
+use Rattle.std.specs.Prelude.{ℕ, ◌==◌, if◌then◌else◌, List, [], ◌++◌, codes, decimal, flat_map, Option, Some, None}
+use Rattle.ar_value.specs.Fault.{fault_name}
+use Rattle.ar_value.specs.Operators.{Failure, faulted, ill_kinded}
+use Rattle.ar_value.specs.Terms.{Text}
+use Rattle.ar_limits.specs.declared.phase.Phase.{Phase}
+use Rattle.ar_explain.specs.Lines.{Explanation, Line, Outcome, failed, unneeded, valued}
+use Rattle.ar_report.specs.Facts.{MetricFacts}
+use Rattle.ar_report.specs.Names.{phase_name}
+use Rattle.ar_report.specs.Report.{event_line, metric_line, run_line}
+use Rattle.ar_show.specs.PartText.{shown_part}
+use Rattle.ar_reason.specs.Counts.{changed_counts}
+use Rattle.ar_reason.specs.Reason.{EvaluatedCondition, Given, Reason, RunReasons, gave_misfit, gave_nothing, gave_value}
+use Rattle.ar_reason.specs.Waiting.{waits_for}
+use Rattle.ar_reason.specs.Why.{why_words}
+use Rattle.ar_reason.specs.declared.steps.Change.{Change}
+use Rattle.ar_reason.specs.declared.why.Why.{Why}
+
+-- ---- the lines of a condition
+
+abbrev pub failure_name : Failure → Text
+failure_name (faulted fault) = fault_name fault
+failure_name ill_kinded = codes "IllKinded"
+
+-- on which operands a failure arose, where it arose in this part and not in one inside
+abbrev pub operands_text : (on : Option Text) → Text
+operands_text None = []
+operands_text (Some on) = codes ": " ++ on
+
+abbrev pub said_text : Outcome → Text
+said_text (valued text) = codes " = " ++ text
+said_text (failed failure on) = codes ": " ++ (failure_name failure ++ operands_text on)
+said_text unneeded = codes ": not needed"
+
+-- the number of an item on which a predicate's body was evaluated
+unfoldable pub item_text : ℕ → Text
+item_text number = codes "item " ++ (decimal number ++ codes ": ")
+
+unfoldable pub part_line : Line → Text
+part_line line =
+    codes "    " ++ (flat_map item_text line.items ++ (shown_part line.part ++ (said_text line.said ++ codes "\n")))
+
+abbrev pub left_out_line : (left_out : ℕ) → Text
+left_out_line left_out =
+    if left_out == 0 then [] else codes "    and " ++ (decimal left_out ++ codes " more lines\n")
+
+abbrev pub parts_text : Explanation → Text
+parts_text parts = flat_map part_line parts.lines ++ left_out_line parts.left_out
+
+-- the condition, its parts in the order of evaluation, and its answer
+unfoldable pub condition_text : EvaluatedCondition → Text
+condition_text condition =
+    (codes "  " ++ (condition.which ++ (codes ": " ++ (shown_part condition.tree ++ codes "\n"))))
+    ++ (parts_text condition.parts ++ (codes "    answer" ++ (said_text condition.answer ++ codes "\n")))
+
+-- ---- the lines of an event
+
+abbrev pub given_line : Given → Text
+given_line gave_nothing = []
+given_line (gave_value text) = codes "  value: " ++ (text ++ codes "\n")
+given_line (gave_misfit text) = codes "  misfit: " ++ (text ++ codes "\n")
+
+-- a stop changes no counts
+abbrev pub change_line : Option Change → Text
+change_line None = []
+change_line (Some change) =
+    codes "  counts: " ++ (changed_counts change.limits change.before.counts change.after.counts ++ codes "\n")
+
+abbrev pub why_line : Option Why → Text
+why_line None = []
+why_line (Some why) = codes "  " ++ (why_words why ++ codes "\n")
+
+abbrev pub outcome_lines : Reason → Text
+outcome_lines reason = change_line reason.change ++ why_line reason.why
+
+abbrev pub reason_text : Reason → Text
+reason_text reason =
+    (event_line reason.event ++ given_line reason.given)
+    ++ (flat_map condition_text reason.conditions ++ outcome_lines reason)
+
+-- ---- the lines of a run
+
+abbrev pub waits_line : Phase → (waits : Option Text) → Text
+waits_line phase None = []
+waits_line phase (Some text) = codes "  " ++ (phase_name phase ++ (codes ": " ++ (text ++ codes "\n")))
+
+abbrev pub metric_lines : MetricFacts → Text
+metric_lines metric =
+    metric_line metric ++ waits_line metric.phase (waits_for metric.phase metric.limits metric.counts)
+
+abbrev pub run_reasons_text : RunReasons → Text
+run_reasons_text run =
+    run_line run.name run.phase ++ (flat_map reason_text run.reasons ++ flat_map metric_lines run.metrics)
+
+abbrev pub reasons_text : List RunReasons → Text
+reasons_text runs = flat_map run_reasons_text runs

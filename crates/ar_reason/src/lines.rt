@@ -1,0 +1,274 @@
+//! The lines of events, metrics and runs.
+
+ghost use Rattle.std.specs.Prelude.{◌≡◌, ◌≤◌, ◌++◌, IfOk, OnOk, Some, codes, flat_map, length, map, option_map, slice_get, string_bytes};
+ghost use Rattle.serde_json.specs.View.{view};
+ghost use Rattle.ar_limits.specs.Replay.{most_events};
+ghost use Rattle.ar_bundle.specs.Bundle.{finding_at, judge_at};
+ghost use Rattle.ar_bundle.specs.Lawful.{AreHistoriesSoFar};
+ghost use Rattle.ar_bundle.specs.Sound.{IsRun};
+ghost use Rattle.ar_judge.specs.Verdict.{sample_view};
+ghost use Rattle.ar_report.specs.Facts.{facts_of_metrics, metric_facts};
+ghost use Rattle.ar_report.specs.Private.Entries.{AreFound};
+ghost use Rattle.ar_reason.specs.Reason.{conditions_by, conditions_of, reason_of, reasons_of, run_reasons};
+ghost use Rattle.ar_reason.specs.ReasonText.{change_line, condition_text, given_line, metric_lines, outcome_lines, reason_text, reasons_text, run_reasons_text, waits_line, why_line};
+ghost use Rattle.ar_reason.specs.Views.{given_view};
+ghost use Rattle.ar_reason.specs.Waiting.{waits_for};
+ghost use Rattle.ar_reason.specs.Why.{why_of};
+ghost use Rattle.ar_reason.specs.Private.Found.{AreFoundSteps};
+
+use crate::chosen::Chosen;
+use crate::counts::push_counts;
+use crate::given::{Given, given_of};
+use crate::parts::push_conditions;
+use crate::steps::{Change, Step, is_chosen_run, steps_of};
+use crate::waiting::push_waiting;
+use crate::why::{Why, push_why, why_of};
+use ar_bundle::{Bundle, Entry, Histories, MetricPart, RunPart, What};
+use ar_judge::{Judge, Sample};
+use ar_limits::{Counts, Limits, Phase, RunState};
+use ar_report::{phase_name, put_event, put_metric, put_run_line};
+use serde_json::Value as Json;
+use std::alloc::{AllocError, Global};
+
+// ---- events
+
+fn push_line(out: &mut String, name: &str, text: &str) -> Result<(), AllocError>
+    ensures { OnOk result (string_bytes out.new ≡ string_bytes out.old ++ (name.now ++ (text.now ++ codes "\n"))) }
+{
+    out.push_str(name)?;
+    out.push_str(text)?;
+    out.push_str("\n")
+}
+
+fn push_given(out: &mut String, given: &Given) -> Result<(), AllocError>
+    ensures { OnOk result (string_bytes out.new ≡ string_bytes out.old ++ given_line (given_view given.now)) }
+{
+    match given {
+        Given::Nothing => Ok(()),
+        Given::Value(text) => push_line(out, "  value: ", text),
+        Given::Misfit(text) => push_line(out, "  misfit: ", text),
+    }
+}
+
+fn push_change(out: &mut String, change: Option<Change>) -> Result<(), AllocError>
+    ensures { OnOk result (string_bytes out.new ≡ string_bytes out.old ++ change_line change) }
+{
+    let Some(change) = change else {
+        return Ok(());
+    };
+    out.push_str("  counts: ")?;
+    push_counts(
+        out,
+        change.limits,
+        change.before.counts,
+        change.after.counts,
+    )?;
+    out.push_str("\n")
+}
+
+fn push_why_line(out: &mut String, why: Option<Why>) -> Result<(), AllocError>
+    ensures { OnOk result (string_bytes out.new ≡ string_bytes out.old ++ why_line why) }
+{
+    let Some(why) = why else {
+        return Ok(());
+    };
+    out.push_str("  ")?;
+    push_why(out, why)?;
+    out.push_str("\n")
+}
+
+fn push_judged(
+    alloc: Global,
+    out: &mut String,
+    judge: Option<&Judge>,
+    sample: &Sample,
+) -> Result<(), AllocError>
+    ensures { OnOk result (string_bytes out.new ≡ string_bytes out.old ++ flat_map condition_text
+        (conditions_by (option_map (λ judge. judge.now) judge.entry) (sample_view sample.now))) }
+{
+    match (judge, sample) {
+        (Some(judge), Sample::Measured(value)) => push_conditions(alloc, out, judge, value),
+        (_, Sample::Measured(_) | Sample::Misfit(_) | Sample::Provider) => Ok(()),
+    }
+}
+
+/// The judge of a run for a metric.
+pub(crate) fn judge_at(bundle: &Bundle, run: usize, metric: usize) -> Option<&Judge>
+    ensures { option_map (λ judge. judge.now) result ≡ judge_at bundle.now run metric }
+{
+    bundle.runs().get(run)?.judges.as_slice().get(metric)
+}
+
+fn push_evaluated(
+    alloc: Global,
+    out: &mut String,
+    bundle: &Bundle,
+    run: usize,
+    what: &What,
+) -> Result<(), AllocError>
+    ensures { OnOk result (string_bytes out.new ≡ string_bytes out.old
+        ++ flat_map condition_text (conditions_of bundle.now run what.now)) }
+{
+    match what {
+        What::Measure(metric, sample) => {
+            push_judged(alloc, out, judge_at(bundle, run, *metric), sample)
+        }
+        What::Stop => Ok(()),
+    }
+}
+
+fn push_outcome(out: &mut String, step: Step) -> Result<(), AllocError>
+    ensures { OnOk result
+        (string_bytes out.new ≡ string_bytes out.old ++ (change_line step.change ++ why_line (why_of step))) }
+{
+    push_change(out, step.change)?;
+    push_why_line(out, why_of(step))
+}
+
+/// The lines of an event.
+#[tactic(auto, using(ar_report::proofs::Lines::found_inside))]
+fn push_reason(
+    alloc: Global,
+    out: &mut String,
+    document: &Json,
+    bundle: &Bundle,
+    step: Step,
+) -> Result<(), AllocError>
+    requires { finding_at bundle.now step.entry.number ≡ Some step.entry.finding }
+    ensures { OnOk result (string_bytes out.new ≡ string_bytes out.old
+        ++ reason_text (reason_of (view document.now) bundle.now step)) }
+{
+    let number = step.entry.number;
+    let part = &bundle.entries()[number as usize];
+    let given = given_of(alloc, document, bundle, number, &part.what)?;
+    put_event(out, bundle, step.entry)?;
+    push_given(out, &given)?;
+    push_evaluated(alloc, out, bundle, part.run, &part.what)?;
+    push_outcome(out, step)
+}
+
+#[tactic(auto, using(crate::proofs::Events::next_step, crate::proofs::Events::no_step_left, crate::proofs::Events::is_found))]
+fn push_reasons(
+    alloc: Global,
+    out: &mut String,
+    document: &Json,
+    bundle: &Bundle,
+    steps: &[Step],
+) -> Result<(), AllocError>
+    requires { AreFoundSteps bundle.now steps.now }
+    ensures { OnOk result (string_bytes out.new ≡ string_bytes out.old
+        ++ flat_map reason_text (map (reason_of (view document.now) bundle.now) steps.now)) }
+{
+    for step in steps {
+        push_reason(alloc, out, document, bundle, *step)?;
+    }
+    Ok(())
+}
+
+// ---- metrics
+
+fn push_waits(
+    out: &mut String,
+    phase: Phase,
+    limits: Limits,
+    counts: Counts,
+) -> Result<(), AllocError>
+    ensures { OnOk result (string_bytes out.new ≡ string_bytes out.old
+        ++ waits_line phase (waits_for phase limits counts)) }
+{
+    if phase.is_complete() {
+        return Ok(());
+    }
+    out.push_str("  ")?;
+    out.push_str(phase_name(phase))?;
+    out.push_str(": ")?;
+    push_waiting(out, limits, counts)?;
+    out.push_str("\n")
+}
+
+fn push_metric(
+    out: &mut String,
+    metric: &MetricPart,
+    limits: Limits,
+    phase: Phase,
+    counts: Counts,
+) -> Result<(), AllocError>
+    ensures { OnOk result (string_bytes out.new ≡ string_bytes out.old
+        ++ metric_lines (metric_facts metric.now limits phase counts)) }
+{
+    put_metric(out, metric, limits, phase, counts)?;
+    push_waits(out, phase, limits, counts)
+}
+
+/// The lines of a run's metrics, as the run is.
+#[tactic(auto, using(crate::proofs::Metrics::next_metric, crate::proofs::Metrics::no_metric_left))]
+fn push_metrics(
+    out: &mut String,
+    metrics: &[MetricPart],
+    limits: &[Limits],
+    state: &RunState,
+) -> Result<(), AllocError>
+    requires limits { length limits.now ≡ length metrics.now }
+    requires metrics { length state.now.limits ≡ length metrics.now }
+    ensures { OnOk result (string_bytes out.new ≡ string_bytes out.old
+        ++ flat_map metric_lines (facts_of_metrics metrics.now limits.now state.now.phases state.now.counts)) }
+{
+    for (number, metric) in metrics.iter().enumerate() {
+        let (phase, counts) = (state.metric_phase(number), state.counts(number));
+        push_metric(out, metric, limits[number], phase, counts)?;
+    }
+    Ok(())
+}
+
+// ---- runs
+
+/// The lines of a run.
+#[tactic(auto, using(crate::proofs::Runs::text_is, crate::proofs::Runs::are_found))]
+fn push_run(
+    alloc: Global,
+    out: &mut String,
+    document: &Json,
+    bundle: &Bundle,
+    chosen: Chosen,
+    run: &RunPart,
+    entries: &[Entry],
+) -> Result<(), AllocError>
+    requires run { IsRun bundle.now.metrics run.now }
+    requires found { AreFound bundle.now entries.now }
+    requires few { length entries.now ≤ most_events }
+    ensures { OnOk result (string_bytes out.new ≡ string_bytes out.old
+        ++ run_reasons_text (run_reasons (view document.now) bundle.now chosen run.now entries.now)) }
+{
+    let found = steps_of(alloc, bundle, chosen, run, entries)?;
+    put_run_line(out, run, found.state.phase())?;
+    push_reasons(alloc, out, document, bundle, &found.steps)?;
+    push_metrics(out, bundle.metrics(), run.limits.as_slice(), &found.state)
+}
+
+/// What led to the verdict and the effect of each event that is asked for, in lines.
+///
+/// # Errors
+///
+/// Out of memory alone.
+#[tactic(auto, using(ar_report::proofs::Runs::has_history, ar_report::proofs::Runs::run_is_run, crate::proofs::Runs::next_run, crate::proofs::Runs::run_passed, crate::proofs::Runs::no_run_left))]
+pub fn reasons_text(
+    alloc: Global,
+    document: &Json,
+    bundle: &Bundle,
+    histories: &Histories,
+    chosen: Chosen,
+) -> Result<String, AllocError>
+    requires { AreHistoriesSoFar bundle.now histories.now }
+    ensures { IfOk result (λ text. string_bytes text
+        ≡ reasons_text (reasons_of (view document.now) bundle.now chosen histories.now)) }
+{
+    let mut out = String::new(alloc);
+    let histories = histories.runs();
+    for (number, run) in bundle.runs().iter().enumerate() {
+        let entries = histories[number].entries();
+        if is_chosen_run(bundle, chosen, number) {
+            push_run(alloc, &mut out, document, bundle, chosen, run, entries)?;
+        }
+    }
+    Ok(out)
+}

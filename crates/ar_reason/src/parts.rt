@@ -1,0 +1,209 @@
+//! The lines of a condition that was evaluated: its parts in the order of evaluation, and its answer.
+
+ghost use Rattle.std.specs.Prelude.{◌≡◌, ◌++◌, IfOk, OnOk, codes, flat_map, map, option_map, string_bytes};
+ghost use Rattle.std.specs.List.{list_any};
+ghost use Rattle.ar_value.specs.View.{value_view};
+ghost use Rattle.ar_tested.specs.Failures.{failure_of};
+ghost use Rattle.ar_tree.specs.Views.{typed_view};
+ghost use Rattle.ar_explain.specs.Views.{explanation_view, line_view, said_view};
+ghost use Rattle.ar_show.specs.PartText.{shown_part};
+ghost use Rattle.ar_reason.specs.Reason.{conditions_on, evaluated_if_there, evaluated_with, has_failed, is_failure};
+ghost use Rattle.ar_reason.specs.ReasonText.{condition_text, failure_name, item_text, left_out_line, operands_text, part_line, parts_text, said_text};
+
+use crate::evaluated::{NamedTree, tree_of};
+use ar_explain::{Explanation, Line, Said, tell};
+use ar_judge::{Judge, SharedCondition, Which};
+use ar_show::push_part;
+use ar_tested::operand::Failure;
+use ar_tree::Typed;
+use ar_value::value::Value;
+use std::alloc::{AllocError, Global};
+use std::fmt::Write;
+
+pub(crate) fn failure_name(failure: Failure) -> &'static str
+    ensures { result.now ≡ failure_name (failure_of failure) }
+{
+    match failure {
+        Failure::Fault(fault) => fault.name(),
+        Failure::IllKinded => "IllKinded",
+    }
+}
+
+/// On which operands a failure arose, if it arose in the part.
+fn push_operands(out: &mut String, on: &Option<String>) -> Result<(), AllocError>
+    ensures { OnOk result (string_bytes out.new ≡ string_bytes out.old
+        ++ operands_text (option_map (λ on. string_bytes on) on.now)) }
+{
+    match on {
+        None => Ok(()),
+        Some(on) => {
+            out.push_str(": ")?;
+            out.push_str(on)
+        }
+    }
+}
+
+fn push_said(out: &mut String, said: &Said) -> Result<(), AllocError>
+    ensures { OnOk result (string_bytes out.new ≡ string_bytes out.old ++ said_text (said_view said.now)) }
+{
+    match said {
+        Said::Valued(text) => {
+            out.push_str(" = ")?;
+            out.push_str(text)
+        }
+        Said::Failed(failure, on) => {
+            out.push_str(": ")?;
+            out.push_str(failure_name(*failure))?;
+            push_operands(out, on)
+        }
+        Said::Unneeded => out.push_str(": not needed"),
+    }
+}
+
+/// The numbers of the items on which the bodies of predicates were evaluated.
+#[tactic(auto, using(crate::proofs::Lists::next_item, crate::proofs::Lists::no_item_left), unfolding(crate::specs::ReasonText::item_text))]
+fn push_items(out: &mut String, items: &[usize]) -> Result<(), AllocError>
+    ensures { OnOk result (string_bytes out.new ≡ string_bytes out.old ++ flat_map item_text items.now) }
+{
+    for number in items {
+        write!(out, "item {number}: ")?;
+    }
+    Ok(())
+}
+
+#[tactic(auto, unfolding(crate::specs::ReasonText::part_line))]
+fn push_part_line(out: &mut String, line: &Line<'_>) -> Result<(), AllocError>
+    ensures { OnOk result (string_bytes out.new ≡ string_bytes out.old ++ part_line (line_view line.now)) }
+{
+    out.push_str("    ")?;
+    push_items(out, &line.items)?;
+    push_part(out, line.part)?;
+    push_said(out, &line.said)?;
+    out.push_str("\n")
+}
+
+#[tactic(auto, using(crate::proofs::Lists::next_line, crate::proofs::Lists::no_line_left))]
+fn push_lines(out: &mut String, lines: &[Line<'_>]) -> Result<(), AllocError>
+    ensures { OnOk result
+        (string_bytes out.new ≡ string_bytes out.old ++ flat_map part_line (map line_view lines.now)) }
+{
+    for line in lines {
+        push_part_line(out, line)?;
+    }
+    Ok(())
+}
+
+fn push_left_out(out: &mut String, left_out: u64) -> Result<(), AllocError>
+    ensures { OnOk result (string_bytes out.new ≡ string_bytes out.old ++ left_out_line left_out) }
+{
+    if left_out == 0 {
+        return Ok(());
+    }
+    write!(out, "    and {left_out} more lines\n")
+}
+
+fn push_parts(out: &mut String, parts: &Explanation<'_>) -> Result<(), AllocError>
+    ensures { OnOk result
+        (string_bytes out.new ≡ string_bytes out.old ++ parts_text (explanation_view parts.now)) }
+{
+    push_lines(out, &parts.lines)?;
+    push_left_out(out, parts.left_out)
+}
+
+/// Whether a condition has failed.
+pub(crate) fn is_failure(said: &Said) -> bool
+    ensures { result ≡ is_failure (said_view said.now) }
+{
+    matches!(said, Said::Failed(..))
+}
+
+fn push_head(out: &mut String, which: &str, tree: &Typed) -> Result<(), AllocError>
+    ensures { OnOk result (string_bytes out.new ≡ string_bytes out.old
+        ++ (codes "  " ++ (which.now ++ (codes ": " ++ (shown_part (typed_view tree.now) ++ codes "\n"))))) }
+{
+    out.push_str("  ")?;
+    out.push_str(which)?;
+    out.push_str(": ")?;
+    push_part(out, tree)?;
+    out.push_str("\n")
+}
+
+fn push_answer(out: &mut String, answer: &Said) -> Result<(), AllocError>
+    ensures { OnOk result (string_bytes out.new ≡ string_bytes out.old
+        ++ (codes "    answer" ++ (said_text (said_view answer.now) ++ codes "\n"))) }
+{
+    out.push_str("    answer")?;
+    push_said(out, answer)?;
+    out.push_str("\n")
+}
+
+/// A condition's tree on a value, and whether it has failed there.
+#[tactic(auto, unfolding(crate::specs::ReasonText::condition_text))]
+fn push_tree(
+    alloc: Global,
+    out: &mut String,
+    condition: &NamedTree<'_>,
+    value: &Value,
+) -> Result<bool, AllocError>
+    ensures text { OnOk result (string_bytes out.new ≡ string_bytes out.old
+        ++ condition_text (evaluated_with condition.now.which.now condition.now.text.now (value_view value.now)
+        (typed_view condition.now.tree.now))) }
+    ensures fails { IfOk result (λ failed. failed ≡ has_failed (evaluated_with condition.now.which.now
+        condition.now.text.now (value_view value.now) (typed_view condition.now.tree.now))) }
+{
+    let evaluation = tell(alloc, condition.tree, value)?;
+    push_head(out, condition.which, condition.tree)?;
+    push_parts(out, &evaluation.parts)?;
+    push_answer(out, &evaluation.answer)?;
+    Ok(is_failure(&evaluation.answer))
+}
+
+/// A condition on a value, where it is there, and whether it has failed.
+fn push_condition(
+    alloc: Global,
+    out: &mut String,
+    which: &str,
+    condition: Option<&SharedCondition>,
+    value: &Value,
+) -> Result<bool, AllocError>
+    ensures text { OnOk result (string_bytes out.new ≡ string_bytes out.old
+        ++ flat_map condition_text (evaluated_if_there which.now (value_view value.now)
+        (option_map (λ condition. condition.now) condition.entry))) }
+    ensures fails { IfOk result (λ failed. failed ≡ list_any has_failed (evaluated_if_there which.now
+        (value_view value.now) (option_map (λ condition. condition.now) condition.entry))) }
+{
+    let Some(condition) = condition else {
+        return Ok(false);
+    };
+    let condition = condition.get();
+    match tree_of(alloc, condition)? {
+        Some(tree) => {
+            let named = NamedTree {
+                which,
+                text: condition.text(),
+                tree: &tree,
+            };
+            push_tree(alloc, out, &named, value)
+        }
+        None => Ok(false),
+    }
+}
+
+/// What a judge's conditions say of a value.
+pub(crate) fn push_conditions(
+    alloc: Global,
+    out: &mut String,
+    judge: &Judge,
+    value: &Value,
+) -> Result<(), AllocError>
+    ensures { OnOk result (string_bytes out.new ≡ string_bytes out.old
+        ++ flat_map condition_text (conditions_on judge.now (value_view value.now))) }
+{
+    let success = judge.condition(Which::Success);
+    if push_condition(alloc, out, "success", success, value)? {
+        return Ok(());
+    }
+    let failure = judge.condition(Which::Failure);
+    push_condition(alloc, out, "failure", failure, value)?;
+    Ok(())
+}

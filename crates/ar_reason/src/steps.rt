@@ -1,0 +1,172 @@
+//! What each event of a run's history did to its metric.
+
+ghost use Rattle.std.specs.Prelude.{◌≡◌, ◌+◌, ◌<◌, ◌≤◌, ◌∷◌, ◌++◌, [], IfOk, List, Some, length};
+ghost use Rattle.ar_limits.specs.Replay.{ForEachReplay, IsOfMetricBelow, Replays, TakesEvent, most_events};
+ghost use Rattle.ar_bundle.specs.Bundle.{events_of, finding_at};
+ghost use Rattle.ar_bundle.specs.Lawful.{numbers_of};
+ghost use Rattle.ar_bundle.specs.Sound.{IsRun};
+ghost use Rattle.ar_report.specs.Private.Entries.{AreFound};
+ghost use Rattle.ar_reason.specs.Private.Found.{closer_or};
+ghost use Rattle.ar_reason.specs.Steps.{chosen_steps, closes, is_chosen, is_chosen_run, is_of_metric, own_change, metric_after, step_after};
+
+use crate::chosen::Chosen;
+use ar_bundle::{Bundle, Entry, RunPart};
+use ar_limits::{Counts, Effect, Event, Limits, Phase, RunState};
+use std::alloc::{AllocError, Global};
+
+/// A metric of a run at some time.
+#[derive(Clone, Copy)]
+pub struct MetricState {
+    pub phase: Phase,
+    pub counts: Counts,
+}
+
+/// What an event did to its metric.
+#[derive(Clone, Copy)]
+pub struct Change {
+    pub metric: usize,
+    pub limits: Limits,
+    pub before: MetricState,
+    pub after: MetricState,
+}
+
+/// An event of a run's history.
+#[derive(Clone, Copy)]
+pub struct Step {
+    pub entry: Entry,
+    /// Nothing where it is a stop.
+    pub change: Option<Change>,
+    /// The event before it that had closed the run, if one had.
+    pub closer: Option<u64>,
+}
+
+/// The events that are asked for, and the run after all of its events.
+#[derive(Drop)]
+pub struct Steps {
+    pub steps: Vec<Step>,
+    pub state: RunState,
+}
+
+fn state_of(state: &RunState, metric: usize) -> MetricState
+    requires { metric < length state.now.limits }
+    ensures { ForEachReplay state.now (λ limits events. metric_after limits events metric ≡ Some result) }
+{
+    MetricState {
+        phase: state.metric_phase(metric),
+        counts: state.counts(metric),
+    }
+}
+
+/// Hands an event to a run, and returns what it did to its metric.
+fn apply(state: &mut RunState, limits: &[Limits], event: Event) -> Option<Change>
+    requires room { state.old.handed < most_events }
+    requires metric { IsOfMetricBelow (length state.old.limits) event }
+    requires limits { state.old.limits ≡ limits.now }
+    ensures replays { ForEachReplay state.old (λ limits events. Replays limits (events ++ event ∷ []) state.new) }
+    ensures change { ForEachReplay state.old (λ limits events. own_change limits events event ≡ result) }
+    ensures limits { state.new.limits ≡ state.old.limits }
+    ensures handed { state.new.handed ≡ state.old.handed + 1 }
+{
+    let Event::Mark(metric, _) = event else {
+        state.apply(event);
+        return None;
+    };
+    let before = state_of(state, metric);
+    state.apply(event);
+    Some(Change {
+        metric,
+        limits: limits[metric],
+        before,
+        after: state_of(state, metric),
+    })
+}
+
+fn closes(effect: Effect) -> bool
+    ensures { result ≡ closes effect }
+{
+    match effect {
+        Effect::Closed(_) => true,
+        Effect::Applied | Effect::Late => false,
+    }
+}
+
+/// The event that closed the run after one event more.
+fn closer_after(closer: Option<u64>, entry: Entry) -> Option<u64>
+    ensures { result ≡ closer_or closer entry }
+{
+    match closer {
+        Some(number) => Some(number),
+        None if closes(entry.effect) => Some(entry.number),
+        None => None,
+    }
+}
+
+fn is_of_metric(metric: usize, change: Option<Change>) -> bool
+    ensures { result ≡ is_of_metric metric change }
+{
+    match change {
+        Some(change) => change.metric == metric,
+        None => true,
+    }
+}
+
+fn is_chosen(chosen: Chosen, step: Step) -> bool
+    ensures { result ≡ is_chosen chosen step }
+{
+    match chosen {
+        Chosen::All | Chosen::Run(_) => true,
+        Chosen::Event(number) => step.entry.number == number,
+        Chosen::Metric(metric) => is_of_metric(metric, step.change),
+    }
+}
+
+/// The events of a run's history that are asked for, each with what it did to its metric.
+#[tactic(auto, using(ar_report::proofs::Lines::is_found, ar_report::proofs::Replaying::no_entry_left, ar_report::proofs::Replaying::of_metric, ar_report::proofs::Replaying::room_left, crate::proofs::Histories::none_chosen_left))]
+pub(crate) fn steps_of(
+    alloc: Global,
+    bundle: &Bundle,
+    chosen: Chosen,
+    run: &RunPart,
+    entries: &[Entry],
+) -> Result<Steps, AllocError>
+    requires run { IsRun bundle.now.metrics run.now }
+    requires found { AreFound bundle.now entries.now }
+    requires few { length entries.now ≤ most_events }
+    ensures state { IfOk result
+        (λ found. Replays run.now.limits (events_of bundle.now (numbers_of entries.now)) found.state) }
+    ensures steps { IfOk result
+        (λ found. found.steps.items ≡ chosen_steps bundle.now chosen run.now.limits entries.now) }
+{
+    let limits = run.limits.as_slice();
+    let mut state = RunState::new(alloc, limits)?;
+    let mut steps = Vec::new(alloc);
+    let mut closer = None;
+    for entry in entries {
+        let event = bundle.event(entry.number, entry.finding);
+        let change = apply(&mut state, limits, event);
+        let step = Step {
+            entry: *entry,
+            change,
+            closer,
+        };
+        if is_chosen(chosen, step) {
+            steps.push(step)?;
+        }
+        closer = closer_after(closer, *entry);
+    }
+    Ok(Steps { steps, state })
+}
+
+/// Whether events of a run are asked for.
+pub(crate) fn is_chosen_run(bundle: &Bundle, chosen: Chosen, run: usize) -> bool
+    ensures { result ≡ is_chosen_run bundle.now chosen run }
+{
+    match chosen {
+        Chosen::All | Chosen::Metric(_) => true,
+        Chosen::Event(number) => match bundle.entries().get(number as usize) {
+            Some(entry) => entry.run == run,
+            None => false,
+        },
+        Chosen::Run(own) => own == run,
+    }
+}
