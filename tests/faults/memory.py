@@ -9,9 +9,11 @@ from errors import is_out_of_memory, is_without_thread, is_without_warnings
 from program import ROOT
 
 EXAMPLE = ROOT / 'examples/bundles/success-rate'
+EXPLAINED = [ROOT / 'examples/explain' / name for name in ('dry-and-bound', 'fault-in-a-filter', 'misfit')]
 WITH_WORKERS = ('run --workers 2', 'run --ordered --workers 2')
 # A report is made of lists whose first growth is asked for again where it was refused. Nothing else is.
 MAY_CARRY_ON = WITH_WORKERS + ('run --plain',)
+REPORTS = MAY_CARRY_ON + ('explain',)
 MOST_GROWTHS = 5_000
 # A document of a template takes at least this many growths, and a command line this many.
 OF_TEMPLATE, OF_WORDS = 100, 20
@@ -32,7 +34,7 @@ class Case(NamedTuple):
 def jobs(program):
     """What is refused, each as a job that can run at the same time as the others; the longest first."""
     made = [partial(refuse_workers, program, words) for words in WITH_WORKERS]
-    cases = cases_of_bundles() + cases_of_eval() + cases_of_json() + other_cases(program)
+    cases = cases_of_bundles() + cases_of_eval() + cases_of_json() + cases_of_explain(program) + other_cases(program)
     made += [partial(refuse_growths, program, case) for case in cases]
     return made + [partial(refuse_threads, program, words) for words in ('run', 'run --ordered')]
 
@@ -48,6 +50,18 @@ def cases_of_eval():
 
 def cases_of_json():
     return [Case(words, words, text, answer, 20) for words, (text, answer) in AS_JSON.items()]
+
+
+def cases_of_explain(program):
+    """As lines, which the examples have, and as JSON, which has to be what is written with ample memory."""
+    made = []
+    for path in EXPLAINED:
+        text = path.with_suffix('.json').read_text(encoding='utf-8')
+        lines = Answer(0, path.with_suffix('.stdout').read_text(encoding='utf-8'))
+        made.append(Case(f'explain, {path.name}', 'explain', text, lines, OF_TEMPLATE))
+        words = 'explain --output json'
+        made.append(Case(f'{words}, {path.name}', words, text, Answer(0, program.start(words, input=text.encode()).output), OF_TEMPLATE))
+    return made
 
 
 def other_cases(program):
@@ -71,7 +85,7 @@ def has_ended_as_it_may(ended, words, answer):
         return True
     if words == 'check' and is_without_warnings(ended, answer):
         return True
-    return words in MAY_CARRY_ON and is_answer(ended, answer, words)
+    return words in REPORTS and is_answer(ended, answer, words)
 
 
 def refuse_growths(program, case, counts):
