@@ -37,13 +37,12 @@ use ar_explain::{Evaluation, Line, Said, tell};
 use ar_judge::{Judge, Sample, SharedCondition, Which};
 use ar_limits::{Counts, Limits, Phase, RunState};
 use ar_report::{
-    counts_json, event_json, json_line, limits_json, metric_json, run_object, runs_object,
-    text_or_null,
+    Object, counts_json, event_json, json_line, limits_json, metric_json, run_object, runs_object,
 };
 use ar_show::push_part;
 use ar_tree::Typed;
 use ar_value::value::Value;
-use serde_json::{Value as Json, json};
+use serde_json::Value as Json;
 use std::alloc::{AllocError, Global};
 
 // ---- the parts of a condition
@@ -104,19 +103,16 @@ fn numbers_json(alloc: Global, numbers: &[usize]) -> Result<Vec<Json>, AllocErro
 fn part_json(alloc: Global, line: &Line<'_>) -> Result<Json, AllocError>
     ensures { IfOk result (λ json. view json ≡ part_data (line_view line.now)) }
 {
-    let failure = text_or_null(alloc, failure_if_there(&line.said))?;
     let items = numbers_json(alloc, &line.items)?;
-    let on = text_or_null(alloc, operands_if_there(&line.said))?;
     let part = shown(alloc, line.part)?;
-    let value = text_or_null(alloc, value_if_there(&line.said))?;
-    json!(in alloc; {
-        "failure": failure,
-        "items": items,
-        "needed": was_needed(&line.said),
-        "on": on,
-        "part": part.as_str(),
-        "value": value
-    })
+    let mut object = Object::new(alloc);
+    object.put_text_if_there("failure", failure_if_there(&line.said));
+    object.put_list("items", items);
+    object.put_flag("needed", was_needed(&line.said));
+    object.put_text_if_there("on", operands_if_there(&line.said));
+    object.put_text("part", &part);
+    object.put_text_if_there("value", value_if_there(&line.said));
+    object.finish()
 }
 
 #[tactic(auto, using(crate::proofs::Lists::next_part, crate::proofs::Lists::no_part_left))]
@@ -141,19 +137,30 @@ fn evaluation_json(
         ≡ evaluation_data which.now text.now (explanation_view evaluation.now.parts)
         (said_view evaluation.now.answer)) }
 {
-    let answer = text_or_null(alloc, value_if_there(&evaluation.answer))?;
-    let failure = text_or_null(alloc, failure_if_there(&evaluation.answer))?;
-    let on = text_or_null(alloc, operands_if_there(&evaluation.answer))?;
     let parts = parts_json(alloc, &evaluation.parts.lines)?;
-    json!(in alloc; {
-        "answer": answer,
-        "condition": which,
-        "failure": failure,
-        "leftOut": evaluation.parts.left_out,
-        "on": on,
-        "parts": parts,
-        "text": text
-    })
+    let mut object = Object::new(alloc);
+    object.put_text_if_there("answer", value_if_there(&evaluation.answer));
+    object.put_text("condition", which);
+    object.put_text_if_there("failure", failure_if_there(&evaluation.answer));
+    object.put_count("leftOut", evaluation.parts.left_out);
+    object.put_text_if_there("on", operands_if_there(&evaluation.answer));
+    object.put_list("parts", parts);
+    object.put_text("text", text);
+    object.finish()
+}
+
+fn push_evaluation(
+    alloc: Global,
+    found: &mut Vec<Json>,
+    condition: &NamedTree<'_>,
+    evaluation: &Evaluation<'_>,
+) -> Result<(), AllocError>
+    ensures { OnOk result (map view found.new.items ≡ map view found.old.items
+        ++ evaluation_data condition.now.which.now condition.now.text.now (explanation_view evaluation.now.parts)
+        (said_view evaluation.now.answer) ∷ []) }
+{
+    found.push(evaluation_json(alloc, condition.which, condition.text, evaluation)?)?;
+    Ok(())
 }
 
 /// Adds the object of a condition's tree on a value, and returns whether the condition has failed there.
@@ -170,7 +177,7 @@ fn push_tree(
         condition.now.text.now (value_view value.now) (typed_view condition.now.tree.now))) }
 {
     let evaluation = tell(alloc, condition.tree, value)?;
-    found.push(evaluation_json(alloc, condition.which, condition.text, &evaluation)?)?;
+    push_evaluation(alloc, found, condition, &evaluation)?;
     Ok(is_failure(&evaluation.answer))
 }
 
@@ -252,18 +259,6 @@ fn evaluated_json(
     }
 }
 
-fn value_json(alloc: Global, given: &Given) -> Result<Json, AllocError>
-    ensures { IfOk result (λ json. view json ≡ text_or_null (given_value (given_view given.now))) }
-{
-    text_or_null(alloc, given_value(given))
-}
-
-fn misfit_json(alloc: Global, given: &Given) -> Result<Json, AllocError>
-    ensures { IfOk result (λ json. view json ≡ text_or_null (given_misfit (given_view given.now))) }
-{
-    text_or_null(alloc, given_misfit(given))
-}
-
 fn given_value(given: &Given) -> Option<&str>
     ensures { option_map (λ text. text.now) result ≡ given_value (given_view given.now) }
 {
@@ -288,10 +283,11 @@ fn change_json(alloc: Global, change: Option<Change>) -> Result<Json, AllocError
     let Some(change) = change else {
         return Ok(Json::Null);
     };
-    let after = counts_json(alloc, change.after.counts)?;
-    let before = counts_json(alloc, change.before.counts)?;
-    let limits = limits_json(alloc, change.limits)?;
-    json!(in alloc; {"after": after, "before": before, "limits": limits})
+    let mut object = Object::new(alloc);
+    object.put("after", counts_json(alloc, change.after.counts));
+    object.put("before", counts_json(alloc, change.before.counts));
+    object.put("limits", limits_json(alloc, change.limits));
+    object.finish()
 }
 
 fn why_json(alloc: Global, step: Step) -> Result<Json, AllocError>
@@ -303,28 +299,6 @@ fn why_json(alloc: Global, step: Step) -> Result<Json, AllocError>
     let mut words = String::new(alloc);
     push_why(&mut words, why)?;
     Json::try_from_str(alloc, &words)
-}
-
-fn reason_object(
-    alloc: Global,
-    conditions: Vec<Json>,
-    counts: Json,
-    event: Json,
-    misfit: Json,
-    reason: Json,
-    value: Json,
-) -> Result<Json, AllocError>
-    ensures { IfOk result (λ json. view json ≡ reason_members (map view conditions.items) (view counts)
-        (view event) (view misfit) (view reason) (view value)) }
-{
-    json!(in alloc; {
-        "conditions": conditions,
-        "counts": counts,
-        "event": event,
-        "misfit": misfit,
-        "reason": reason,
-        "value": value
-    })
 }
 
 #[tactic(auto, using(ar_report::proofs::Lines::found_inside))]
@@ -342,12 +316,14 @@ fn reason_json(
     let part = &bundle.entries()[number as usize];
     let given = given_of(alloc, document, bundle, number, &part.what)?;
     let conditions = evaluated_json(alloc, bundle, part.run, &part.what)?;
-    let counts = change_json(alloc, step.change)?;
-    let event = event_json(alloc, bundle, step.entry)?;
-    let misfit = misfit_json(alloc, &given)?;
-    let reason = why_json(alloc, step)?;
-    let value = value_json(alloc, &given)?;
-    reason_object(alloc, conditions, counts, event, misfit, reason, value)
+    let mut object = Object::new(alloc);
+    object.put_list("conditions", conditions);
+    object.put("counts", change_json(alloc, step.change));
+    object.put("event", event_json(alloc, bundle, step.entry));
+    object.put_text_if_there("misfit", given_misfit(&given));
+    object.put("reason", why_json(alloc, step));
+    object.put_text_if_there("value", given_value(&given));
+    object.finish()
 }
 
 #[tactic(auto, using(crate::proofs::Events::next_reason, crate::proofs::Events::no_reason_left, crate::proofs::Events::is_found))]
@@ -396,9 +372,10 @@ fn waiting_json(
     ensures { IfOk result
         (λ json. view json ≡ waiting_data (metric_facts metric.now limits phase counts)) }
 {
-    let waits = waits_json(alloc, phase, limits, counts)?;
-    let metric = metric_json(alloc, metric, limits, phase, counts)?;
-    json!(in alloc; {"metric": metric, "waitsFor": waits})
+    let mut object = Object::new(alloc);
+    object.put("metric", metric_json(alloc, metric, limits, phase, counts));
+    object.put("waitsFor", waits_json(alloc, phase, limits, counts));
+    object.finish()
 }
 
 /// A run's metrics, as the run is.

@@ -4,3 +4,4 @@ pub mod Facts
 pub mod Report
 pub mod Check
 pub mod ReportData
+pub mod Making

@@ -1,6 +1,6 @@
 //! Reports as JSON.
 
-ghost use Rattle.std.specs.Prelude.{◌≡◌, ◌≤◌, IfOk, Some, codes, false, length, map, option_map, string_bytes};
+ghost use Rattle.std.specs.Prelude.{◌≡◌, ◌≤◌, IfOk, Some, codes, false, length, map, string_bytes};
 ghost use Rattle.serde_json.specs.Data.{depth};
 ghost use Rattle.serde_json.specs.Read.{max_depth};
 ghost use Rattle.serde_json.specs.View.{view};
@@ -13,9 +13,10 @@ ghost use Rattle.ar_bundle.specs.Sound.{IsRun};
 ghost use Rattle.ar_report.specs.Facts.{check_facts, event_facts, facts_of_metrics, finding_facts, judged, metric_facts, report_facts, run_facts, stopped};
 ghost use Rattle.ar_report.specs.Private.Entries.{AreFound, facts_of_entries};
 ghost use Rattle.ar_report.specs.Private.Shown.{condition_seen, conditions_seen};
-ghost use Rattle.ar_report.specs.ReportData.{IsJsonLine, answer_data, check_data, condition_data, counts_data, event_data, finding_data, limits_data, metric_data, named_list, report_data, run_data, run_with, text_or_null};
+ghost use Rattle.ar_report.specs.ReportData.{IsJsonLine, answer_data, check_data, condition_data, counts_data, event_data, finding_data, limits_data, metric_data, named_list, report_data, run_data, run_with};
 
 use crate::conditions::{NamedCondition, conditions};
+use crate::making::Object;
 use crate::names::{
     cause_if_error, closed_as, effect_name, fault_if_error, phase_name, verdict_name,
 };
@@ -24,21 +25,11 @@ use ar_bundle::{Bundle, Entry, Finding, Histories, MetricPart, RunPart, What};
 use ar_judge::Verdict;
 use ar_limits::{Counts, Effect, Limits, Phase, RunState};
 use ar_value::Fault;
-use serde_json::{Value as Json, json};
+use serde_json::Value as Json;
 use std::alloc::{AllocError, Global};
 
 /// The version of the form of these documents.
 const VERSION: u64 = 1;
-
-/// A text, or null where there is none.
-pub fn text_or_null(alloc: Global, text: Option<&str>) -> Result<Json, AllocError>
-    ensures { IfOk result (λ json. view json ≡ text_or_null (option_map (λ text. text.now) text.entry)) }
-{
-    match text {
-        Some(text) => Json::try_from_str(alloc, text),
-        None => Ok(Json::Null),
-    }
-}
 
 /// The text of an object, and a line feed.
 ///
@@ -62,25 +53,25 @@ pub fn json_line(alloc: Global, object: &Json) -> Result<String, AllocError>
 pub fn counts_json(alloc: Global, counts: Counts) -> Result<Json, AllocError>
     ensures { IfOk result (λ json. view json ≡ counts_data counts) }
 {
-    json!(in alloc; {
-        "consecutiveError": counts.succession,
-        "error": counts.error,
-        "failed": counts.failed,
-        "inconclusive": counts.inconclusive,
-        "successful": counts.successful
-    })
+    let mut object = Object::new(alloc);
+    object.put_count("consecutiveError", counts.succession);
+    object.put_count("error", counts.error);
+    object.put_count("failed", counts.failed);
+    object.put_count("inconclusive", counts.inconclusive);
+    object.put_count("successful", counts.successful);
+    object.finish()
 }
 
 /// The limits of a metric.
 pub fn limits_json(alloc: Global, own: Limits) -> Result<Json, AllocError>
     ensures { IfOk result (λ json. view json ≡ limits_data own) }
 {
-    json!(in alloc; {
-        "consecutiveErrorLimit": own.consecutive_error,
-        "count": own.count,
-        "failureLimit": own.failure,
-        "inconclusiveLimit": own.inconclusive
-    })
+    let mut object = Object::new(alloc);
+    object.put_count("consecutiveErrorLimit", own.consecutive_error as u64);
+    object.put_count_if_there("count", own.count);
+    object.put_count("failureLimit", own.failure as u64);
+    object.put_count("inconclusiveLimit", own.inconclusive as u64);
+    object.finish()
 }
 
 /// A metric with its phase and counts.
@@ -93,15 +84,13 @@ pub fn metric_json(
 ) -> Result<Json, AllocError>
     ensures { IfOk result (λ json. view json ≡ metric_data (metric_facts metric.now own phase counts)) }
 {
-    let counts = counts_json(alloc, counts)?;
-    let limits = limits_json(alloc, own)?;
-    json!(in alloc; {
-        "counts": counts,
-        "dryRun": own.dry,
-        "limits": limits,
-        "name": metric.name.as_str(),
-        "phase": phase_name(phase)
-    })
+    let mut object = Object::new(alloc);
+    object.put("counts", counts_json(alloc, counts));
+    object.put_flag("dryRun", own.dry);
+    object.put("limits", limits_json(alloc, own));
+    object.put_text("name", metric.name.as_str());
+    object.put_text("phase", phase_name(phase));
+    object.finish()
 }
 
 /// A run's metrics, as the run is.
@@ -137,35 +126,31 @@ fn judged_json(
 ) -> Result<Json, AllocError>
     ensures { IfOk result (λ json. view json ≡ finding_data number effect (judged metric.now verdict)) }
 {
-    let cause = text_or_null(alloc, cause_if_error(verdict))?;
-    let fault = text_or_null(alloc, fault_if_error(verdict))?;
-    let phase = text_or_null(alloc, closed_as(effect))?;
-    json!(in alloc; {
-        "cause": cause,
-        "effect": effect_name(effect),
-        "fault": fault,
-        "metric": metric,
-        "number": number,
-        "phase": phase,
-        "stop": false,
-        "verdict": verdict_name(verdict)
-    })
+    let mut object = Object::new(alloc);
+    object.put_text_if_there("cause", cause_if_error(verdict));
+    object.put_text("effect", effect_name(effect));
+    object.put_text_if_there("fault", fault_if_error(verdict));
+    object.put_text("metric", metric);
+    object.put_count("number", number);
+    object.put_text_if_there("phase", closed_as(effect));
+    object.put_flag("stop", false);
+    object.put_text("verdict", verdict_name(verdict));
+    object.finish()
 }
 
 fn stop_json(alloc: Global, number: u64, effect: Effect) -> Result<Json, AllocError>
     ensures { IfOk result (λ json. view json ≡ finding_data number effect stopped) }
 {
-    let phase = text_or_null(alloc, closed_as(effect))?;
-    json!(in alloc; {
-        "cause": null,
-        "effect": effect_name(effect),
-        "fault": null,
-        "metric": null,
-        "number": number,
-        "phase": phase,
-        "stop": true,
-        "verdict": null
-    })
+    let mut object = Object::new(alloc);
+    object.put_null("cause");
+    object.put_text("effect", effect_name(effect));
+    object.put_null("fault");
+    object.put_null("metric");
+    object.put_count("number", number);
+    object.put_text_if_there("phase", closed_as(effect));
+    object.put_flag("stop", true);
+    object.put_null("verdict");
+    object.finish()
 }
 
 /// What happened to a run, by its finding.
@@ -227,12 +212,12 @@ pub fn run_object(
     ensures { IfOk result
         (λ json. view json ≡ run_with name.now phase (map view metrics.items) (map view events.items)) }
 {
-    json!(in alloc; {
-        "events": events,
-        "metrics": metrics,
-        "name": name,
-        "phase": phase_name(phase)
-    })
+    let mut object = Object::new(alloc);
+    object.put_list("events", events);
+    object.put_list("metrics", metrics);
+    object.put_text("name", name);
+    object.put_text("phase", phase_name(phase));
+    object.finish()
 }
 
 #[tactic(auto, using(crate::proofs::Objects::run_is))]
@@ -274,7 +259,10 @@ fn runs_json(alloc: Global, bundle: &Bundle, histories: &Histories) -> Result<Ve
 pub fn runs_object(alloc: Global, runs: Vec<Json>) -> Result<Json, AllocError>
     ensures { IfOk result (λ json. view json ≡ named_list (codes "runs") (map view runs.items)) }
 {
-    json!(in alloc; {"runs": runs, "version": VERSION})
+    let mut object = Object::new(alloc);
+    object.put_list("runs", runs);
+    object.put_count("version", VERSION);
+    object.finish()
 }
 
 /// The report of a bundle's runs by their histories as one JSON object, with the facts of
@@ -302,14 +290,14 @@ pub fn report_json(
 fn condition_json(alloc: Global, condition: NamedCondition<'_>) -> Result<Json, AllocError>
     ensures { IfOk result (λ json. view json ≡ condition_data (condition_seen condition.entry)) }
 {
-    json!(in alloc; {
-        "budget": condition.verified.budget(),
-        "condition": condition.which,
-        "depth": condition.verified.depth(),
-        "metric": condition.metric,
-        "operations": condition.verified.code().ops().len(),
-        "run": condition.run
-    })
+    let mut object = Object::new(alloc);
+    object.put_count("budget", condition.verified.budget());
+    object.put_text("condition", condition.which);
+    object.put_count("depth", condition.verified.depth() as u64);
+    object.put_text("metric", condition.metric);
+    object.put_count("operations", condition.verified.code().ops().len() as u64);
+    object.put_text("run", condition.run);
+    object.finish()
 }
 
 #[tactic(auto, using(crate::proofs::Shown::next_condition, crate::proofs::Shown::no_condition))]
@@ -331,7 +319,10 @@ fn check_object(alloc: Global, conditions: Vec<Json>) -> Result<Json, AllocError
     ensures { IfOk result
         (λ json. view json ≡ named_list (codes "conditions") (map view conditions.items)) }
 {
-    json!(in alloc; {"conditions": conditions, "version": VERSION})
+    let mut object = Object::new(alloc);
+    object.put_list("conditions", conditions);
+    object.put_count("version", VERSION);
+    object.finish()
 }
 
 /// The bounds of each condition of a bundle as one JSON object, with the facts of
@@ -354,12 +345,19 @@ pub fn check_json(alloc: Global, bundle: &Bundle) -> Result<String, AllocError>
 fn answer_object(alloc: Global, answer: Result<bool, Fault>) -> Result<Json, AllocError>
     ensures { IfOk result (λ json. view json ≡ answer_data answer) }
 {
+    let mut object = Object::new(alloc);
     match answer {
-        Ok(holds) => json!(in alloc; {"answer": holds, "fault": null, "version": VERSION}),
+        Ok(holds) => {
+            object.put_flag("answer", holds);
+            object.put_null("fault");
+        }
         Err(fault) => {
-            json!(in alloc; {"answer": null, "fault": fault.name(), "version": VERSION})
+            object.put_null("answer");
+            object.put_text("fault", fault.name());
         }
     }
+    object.put_count("version", VERSION);
+    object.finish()
 }
 
 /// What a condition says of a value, as one JSON object.

@@ -13,6 +13,7 @@
 //! - `conditions`: the conditions of a bundle, and their lines
 //! - `json`: the objects of reports, conditions and answers
 //! - [`laws`]: that the object of a report determines its facts
+//! - `making`: an object that is being made, member by member
 //! - `names`: phases, verdicts and effects as they are printed
 //! - `reports`: the lines of a report, and the phases of runs
 #![tactic(auto)]
@@ -20,13 +21,15 @@
 mod conditions;
 mod json;
 pub mod laws;
+mod making;
 mod names;
 mod reports;
 
 pub use conditions::{check_text, list_text};
 pub use json::{
     answer_json, check_json, counts_json, event_json, json_line, limits_json, metric_json,
-    report_json, run_object, runs_object, text_or_null,
+    report_json, run_object, runs_object,
 };
+pub use making::Object;
 pub use names::{phase_name, put_verdict};
 pub use reports::{put_event, put_metric, put_run_line, report, run_phases};
