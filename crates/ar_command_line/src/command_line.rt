@@ -1,7 +1,7 @@
 //! The command line, read with `clap`.
 
-ghost use Rattle.std.specs.Prelude.{◌≡◌, ◌≢◌, ◌≤◌, [], codes, false, is_some, Err, IfOk, IsErr, Ok};
-ghost use Rattle.clap.specs.Words.{app_of, fault_of, found_of, kind_of, new_app, rows_of, rule_of, subcommand_rows_of, with_rule};
+ghost use Rattle.std.specs.Prelude.{◌≡◌, ◌≢◌, ◌≤◌, [], codes, false, is_some, Err, IfOk, IsErr, IsTrue, Ok};
+ghost use Rattle.clap.specs.Words.{App, app_of, fault_of, found_of, kind_of, new_app, rows_of, rule_of, subcommand_rows_of, with_rule, with_subcommand};
 ghost use Rattle.ar_command_line.specs.CommandLine.{AsksForText, application, command_named, explain_app, explain_command, flag_named, has_flag, is_request, format_named, format_of, named, number_of_workers, option_named, program, run_app, run_command, texts_of, with_output, without_run, workers_of, AsksForCommand};
 ghost use Rattle.ar_command_line.specs.Task.{asked};
 
@@ -249,29 +249,41 @@ fn has_flag(matches: &ArgMatches<'_>, name: &str) -> bool
 fn application<'a>(alloc: Global) -> Result<clap::Command<'a>, AllocError>
     ensures { IfOk result (λ command. app_of command ≡ application) }
 {
-    let run = run(alloc)?;
-    let explain = explain(alloc)?;
-    without_run(alloc)?.subcommand(run)?.subcommand(explain)
+    let with_run = with_subcommand(without_run(alloc)?, run(alloc))?;
+    with_subcommand(with_run, explain(alloc))
 }
 
 /// The command line but for the subcommands that make a run.
 fn without_run<'a>(alloc: Global) -> Result<clap::Command<'a>, AllocError>
     ensures { IfOk result (λ command. app_of command ≡ without_run) }
 {
-    program(alloc)
-        .subcommand(with_output(alloc, "eval", "Judge one condition on one value", EVAL_HELP)?)?
-        .subcommand(with_output(
-            alloc,
-            "check",
-            "Check a document, and print what its conditions cost at most",
-            CHECK_HELP,
-        )?)?
-        .subcommand(subcommand(
-            alloc,
-            "list",
-            "Check a document, and list the code of its conditions",
-            LIST_HELP,
-        ))
+    let eval = with_output(alloc, "eval", "Judge one condition on one value", EVAL_HELP);
+    let with_eval = with_subcommand(program(alloc), eval)?;
+    let check = with_output(
+        alloc,
+        "check",
+        "Check a document, and print what its conditions cost at most",
+        CHECK_HELP,
+    );
+    let with_check = with_subcommand(with_eval, check)?;
+    let list = subcommand(
+        alloc,
+        "list",
+        "Check a document, and list the code of its conditions",
+        LIST_HELP,
+    );
+    with_subcommand(with_check, Ok(list))
+}
+
+/// A command with one more subcommand, if that could be made.
+fn with_subcommand<'a>(
+    command: clap::Command<'a>,
+    subcommand: Result<clap::Command<'a>, AllocError>,
+) -> Result<clap::Command<'a>, AllocError>
+    ensures { (added : App) → IfOk subcommand.entry (λ subcommand. app_of subcommand ≡ added)
+        → IsTrue added.top.is_plain → IfOk result (λ both. app_of both ≡ with_subcommand (app_of command.entry) added.top) }
+{
+    command.subcommand(subcommand?)
 }
 
 /// The program's own part of the command line.
@@ -315,65 +327,116 @@ fn with_output<'a>(
 ) -> Result<clap::Command<'a>, AllocError>
     ensures { IfOk result (λ command. app_of command ≡ with_output name.entry.now) }
 {
-    subcommand(alloc, name, about, help).arg(option(
+    with_option(
+        Ok(subcommand(alloc, name, about, help)),
         alloc,
         "output",
         "FORMAT",
         "How the answer is written: `text`, which is the default, or `json`, one object in one line",
-    ))
+    )
 }
 
 /// The subcommand `run`.
 fn run<'a>(alloc: Global) -> Result<clap::Command<'a>, AllocError>
     ensures { IfOk result (λ command. app_of command ≡ run_app) }
 {
-    with_output(
+    let run = with_output(
         alloc,
         "run",
         "Judge a document's measurements, and report its runs",
         RUN_HELP,
-    )?
-    .arg(option(
+    );
+    let run = with_option(
+        run,
         alloc,
         "workers",
         "N",
         "How many workers judge, 1 to 16, 4 unless it is given; workers are threads that judge side by side",
-    ))?
-    .arg(flag(
+    );
+    let run = with_flag(
+        run,
         alloc,
         "plain",
         "Judge without workers, one measurement after another; --workers is then checked, but not used",
-    ))?
-    .arg(flag(
+    );
+    with_flag(
+        run,
         alloc,
         "ordered",
         "Judge with workers, and report what --plain does: the events of a run are in the order of their numbers",
-    ))
+    )
 }
 
 /// The subcommand `explain`.
 fn explain<'a>(alloc: Global) -> Result<clap::Command<'a>, AllocError>
     ensures { IfOk result (λ command. app_of command ≡ explain_app) }
 {
-    with_output(
+    let explain = with_output(
         alloc,
         "explain",
         "Make the plain run of a document, and say what led to each event's verdict and effect",
         EXPLAIN_HELP,
-    )?
-    .arg(option(
+    );
+    let explain = with_option(
+        explain,
         alloc,
         "event",
         "N",
         "Explain the event with this number alone, its place in `measurements`, from 0",
-    ))?
-    .arg(option(alloc, "run", "NAME", "Explain the events of this run alone"))?
-    .arg(option(
+    );
+    let explain = with_option(
+        explain,
+        alloc,
+        "run",
+        "NAME",
+        "Explain the events of this run alone",
+    );
+    with_option(
+        explain,
         alloc,
         "metric",
         "NAME",
         "Explain the events of this metric alone, in each run",
-    ))
+    )
+}
+
+/// A command with one more option that takes a value, if the command could be made.
+fn with_option<'a>(
+    command: Result<clap::Command<'a>, AllocError>,
+    alloc: Global,
+    name: &'a str,
+    value: &'a str,
+    help: &'a str,
+) -> Result<clap::Command<'a>, AllocError>
+    ensures { (app : App) → IfOk command.entry (λ command. app_of command ≡ app)
+        → IfOk result (λ more. app_of more ≡ with_rule app (option_named name.entry.now)) }
+{
+    with_arg(command, option(alloc, name, value, help))
+}
+
+/// A command with one more option that takes no value, if the command could be made.
+fn with_flag<'a>(
+    command: Result<clap::Command<'a>, AllocError>,
+    alloc: Global,
+    name: &'a str,
+    help: &'a str,
+) -> Result<clap::Command<'a>, AllocError>
+    ensures { (app : App) → IfOk command.entry (λ command. app_of command ≡ app)
+        → IfOk result (λ more. app_of more ≡ with_rule app (flag_named name.entry.now)) }
+{
+    with_arg(command, flag(alloc, name, help))
+}
+
+/// A command with one more argument, if the command could be made.
+fn with_arg<'a>(
+    command: Result<clap::Command<'a>, AllocError>,
+    arg: Arg<'a>,
+) -> Result<clap::Command<'a>, AllocError>
+    requires { arg.global ≡ false }
+    ensures { (app : App) → IfOk command.entry (λ command. app_of command ≡ app)
+        → IfOk result (λ more. app_of more ≡ with_rule app (rule_of arg.entry)) }
+{
+    command?.arg(arg)
 }
 
 /// An option that takes no value, `--` and its name.
