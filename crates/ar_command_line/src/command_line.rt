@@ -280,7 +280,8 @@ fn with_subcommand<'a>(
     command: clap::Command<'a>,
     subcommand: Result<clap::Command<'a>, AllocError>,
 ) -> Result<clap::Command<'a>, AllocError>
-    ensures { (added : App) → IfOk subcommand.entry (λ subcommand. app_of subcommand ≡ added) → IsTrue added.top.is_plain
+    ensures { (added : App) → IfOk subcommand.entry (λ subcommand. app_of subcommand ≡ added)
+        → IsTrue added.top.is_plain
         → IfOk result (λ both. app_of both ≡ with_subcommand (app_of command.entry) added.top) }
 {
     command.subcommand(subcommand?)
