@@ -43,7 +43,11 @@ def whole(digits):
     return int(digits)
 
 
-DECODER = json.JSONDecoder(parse_float=str, parse_constant=str, parse_int=whole)
+class NumberText(str):
+    """A fraction as it is written, which JSON would round."""
+
+
+DECODER = json.JSONDecoder(parse_float=NumberText, parse_constant=str, parse_int=whole)
 BLANKS = re.compile(r"[ \t\n\r]*")
 
 
