@@ -3,7 +3,7 @@
 A fraction is read as a text, since the engine takes decimals as texts; a whole number
 keeps its digits.
 """
-from ending import Refused, note, one_line, run_recipe  # before what takes time to load
+from ending import Refused, kept_notes, note, one_line, run_recipe  # before what takes time to load
 
 import argparse
 import json
@@ -118,7 +118,8 @@ def read_bytes(path, where):
             raise Refused(f"{where}: standard input is closed")
         return sys.stdin.buffer.read()
     except (OSError, ValueError) as fault:
-        raise Refused(f"{where}: {path} can't be read: {getattr(fault, 'strerror', None) or fault}")
+        what = path if path == where else f"{where}: {path}"
+        raise Refused(f"{what} can't be read: {getattr(fault, 'strerror', None) or fault}")
 
 
 def read_text(path, where):

@@ -2,6 +2,7 @@
 
 It is loaded before everything else, so that Ctrl-C is one line even while the rest is loaded.
 """
+import contextlib
 import errno
 import os
 import signal
@@ -23,8 +24,25 @@ def one_line(text):
     return "".join(char if char.isprintable() else char.encode("unicode_escape").decode() for char in text)
 
 
+# The lists that keep what is noted, of which the last one has it.
+KEPT = []
+
+
+@contextlib.contextmanager
+def kept_notes():
+    """A list of what is noted meanwhile, which is then written to nowhere."""
+    KEPT.append([])
+    try:
+        yield KEPT[-1]
+    finally:
+        KEPT.pop()
+
+
 def note(text):
     """Writes a line to standard error, where there is one that can be written."""
+    if KEPT:
+        KEPT[-1].append(text)
+        return
     if sys.stderr is None:
         return
     try:

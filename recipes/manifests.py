@@ -140,11 +140,11 @@ def yaml_documents(text, where):
         raise Refused(f"{where}: found {fault}")
 
 
-def documents_by_kubectl(path, where):
-    """The objects of a YAML file, as kubectl reads it."""
+def documents_by_kubectl(text, where):
+    """The objects of a YAML text, as kubectl reads it."""
     try:
-        ended = subprocess.run(["kubectl", "create", "--dry-run=client", "-o", "json", "-f", path], capture_output=True,
-                               text=True)
+        ended = subprocess.run(["kubectl", "create", "--dry-run=client", "-o", "json", "-f", "-"], input=text,
+                               capture_output=True, encoding="utf-8")
     except OSError:
         raise Refused(f"{where}: found YAML; {CONVERT}")
     if ended.returncode != 0:
@@ -164,7 +164,7 @@ def documents_of(path, where):
     text = read_text(path, where)
     if is_json(path, text):
         return [(value, {}) for value in parsed_all(text, where)]
-    return list(yaml_documents(text, where)) if yaml else documents_by_kubectl(path, where)
+    return list(yaml_documents(text, where)) if yaml else documents_by_kubectl(text, where)
 
 
 def items_of(value, lines):

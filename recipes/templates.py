@@ -1,5 +1,6 @@
 """Templates and the shapes of their metrics, and documents of argo_judge made of them."""
 from documents import Refused, listed, member, note, objects, parsed, read_json, shown
+from manifests import objects_of
 
 API_VERSION = "argoproj.io/v1alpha1"
 ANNOTATION = "argo-judge/shapes"
@@ -100,11 +101,11 @@ def shapes_of(template, path, run=None):
 # ---- documents
 
 def read_template(path):
-    """The template of a file."""
-    template = read_json(path, "--template")
-    if not isinstance(template, dict):
-        raise Refused("--template: expected an AnalysisTemplate, as kubectl prints it as JSON")
-    return template
+    """The template of a file of JSON or YAML."""
+    found = objects_of(path, "--template")
+    if len(found) != 1 or not isinstance(found[0].value, dict):
+        raise Refused("--template: expected one AnalysisTemplate, as kubectl prints it")
+    return found[0].value
 
 
 def add_arg_flag(parser):

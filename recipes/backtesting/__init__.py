@@ -1,0 +1,1 @@
+"""What another template would have made of AnalysisRuns that ended."""

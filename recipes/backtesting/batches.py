@@ -1,0 +1,63 @@
+"""Documents of many runs, so that the engine is started once for all that are judged by the same template."""
+import json
+import os
+from concurrent.futures import ThreadPoolExecutor
+from typing import NamedTuple
+
+from documents import Refused, judged
+from reports import checked
+
+# A document may have 16 MiB.
+MOST_BYTES = 8 << 20
+
+
+class Refusal(NamedTuple):
+    """What the engine says of a document that it refuses."""
+    line: str
+
+
+def weight(made):
+    return len(json.dumps(made["measurements"])) + len(json.dumps(made["runs"]))
+
+
+def batches_of(documents):
+    """The places of documents that have one template and its shapes, of which each batch is small enough."""
+    batches, open_ones = [], {}
+    for place, made in enumerate(documents):
+        key = json.dumps([made["manifest"], made["shapes"]])
+        batch, size = open_ones.get(key, (None, 0))
+        if batch is None or size + weight(made) > MOST_BYTES:
+            batch, size = [], 0
+            batches.append(batch)
+        batch.append(place)
+        open_ones[key] = batch, size + weight(made)
+    return batches
+
+
+def joined(documents, batch):
+    """One document of a batch, in which a run's name is its place."""
+    first = documents[batch[0]]
+    runs = [{**documents[place]["runs"][0], "name": str(place)} for place in batch]
+    entries = [{**one, "run": str(place)} for place in batch for one in documents[place]["measurements"]]
+    return {**first, "runs": runs, "measurements": entries}
+
+
+def reports_of(engine, documents, batch):
+    """The reported run of each document of a batch; where one is refused each is judged alone."""
+    made = joined(documents, batch)
+    ended = judged(engine, ["run", "--plain", "--output", "json"], made, capture_output=True)
+    if ended.returncode in (0, 1):
+        return dict(zip(batch, checked(made, ended.stdout, "document", "report")))
+    if ended.returncode != 2:
+        raise Refused(f"the engine ended with status {ended.returncode}: {ended.stderr.strip()}")
+    if len(batch) == 1:
+        return {batch[0]: Refusal(ended.stderr.strip().removeprefix("argo_judge: "))}
+    return {place: report for one in batch for place, report in reports_of(engine, documents, [one]).items()}
+
+
+def judged_runs(engine, documents):
+    """The reported run of each document, or why it is refused."""
+    with ThreadPoolExecutor(os.cpu_count()) as side_by_side:
+        found = list(side_by_side.map(lambda batch: reports_of(engine, documents, batch), batches_of(documents)))
+    reports = {place: report for reports in found for place, report in reports.items()}
+    return [reports[place] for place in range(len(documents))]
