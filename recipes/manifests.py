@@ -186,6 +186,12 @@ def objects_of(path, where):
             for value, lines in documents_of(path, where) for item, pointer, own in items_of(value, lines)]
 
 
+def objects_in(text, where):
+    """The objects of a text of JSON."""
+    return [Found(item, where, pointer, own)
+            for value in parsed_all(text, where) for item, pointer, own in items_of(value, {})]
+
+
 def files_in(paths):
     """The files that are named, and those of the named folders that have JSON or YAML, in the order of their names."""
     for path in paths:

@@ -1,11 +1,11 @@
 """AnalysisRuns that ended, each with the documents that judge it by its own template and by another."""
 from typing import NamedTuple
 
-from analysisruns import document_of
+from analysisruns import checked_run, document_of
 from cuts import note_cuts
 from documents import Refused, kept_notes, member, note, shown
 from reconciliations import DONE
-from templates import metrics_of
+from templates import ANNOTATION, metrics_of
 
 
 class Judgement(NamedTuple):
@@ -74,12 +74,21 @@ def with_argument(made, name, value):
     return varied
 
 
+def with_shapes(run, template):
+    """A run with the template's shapes where it has none of its own: by either template the answers are the same."""
+    noted = member(template, "metadata", "annotations", ANNOTATION)
+    own = member(run, "metadata", "annotations", default={})
+    if noted is None or ANNOTATION in own:
+        return run
+    return {**run, "metadata": {**run["metadata"], "annotations": {**own, ANNOTATION: noted}}}
+
+
 def judgement_of(run, template, args, sweep, flags):
     """What is asked of a run."""
     phase = member(run, "status", "phase")
     if phase not in DONE:
         raise Refused(f"it hasn't ended: its phase is {shown(phase)}")
-    own, _ = document_of(run, flags)
+    own, _ = document_of(with_shapes(checked_run(run), template), flags)
     other = with_measured_alone(document_of(run, flags, template, args)[0])
     swept = [with_argument(other, sweep.argument, value) for value in sweep.values] if sweep else []
     return Judgement(name_of(run), phase, own, other, swept)
