@@ -59,6 +59,16 @@ def opened(path):
             time.sleep(0.01)
 
 
+def ended(one):
+    """Interrupts a recipe until it ends: right before a read Python takes notice of a signal only after it."""
+    while True:
+        one.send_signal(signal.SIGINT)
+        try:
+            return one.communicate(timeout=10)[1]
+        except subprocess.TimeoutExpired:
+            pass
+
+
 def interrupted(folder, recipe):
     words = ready(folder, recipe, True)
     if recipe == "kubectl-argo_judge":
@@ -67,8 +77,7 @@ def interrupted(folder, recipe):
         os.chmod(f"{folder}/kubectl", 0o755)
     one = started(folder, recipe, words, env={**os.environ, "PATH": f"{folder}:{os.environ['PATH']}"})
     written = opened(f"{folder}/parts/0.json")
-    one.send_signal(signal.SIGINT)
-    errors = one.communicate()[1]
+    errors = ended(one)
     os.close(written)
     return one.returncode, errors
 
