@@ -118,8 +118,8 @@ def read_bytes(path, where):
             raise Refused(f"{where}: standard input is closed")
         return sys.stdin.buffer.read()
     except (OSError, ValueError) as fault:
-        what = path if path == where else f"{where}: {path}"
-        raise Refused(f"{what} can't be read: {getattr(fault, 'strerror', None) or fault}")
+        place = where if where == path else f"{where}: {path}"
+        raise Refused(f"{place} can't be read: {getattr(fault, 'strerror', None) or fault}")
 
 
 def read_text(path, where):
