@@ -4,12 +4,15 @@ The controller takes each name of `spec.dryRun` as a regular expression that mat
 marks the metrics that are dry in `status.metricResults`. argo_judge takes a metric's whole name, or `.*` for all.
 """
 import re
+import signal
 import warnings
 
 from documents import Refused, listed, member, note, objects, shown
 from templates import metrics_of
 
 ALL = ".*"
+# The most characters of an expression.
+LONGEST = 1000
 # What Python's regular expressions have, and the controller's don't.
 ONLY_PYTHON = re.compile(r"\(\?[=!<>(]|\\[1-9Z]|[*+?}]\+")
 
@@ -30,11 +33,31 @@ def compiled(pattern, where):
     return found
 
 
+def out_of_time(_signal, _frame):
+    raise TimeoutError
+
+
+def matched_names(pattern, names, where):
+    """The names that a regular expression matches. One that takes longer than a second is refused: Python tries an
+    expression's ways one by one, and the controller doesn't."""
+    if len(pattern) > LONGEST:
+        raise Refused(f"{where}: found a regular expression of {len(pattern)} characters; expected at most {LONGEST}")
+    expression = compiled(pattern, where)
+    before = signal.signal(signal.SIGALRM, out_of_time)
+    signal.setitimer(signal.ITIMER_REAL, 1)
+    try:
+        return [name for name in names if expression.search(name)]
+    except TimeoutError:
+        raise Refused(f"{where}: {shown(pattern)} takes too long to match; expected no repeats in repeats")
+    finally:
+        signal.setitimer(signal.ITIMER_REAL, 0)
+        signal.signal(signal.SIGALRM, before)
+
+
 def matched(pattern, names, place):
     """The names that a name of `spec.dryRun` matches."""
     where = f"spec.dryRun[{place}].metricName"
-    expression = compiled(pattern, where)
-    found = [name for name in names if expression.search(name)]
+    found = matched_names(pattern, names, where)
     if not found:
         raise Refused(f"{where}: {shown(pattern)} matches no metric's name; metrics are {listed(names)}")
     return found

@@ -1,0 +1,1 @@
+"""Findings about templates, and the rules that make them (recipes/lint)."""

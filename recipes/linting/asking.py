@@ -1,0 +1,112 @@
+"""What the engine answers: on conditions and values in one start, and on a whole template."""
+import re
+import subprocess
+from typing import NamedTuple, Optional
+
+from documents import Refused, judged, member
+from ending import Status, note
+from reports import report_in
+from templates import API_VERSION
+
+MOST_LIMIT = 1_000_000_000
+MOST_METRICS = 64
+OF_METRIC = re.compile(r'argo_judge: (?:run 0 "lint", |shapes: )metric (\d+) "\d+"(?:, successCondition(?:, (byte \d+))?)?: (.*)')
+
+
+class Question(NamedTuple):
+    """A bound condition, the shape of its values, and the values that it is asked on."""
+    condition: str
+    shape: object
+    values: list
+
+
+class Answer(NamedTuple):
+    """What the engine says of a condition: why it is refused, or else of each value true, false, or a fault's name."""
+    refusal: Optional[str]
+    answers: list
+
+
+def metric_of(name):
+    """A metric that never ends, whose condition is put in as an argument, so that it is bound just once."""
+    return {"name": name, "interval": "1m", "failureLimit": MOST_LIMIT, "consecutiveErrorLimit": MOST_LIMIT,
+            "successCondition": f"{{{{args.{name}}}}}"}
+
+
+def document_of(questions, has_values):
+    """A document that asks some questions, by their numbers, on their values or on none."""
+    names = {str(number): question for number, question in questions}
+    spec = {"args": [{"name": name} for name in names], "metrics": [metric_of(name) for name in names]}
+    manifest = {"apiVersion": API_VERSION, "kind": "AnalysisTemplate", "metadata": {"name": "lint"}, "spec": spec}
+    entries = [{"run": "lint", "metric": name, "value": value}
+               for name, question in names.items() if has_values for value in question.values]
+    return {"manifest": manifest, "shapes": {name: question.shape for name, question in names.items()},
+            "runs": [{"name": "lint", "args": {name: question.condition for name, question in names.items()}}],
+            "measurements": entries}
+
+
+def ended(engine, words, made):
+    """A start of the engine that ended with a verdict or a refusal."""
+    start = judged(engine, words, made, stdout=subprocess.PIPE, stderr=subprocess.PIPE)
+    if start.returncode not in (0, 1, 2):
+        for line in start.stderr.splitlines()[:1]:
+            note(line)
+        raise Status(start.returncode if start.returncode > 0 else 128 - start.returncode)
+    return start
+
+
+def answer_of(event):
+    verdict, fault = member(event, "verdict"), member(event, "fault")
+    return verdict == "Successful" if fault is None else fault
+
+
+def refused_one(start, questions):
+    """The number of the question that the engine refuses, and its words."""
+    found = OF_METRIC.match(start.stderr)
+    if found is None:
+        raise Refused(f"the engine refuses the questions: {start.stderr.strip()}")
+    words = f"{found[2]}: {found[3]}" if found[2] else found[3]
+    return questions[int(found[1])][0], words
+
+
+def some_answered(engine, questions):
+    """The answers to at most 64 questions that have numbers. What is refused is found without values."""
+    refused = {}
+    start = ended(engine, ["run", "--plain", "--output", "json"], document_of(questions, True))
+    while start.returncode == 2:
+        number, words = refused_one(start, questions)
+        refused[number] = Answer(words, [])
+        questions = [one for one in questions if one[0] != number]
+        if not questions:
+            return refused
+        start = ended(engine, ["check"], document_of(questions, False))
+    if refused:
+        start = ended(engine, ["run", "--plain", "--output", "json"], document_of(questions, True))
+    events = report_in(start.stdout, "report")["runs"][0]["events"]
+    answers = iter([answer_of(event) for event in sorted(events, key=lambda event: event["number"])])
+    return {**refused, **{number: Answer(None, [next(answers) for _ in question.values]) for number, question in questions}}
+
+
+def answered(engine, questions):
+    """The engine's answer to each question."""
+    numbered, found = list(enumerate(questions)), {}
+    for begin in range(0, len(numbered), MOST_METRICS):
+        found.update(some_answered(engine, numbered[begin:begin + MOST_METRICS]))
+    return [found[number] for number in range(len(questions))]
+
+
+# ---- the whole template
+
+OF_CONDITION = re.compile(r'argo_judge: run 0 "lint", metric \d+ .*?, (success|failure)Condition')
+OF_TEMPLATE = re.compile(r'argo_judge: (?:run 0 "lint"|manifest)[,:] (.*)')
+
+
+def refusal_of_template(engine, template, names, args):
+    """Why the engine refuses a template whose metrics have these names, whatever their conditions are; None where it
+    takes it."""
+    made = {"manifest": template, "shapes": {name: "bool" for name in names},
+            "runs": [{"name": "lint", "args": args}], "measurements": []}
+    start = ended(engine, ["check"], made)
+    if start.returncode != 2 or OF_CONDITION.match(start.stderr):
+        return None
+    found = OF_TEMPLATE.match(start.stderr)
+    return found[1] if found else start.stderr.strip()

@@ -1,0 +1,155 @@
+"""Findings of a metric's conditions: what their text says, and what the engine answers on values of the shape."""
+from typing import NamedTuple
+
+from documents import listed, member
+from linting.asking import Question
+from linting.findings import error, info, warning
+from linting.references import bound, pieces, referred_in
+from linting.shaping import shapes_of_metrics
+from linting.subjects import metric_pointer, metric_title
+from linting.tokens import conversions_in, guards_of_parts, without_conversions
+from linting.values import values_of
+from templates import CONDITIONS, JOB, is_job, thresholds_of
+
+# The value of an argument that has none: it is a number, and in quotes a text.
+STAND_IN = "1"
+DIFFERENCES = {
+    "asFloat": "decimals are exact to millionths here",
+    "asInt": "the controller's asInt also cuts or refuses a fraction, which is kept here",
+    "isNaN": "NaN is an error of the measurement here, and true for the controller's isNaN",
+    "isInf": "an infinity is an error of the measurement here, and true for the controller's isInf",
+}
+DOCS = "docs/use/language.md has what conditions may have"
+MENDS = {
+    "NoSuchField": "compare the field's name with the shape, and the shape with a real result",
+    "WrongOperand": "compare the shape with a real result, and mend the one that is wrong",
+    "NotTruth": "compare the result with something: a condition is true or false",
+    "BudgetTooLarge": "lower a list's `max` to what the provider really returns, or nest fewer predicates",
+    "StackTooDeep": "make two metrics of it", "TooManyOps": "make two metrics of it", "TooLong": "make two metrics of it",
+}
+OF_SHAPES = ("TooDeep: a shape", "UnknownShape", "MaxMissing", "MaxTooLarge", "NestedOptional")
+
+
+class Asked(NamedTuple):
+    """A condition of a metric, as it is written and as the engine is asked; whether arguments without a value are in it."""
+    place: int
+    metric: dict
+    name: str
+    question: Question
+    has_stand_in: bool
+    is_complete: bool
+
+    @property
+    def pointer(self):
+        return metric_pointer(self.place, self.name)
+
+    @property
+    def title(self):
+        return f"{metric_title(self.place, self.metric)}: {self.name}"
+
+    @property
+    def noted(self):
+        return f" (with {STAND_IN} for arguments without a value)" if self.has_stand_in else ""
+
+
+def with_stand_ins(subject, condition):
+    """A condition's arguments, with something for those that have no value."""
+    names = {name for _, name in subject.args}
+    missing = {name: STAND_IN for name in referred_in(condition) if name in names and name not in subject.values}
+    return {**subject.values, **missing}, bool(missing)
+
+
+def written_conditions(metric):
+    """The conditions that are read of a metric: a Job has none."""
+    if is_job(metric):
+        return {}
+    return {name: metric[name] for name in CONDITIONS if isinstance(metric.get(name), str) and metric[name]}
+
+
+def asked_of_metric(subject, place, metric, shape):
+    """What the engine is asked of a metric's conditions, both on the same values."""
+    texts = {}
+    for name, written in written_conditions(metric).items():
+        values, has_stand_in = with_stand_ins(subject, written)
+        text = bound(written, values)
+        if text:
+            texts[name] = without_conversions(text), has_stand_in
+    made, is_complete = values_of(shape, [text for text, _ in texts.values()]) if texts else ([], True)
+    return [Asked(place, metric, name, Question(text, shape, made), has_stand_in, is_complete)
+            for name, (text, has_stand_in) in texts.items()]
+
+
+def asked_of(subject):
+    shapes = shapes_of_metrics(subject)
+    return [asked for place, metric in subject.metrics if place in shapes
+            for asked in asked_of_metric(subject, place, metric, shapes[place].shape)]
+
+
+# ---- what a text says
+
+def findings_of_text(subject, place, metric, name, written):
+    title, pointer = f"{metric_title(place, metric)}: {name}", metric_pointer(place, name)
+    parts = pieces(written)
+    if parts is None:
+        yield error("refused-condition", pointer, f"{title} has {{{{ without }}}} after it", "close the braces")
+        return
+    for inside in parts[1::2]:
+        if not inside.startswith("args."):
+            yield error("unknown-argument", pointer, f"{title} has {{{{{inside}}}}}, which is no argument",
+                        "write {{args.NAME}}")
+    values, _ = with_stand_ins(subject, written)
+    text = bound(written, values) or ""
+    called = list(dict.fromkeys(conversions_in(text)))
+    if called:
+        differences = "; ".join(DIFFERENCES[one] for one in called)
+        yield warning("conversion", pointer, f"{title} has {listed(called)}, which argo_judge refuses; the rest was looked at without",
+                      f"by the shape texts are numbers already, so write: {without_conversions(text)} ({differences})")
+    for guard, part in guards_of_parts(text):
+        yield warning("guard-of-part", pointer, f"{title} has {guard} of {part}; the controller looks at the whole result instead",
+                      f"compare the part with nil, as `{part} != nil && ..`, or apply {guard} to `result` alone")
+
+
+def findings_of_texts(subject):
+    for place, metric in subject.metrics:
+        for name, written in written_conditions(metric).items():
+            yield from findings_of_text(subject, place, metric, name, written)
+
+
+def conditions_missing(subject):
+    for place, metric in subject.metrics:
+        title = metric_title(place, metric)
+        given = {name: metric[name] for name in CONDITIONS if metric.get(name)}
+        if is_job(metric) and given not in ({}, JOB):
+            yield warning("ignored-condition", metric_pointer(place, next(iter(given))),
+                          f"{title}: a Job's own end decides, so its conditions are not read", "remove them")
+        elif not is_job(metric) and not given and thresholds_of(metric) is None:
+            yield warning("no-conditions", metric_pointer(place), f"{title} has no condition, so each measured value is a success",
+                          "add a `successCondition` or a `failureCondition`")
+
+
+# ---- what the engine refuses
+
+def fault_in(words):
+    """The name of a refusal in the engine's words."""
+    return next((part for part in words.split(": ") if part and not part.startswith("byte ")), "")
+
+
+def text_and_number(words):
+    """Whether a text and a number are the operands that don't fit."""
+    found = words.partition("; found ")[2].partition("; in ")[0]
+    return fault_in(words) == "WrongOperand" and '"text"' in found and ('"decimal"' in found or '"whole"' in found)
+
+
+def refused(asked, words, declared):
+    """The finding of a condition or a shape that the engine refuses."""
+    if words.startswith(OF_SHAPES):
+        return error("shape", declared or metric_pointer(asked.place), f"{metric_title(asked.place, asked.metric)}: the shape is "
+                     f"refused: {words}", "docs/use/formats.md has what shapes may be")
+    fault = fault_in(words)
+    rule = "fine-literal" if fault == "LiteralTooFine" else "text-and-number" if text_and_number(words) else "refused-condition"
+    mend = {
+        "fine-literal": "write at most six digits after the point, or have the provider answer in a smaller unit",
+        "text-and-number": "write a number without quotes; a shape of \"decimal\" reads texts such as \"0.95\" as numbers, too",
+    }.get(rule, MENDS.get(fault, DOCS))
+    kind = warning if asked.has_stand_in else error
+    return kind(rule, asked.pointer, f"{asked.title} is refused{asked.noted}: {words}", mend)

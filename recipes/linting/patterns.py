@@ -1,0 +1,42 @@
+"""Regular expressions for metrics' names, in `dryRun` and `measurementRetention`."""
+import re
+
+from documents import Refused, listed, shown
+from dryruns import ALL, matched_names
+from linting.fields import is_text
+from linting.findings import error, info, warning
+from linting.references import bound
+from linting.subjects import metric_names, placed
+from manifests import pointer_to
+
+SPECIAL = re.compile(r"[\\^$.|?*+()\[\]{}]")
+EFFECT = {"dryRun": "dry", "measurementRetention": "kept longer or shorter"}
+
+
+def of_pattern(pattern, names, pointer, field):
+    """The finding of one expression, if there is one."""
+    try:
+        found = matched_names(pattern, names, f"`{field}`")
+    except Refused as fault:
+        return error("metric-pattern", pointer, str(fault), "write `^NAME$` of a metric, or `.*` for all")
+    if not found:
+        return error("metric-pattern", pointer, f"{shown(pattern)} matches no metric's name, which the controller refuses; "
+                     f"metrics are {listed(names)}", "write `^NAME$` of a metric, or `.*` for all")
+    if found == [pattern] or pattern == ALL:
+        return None
+    says = f"{shown(pattern)} is a regular expression, by which these are {EFFECT[field]}: {listed(found)}"
+    if SPECIAL.search(pattern):
+        return info("metric-pattern", pointer, says, "argo_judge itself takes whole names; recipes write them")
+    return warning("metric-pattern", pointer, says, f"write `^{pattern}$` for that name alone")
+
+
+def metric_patterns(subject):
+    names = metric_names(subject)
+    for field in EFFECT if names and not subject.refers_to_others else ():
+        for place, rule in placed(subject.object, field):
+            pattern = rule.get("metricName")
+            pattern = bound(pattern, subject.values) if is_text(pattern) else None
+            if pattern is not None:
+                pointer = pointer_to("spec", field, place, "metricName")
+                finding = of_pattern(pattern, names, pointer, field)
+                yield from [] if finding is None else [finding]

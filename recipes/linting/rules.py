@@ -1,0 +1,57 @@
+"""All findings of a template, in the order of its lines or fields."""
+import re
+
+from documents import member
+from linting.arguments import arguments_without_value, unknown_arguments, unused_arguments
+from linting.asking import refusal_of_template
+from linting.conditions import STAND_IN, conditions_missing, findings_of_texts
+from linting.fields import unknown_fields, wrong_types
+from linting.findings import Severity, error
+from linting.limits import refused_by_controller, unreachable_limits
+from linting.patterns import metric_patterns
+from linting.shaping import findings_of_shapes
+from linting.subjects import metric_names, metric_pointer
+from linting.verdicts import findings_of_answers
+from manifests import line_of, pointer_to
+
+OF_TEXT = (unknown_fields, wrong_types, refused_by_controller, conditions_missing, findings_of_shapes, findings_of_texts,
+           unreachable_limits, unknown_arguments, unused_arguments, arguments_without_value, metric_patterns)
+METRIC = re.compile(r"metric (\d+)\b")
+
+
+def manifest_of(subject):
+    """The template as the engine is asked for it: a run's metrics are those of a template."""
+    spec = member(subject.object, "spec", default={})
+    spec = {name: value for name, value in spec.items() if name != "dryRun"} if isinstance(spec, dict) else spec
+    if subject.kind != "AnalysisRun":
+        return {**subject.object, "spec": spec}
+    return {"apiVersion": member(subject.object, "apiVersion"), "kind": "AnalysisTemplate",
+            "metadata": {"name": subject.name or "run"}, "spec": spec}
+
+
+def refused_by_engine(engine, subject):
+    """What the engine refuses of a template besides its conditions."""
+    names = metric_names(subject)
+    args = {name: subject.values.get(name, STAND_IN) for _, name in subject.args}
+    words = refusal_of_template(engine, manifest_of(subject), names, args)
+    if words is not None:
+        place = METRIC.match(words)
+        pointer = metric_pointer(int(place[1])) if place else pointer_to("spec")
+        yield error("refused-by-engine", pointer, f"argo_judge refuses the template: {words}",
+                    "docs/use/formats.md#refusals-of-templates has each refusal")
+
+
+def numbered(pointer):
+    """A pointer's names and numbers, in an order in which metric 10 comes after metric 9."""
+    return [(0, int(name), "") if name.isdecimal() else (1, 0, name) for name in pointer.split("/")]
+
+
+def findings_of(engine, subject, chosen):
+    """The findings of the chosen rules, the first line's first."""
+    findings = [finding for rule in OF_TEXT for finding in rule(subject)]
+    findings += findings_of_answers(engine, subject)
+    is_refused = any(one.severity == Severity.ERROR and one.rule in ("refused-by-controller", "unknown-argument") for one in findings)
+    if not is_refused and subject.metrics:
+        findings += refused_by_engine(engine, subject)
+    findings = [finding for finding in dict.fromkeys(findings) if finding.rule in chosen]
+    return sorted(findings, key=lambda one: (line_of(subject.found, one.pointer) or 0, numbered(one.pointer)))
