@@ -13,6 +13,7 @@ from templates import metrics_of
 ALL = ".*"
 # The most characters of an expression.
 LONGEST = 1000
+SLOW = "takes too long to match"
 # What Python's regular expressions have, and the controller's don't.
 ONLY_PYTHON = re.compile(r"\(\?[=!<>(]|\\[1-9Z]|[*+?}]\+")
 
@@ -48,7 +49,7 @@ def matched_names(pattern, names, where):
     try:
         return [name for name in names if expression.search(name)]
     except TimeoutError:
-        raise Refused(f"{where}: {shown(pattern)} takes too long to match; expected no repeats in repeats")
+        raise Refused(f"{where}: {shown(pattern)} {SLOW}; expected no repeats in repeats")
     finally:
         signal.setitimer(signal.ITIMER_REAL, 0)
         signal.signal(signal.SIGALRM, before)

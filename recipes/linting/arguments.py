@@ -1,11 +1,11 @@
 """Arguments that nobody declares, that nobody uses, or that have no value."""
 from documents import listed, shown
-from linting.fields import close_to
+from linting.fields import LIMITS, close_to
 from linting.findings import error, info, warning
-from linting.references import declared, from_elsewhere, referred_in, referring_texts
+from linting.references import STAND_IN, referred_in, referring_texts
+from linting.subjects import placed
 from manifests import pointer_to
-
-RULES_OF_ARGUMENTS = ("unknown-argument", "unused-argument", "argument-without-value")
+from templates import CONDITIONS
 
 
 def unknown_arguments(subject):
@@ -28,10 +28,20 @@ def unused_arguments(subject):
                           f"refer to it as `{{{{args.{name}}}}}`, or remove it")
 
 
+def used_by_engine(subject):
+    """The arguments that conditions and limits refer to."""
+    texts = [metric.get(name) for _, metric in subject.metrics for name in (*CONDITIONS, *LIMITS)]
+    return {name for text in texts if isinstance(text, str) for name in referred_in(text)}
+
+
 def arguments_without_value(subject):
-    elsewhere = {arg.get("name") for arg in declared(subject) if from_elsewhere(arg) is not None and isinstance(arg.get("name"), str)}
-    for place, name in subject.args:
-        if name not in subject.values:
-            given = "has its value from the cluster" if name in elsewhere else "has no value, so each run has to give one"
-            yield info("argument-without-value", pointer_to("spec", "args", place), f"the argument {shown(name)} {given}",
-                       f"to look at conditions that use it by a value of yours: --arg {name}=VALUE")
+    """Those that each run has to give. One from a secret is given by the cluster, and matters where it is compared."""
+    judged = used_by_engine(subject)
+    for place, arg in placed(subject.object, "args"):
+        name = arg.get("name")
+        if not isinstance(name, str) or name in subject.values or arg.get("valueFrom") is not None and name not in judged:
+            continue
+        mend = f"conditions are looked at with {STAND_IN} for it; --arg {name}=VALUE takes a value of yours" \
+            if name in judged else "nothing, where each rollout gives it"
+        yield info("argument-without-value", pointer_to("spec", "args", place),
+                   f"the argument {shown(name)} has no value, so each run has to give one", mend)

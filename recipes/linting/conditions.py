@@ -1,18 +1,16 @@
 """Findings of a metric's conditions: what their text says, and what the engine answers on values of the shape."""
 from typing import NamedTuple
 
-from documents import listed, member
+from documents import listed
 from linting.asking import Question
-from linting.findings import error, info, warning
-from linting.references import bound, pieces, referred_in
+from linting.findings import error, warning
+from linting.references import STAND_IN, bound, pieces, referred_in
 from linting.shaping import shapes_of_metrics
 from linting.subjects import metric_pointer, metric_title
 from linting.tokens import conversions_in, guards_of_parts, without_conversions
 from linting.values import values_of
 from templates import CONDITIONS, JOB, is_job, thresholds_of
 
-# The value of an argument that has none: it is a number, and in quotes a text.
-STAND_IN = "1"
 DIFFERENCES = {
     "asFloat": "decimals are exact to millionths here",
     "asInt": "the controller's asInt also cuts or refuses a fraction, which is kept here",

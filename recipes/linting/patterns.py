@@ -2,7 +2,7 @@
 import re
 
 from documents import Refused, listed, shown
-from dryruns import ALL, matched_names
+from dryruns import ALL, SLOW, matched_names
 from linting.fields import is_text
 from linting.findings import error, info, warning
 from linting.references import bound
@@ -37,6 +37,7 @@ def metric_patterns(subject):
             pattern = rule.get("metricName")
             pattern = bound(pattern, subject.values) if is_text(pattern) else None
             if pattern is not None:
-                pointer = pointer_to("spec", field, place, "metricName")
-                finding = of_pattern(pattern, names, pointer, field)
+                finding = of_pattern(pattern, names, pointer_to("spec", field, place, "metricName"), field)
                 yield from [] if finding is None else [finding]
+                if finding is not None and SLOW in finding.message:
+                    break  # the others may take as long

@@ -1,7 +1,9 @@
 """References to arguments, as `{{args.name}}`, in texts of a template."""
-from documents import member, objects
+from documents import member
 
 BEFORE_NAME = "args."
+# The value of an argument that has none: it is a number, and in quotes a text.
+STAND_IN = "1"
 
 
 def pieces(text):
@@ -52,12 +54,3 @@ def referring_texts(subject):
     spec = member(subject.object, "spec", default={})
     parts = {name: part for name, part in spec.items() if name != "args"} if isinstance(spec, dict) else {}
     return [(text, names) for text, names in texts_in(parts, ("spec",)) if "{{" in text]
-
-
-def from_elsewhere(arg):
-    """What a cluster gives an argument its value from, if something does."""
-    return member(arg, "valueFrom")
-
-
-def declared(subject):
-    return objects(member(subject.object, "spec", "args"))

@@ -4,11 +4,12 @@ import re
 from documents import member
 from linting.arguments import arguments_without_value, unknown_arguments, unused_arguments
 from linting.asking import refusal_of_template
-from linting.conditions import STAND_IN, conditions_missing, findings_of_texts
+from linting.conditions import conditions_missing, findings_of_texts
 from linting.fields import unknown_fields, wrong_types
 from linting.findings import Severity, error
 from linting.limits import refused_by_controller, unreachable_limits
 from linting.patterns import metric_patterns
+from linting.references import STAND_IN
 from linting.shaping import findings_of_shapes
 from linting.subjects import metric_names, metric_pointer
 from linting.verdicts import findings_of_answers

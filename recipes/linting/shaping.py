@@ -73,21 +73,27 @@ def outermost(shape):
 def shape_of_metric(place, metric, shaped):
     """The finding of a metric's shape, if there is one; refused shapes are the engine's to find."""
     title, provider = metric_title(place, metric), provider_of(metric)
-    if shaped is None and has_conditions(metric):
+    if not has_conditions(metric):
+        return None
+    if shaped is None:
         return warning("shape", metric_pointer(place), f"{title} has no shape, so its conditions aren't looked at",
                        f"declare one by the annotation {ANNOTATION} or --shapes: {PAGE}")
-    if shaped is None or not has_conditions(metric):
-        return None
-    if not shaped.declared and own_shape(metric) is None:
-        name = metric.get("name") if isinstance(metric.get("name"), str) else ""
-        noted = json.dumps({name: shaped.shape}, ensure_ascii=False)
-        return info("shape", metric_pointer(place), f"{title} has no shape, so that of what {provider} usually answers is taken",
-                    f"annotate the template: {ANNOTATION}: '{noted}'")
     part = outermost(shaped.shape)
     if shaped.declared and provider in LIKELY and part is not None and part not in LIKELY[provider]:
         return warning("shape", shaped.declared, f"{title}: the shape is {shown(shaped.shape)}, which {provider} doesn't answer",
                        f"compare it with a real result; {PAGE}")
     return None
+
+
+def usual_taken(subject, shapes, noted):
+    """The finding of the metrics whose shape is what their provider usually answers, and of what would declare it."""
+    taken = {metric["name"]: shapes[place].shape for place, metric in subject.metrics
+             if place in shapes and not shapes[place].declared and own_shape(metric) is None and has_conditions(metric)
+             and isinstance(metric.get("name"), str)}
+    if taken:
+        text = json.dumps({**noted, **taken}, ensure_ascii=False)
+        yield info("shape", pointer_to("metadata"), f"no shape is declared of {listed(list(taken))}, so what the provider "
+                   "usually answers is taken", f"annotate the template: {ANNOTATION}: '{text}'")
 
 
 def findings_of_shapes(subject):
@@ -100,6 +106,7 @@ def findings_of_shapes(subject):
             yield warning("shape", AT_ANNOTATION, f"a shape is declared of {shown(name)}, which is no metric; metrics are {listed(names)}",
                           f"did you mean {shown(close)}?" if close else "remove it")
     shapes = shapes_of_metrics(subject)
+    yield from usual_taken(subject, shapes, noted)
     for place, metric in subject.metrics:
         finding = shape_of_metric(place, metric, shapes.get(place))
         yield from [] if finding is None else [finding]
