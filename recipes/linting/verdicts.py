@@ -27,12 +27,12 @@ def faults(asked, answers):
 
 
 def constants(asked, answers):
-    truths = [answer for answer in answers if isinstance(answer, bool)]
-    if len(truths) < 2 or len(set(truths)) != 1:
+    booleans = [answer for answer in answers if isinstance(answer, bool)]
+    if len(booleans) < 2 or len(set(booleans)) != 1:
         return
     kind = warning if asked.is_complete else info
     yield kind("constant-condition", asked.pointer,
-               f"{asked.title} is {'true' if truths[0] else 'false'} for each of {len(truths)} values that were tried{asked.noted}",
+               f"{asked.title} is {'true' if booleans[0] else 'false'} for each of {len(booleans)} values that were tried{asked.noted}",
                "look at the threshold and its unit, 0.95 or 95, and at the shape")
 
 

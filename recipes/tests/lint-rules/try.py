@@ -1,0 +1,58 @@
+"""Looks at each example of docs/use/lint.md, put into a template without findings: a rule has to find something in what its
+section says that it finds, and nothing in the other. Both are those of each rule that there is."""
+import json
+import os
+import pathlib
+import re
+import subprocess
+import sys
+
+HERE = pathlib.Path(__file__).resolve().parent
+sys.path.insert(0, str(HERE.parents[1]))
+from linting.findings import RULES
+
+EXAMPLE = re.compile(r"- (finds|not): `(.*)`")
+OF_SPEC = ("args", "dryRun", "measurementRetention")
+METRIC = {"name": "rate", "interval": "1m", "successCondition": "len(result) > 0 && result[0] >= 0.95",
+          "provider": {"prometheus": {}}}
+SHAPE = {"list": "decimal", "max": 10}
+
+
+def examples_of(page):
+    """Each example: its rule, whether the rule finds something, and its members."""
+    rule = None
+    for line in page.splitlines():
+        if line.startswith("## "):
+            rule = line[3:]
+        elif example := EXAMPLE.fullmatch(line):
+            yield rule, example[1] == "finds", json.loads(example[2])
+
+
+def template_of(name, members):
+    spec = {key: value for key, value in members.items() if key in OF_SPEC}
+    own = {key: value for key, value in members.items() if key not in (*OF_SPEC, "shape")}
+    shapes = json.dumps({"rate": members.get("shape", SHAPE)})
+    return {"apiVersion": "argoproj.io/v1alpha1", "kind": "AnalysisTemplate",
+            "metadata": {"name": name, "annotations": {"argo-judge/shapes": shapes}},
+            "spec": {**spec, "metrics": [{**METRIC, **own}]}}
+
+
+examples = list(examples_of((HERE.parents[2] / "docs/use/lint.md").read_text(encoding="utf-8")))
+templates = [template_of(str(number), members) for number, (_, _, members) in enumerate(examples)]
+made = {"kind": "List", "items": [*templates, template_of("none", {})]}
+ended = subprocess.run(["lint", "--output", "json", "--engine", os.environ["ENGINE"], "-"], input=json.dumps(made),
+                       stdout=subprocess.PIPE, text=True)
+found = {str(number): set() for number in [*range(len(examples)), "none"]}
+for finding in json.loads(ended.stdout)["findings"]:
+    found[finding["name"]].add(finding["rule"])
+for number, (rule, finds, members) in enumerate(examples):
+    if (rule in found[str(number)]) != finds:
+        print(f"{rule}: {'nothing' if finds else 'something'} is found in {json.dumps(members)}")
+    if not finds and found[str(number)] - {"argument-without-value"}:
+        print(f"{rule}: also {found[str(number)]} in {json.dumps(members)}")
+if found["none"]:
+    print(f"found in the template without findings: {found['none']}")
+sections = [(rule, finds) for rule, finds, _ in examples]
+if sections != [(rule, finds) for rule in RULES for finds in (True, False)]:
+    print("expected a section with two examples of each rule, in the order of the rules")
+print(f"{len(examples)} examples, status {ended.returncode}")
