@@ -13,9 +13,9 @@ def unknown_arguments(subject):
     for text, leading in referring_texts(subject):
         for name in dict.fromkeys(referred_in(text)):
             if name not in names:
-                close = close_to(name, names)
+                close, reference = close_to(name, names), f"`{{{{args.{name}}}}}`"
                 yield error("unknown-argument", pointer_to(*leading),
-                            f"`{{{{args.{name}}}}}` refers to an argument that isn't declared; arguments are {listed(names)}",
+                            f"{reference} refers to an argument that isn't declared; arguments are {listed(names)}",
                             f"did you mean {shown(close)}?" if close else f"add {shown(name)} to `spec.args`")
 
 
@@ -39,7 +39,8 @@ def arguments_without_value(subject):
     judged = used_by_engine(subject)
     for place, arg in placed(subject.object, "args"):
         name = arg.get("name")
-        if not isinstance(name, str) or name in subject.values or arg.get("valueFrom") is not None and name not in judged:
+        is_from_cluster = arg.get("valueFrom") is not None
+        if not isinstance(name, str) or name in subject.values or is_from_cluster and name not in judged:
             continue
         mend = f"conditions are looked at with {STAND_IN} for it; --arg {name}=VALUE takes a value of yours" \
             if name in judged else "nothing, where each rollout gives it"

@@ -10,7 +10,8 @@ from templates import API_VERSION
 
 MOST_LIMIT = 1_000_000_000
 MOST_METRICS = 64
-OF_METRIC = re.compile(r'argo_judge: (?:run 0 "lint", |shapes: )metric (\d+) "\d+"(?:, successCondition(?:, (byte \d+))?)?: (.*)')
+OF_METRIC = re.compile(
+    r'argo_judge: (?:run 0 "lint", |shapes: )metric (\d+) "\d+"(?:, successCondition(?:, (byte \d+))?)?: (.*)')
 
 
 class Question(NamedTuple):
@@ -83,7 +84,8 @@ def some_answered(engine, questions):
         start = ended(engine, ["run", "--plain", "--output", "json"], document_of(questions, True))
     events = report_in(start.stdout, "report")["runs"][0]["events"]
     answers = iter([answer_of(event) for event in sorted(events, key=lambda event: event["number"])])
-    return {**refused, **{number: Answer(None, [next(answers) for _ in question.values]) for number, question in questions}}
+    found = {number: Answer(None, [next(answers) for _ in question.values]) for number, question in questions}
+    return {**refused, **found}
 
 
 def answered(engine, questions):

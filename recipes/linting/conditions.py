@@ -23,13 +23,21 @@ MENDS = {
     "WrongOperand": "compare the shape with a real result, and mend the one that is wrong",
     "NotTruth": "compare the result with something: a condition is true or false",
     "BudgetTooLarge": "lower a list's `max` to what the provider really returns, or nest fewer predicates",
-    "StackTooDeep": "make two metrics of it", "TooManyOps": "make two metrics of it", "TooLong": "make two metrics of it",
+    "StackTooDeep": "make two metrics of it",
+    "TooManyOps": "make two metrics of it",
+    "TooLong": "make two metrics of it",
+}
+RULES_OF_FAULTS = {"LiteralTooFine": "fine-literal"}
+MENDS_OF_RULES = {
+    "fine-literal": "write at most six digits after the point, or have the provider answer in a smaller unit",
+    "text-and-number": "write a number without quotes; a shape of \"decimal\" reads texts such as \"0.95\", too",
 }
 OF_SHAPES = ("TooDeep: a shape", "UnknownShape", "MaxMissing", "MaxTooLarge", "NestedOptional")
 
 
 class Asked(NamedTuple):
-    """A condition of a metric, as it is written and as the engine is asked; whether arguments without a value are in it."""
+    """A condition of a metric as the engine is asked; whether it has arguments without a value, and whether each
+    combination of values is there."""
     place: int
     metric: dict
     name: str
@@ -100,10 +108,12 @@ def findings_of_text(subject, place, metric, name, written):
     called = list(dict.fromkeys(conversions_in(text)))
     if called:
         differences = "; ".join(DIFFERENCES[one] for one in called)
-        yield warning("conversion", pointer, f"{title} has {listed(called)}, which argo_judge refuses; the rest was looked at without",
+        yield warning("conversion", pointer,
+                      f"{title} has {listed(called)}, which argo_judge refuses; the rest was looked at without",
                       f"by the shape texts are numbers already, so write: {without_conversions(text)} ({differences})")
     for guard, part in guards_of_parts(text):
-        yield warning("guard-of-part", pointer, f"{title} has {guard} of {part}; the controller looks at the whole result instead",
+        yield warning("guard-of-part", pointer,
+                      f"{title} has {guard} of {part}; the controller looks at the whole result instead",
                       f"compare the part with nil, as `{part} != nil && ..`, or apply {guard} to `result` alone")
 
 
@@ -121,7 +131,8 @@ def conditions_missing(subject):
             yield warning("ignored-condition", metric_pointer(place, next(iter(given))),
                           f"{title}: a Job's own end decides, so its conditions are not read", "remove them")
         elif not is_job(metric) and not given and thresholds_of(metric) is None:
-            yield warning("no-conditions", metric_pointer(place), f"{title} has no condition, so each measured value is a success",
+            yield warning("no-conditions", metric_pointer(place),
+                          f"{title} has no condition, so each measured value is a success",
                           "add a `successCondition` or a `failureCondition`")
 
 
@@ -141,13 +152,11 @@ def text_and_number(words):
 def refused(asked, words, declared):
     """The finding of a condition or a shape that the engine refuses."""
     if words.startswith(OF_SHAPES):
-        return error("shape", declared or metric_pointer(asked.place), f"{metric_title(asked.place, asked.metric)}: the shape is "
-                     f"refused: {words}", "docs/use/formats.md has what shapes may be")
+        title = metric_title(asked.place, asked.metric)
+        return error("shape", declared or metric_pointer(asked.place), f"{title}: the shape is refused: {words}",
+                     "docs/use/formats.md has what shapes may be")
     fault = fault_in(words)
-    rule = "fine-literal" if fault == "LiteralTooFine" else "text-and-number" if text_and_number(words) else "refused-condition"
-    mend = {
-        "fine-literal": "write at most six digits after the point, or have the provider answer in a smaller unit",
-        "text-and-number": "write a number without quotes; a shape of \"decimal\" reads texts such as \"0.95\" as numbers, too",
-    }.get(rule, MENDS.get(fault, DOCS))
+    rule = "text-and-number" if text_and_number(words) else RULES_OF_FAULTS.get(fault, "refused-condition")
+    mend = MENDS_OF_RULES.get(rule) or MENDS.get(fault, DOCS)
     kind = warning if asked.has_stand_in else error
     return kind(rule, asked.pointer, f"{asked.title} is refused{asked.noted}: {words}", mend)

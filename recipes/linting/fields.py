@@ -8,6 +8,7 @@ from manifests import pointer_to
 
 LIMITS = ("count", "failureLimit", "inconclusiveLimit", "consecutiveErrorLimit", "consecutiveSuccessLimit")
 TEXTS = ("name", "interval", "initialDelay", "successCondition", "failureCondition")
+TEXTS_OF_LISTS = (("args", "name"), ("args", "value"), ("dryRun", "metricName"), ("measurementRetention", "metricName"))
 PROVIDERS = ("prometheus", "kayenta", "web", "datadog", "wavefront", "newRelic", "job", "cloudWatch", "graphite",
              "influxdb", "skywalking", "plugin")
 OF_RUN = ("terminate", "ttlStrategy")
@@ -83,7 +84,7 @@ def typed_fields(subject):
         for name in LIMITS:
             yield metric_pointer(place, name), metric.get(name), lambda value: is_whole(value) or is_text(value), \
                 "a whole number, or a text"
-    for name, field in (("args", "name"), ("args", "value"), ("dryRun", "metricName"), ("measurementRetention", "metricName")):
+    for name, field in TEXTS_OF_LISTS:
         for place, item in placed(subject.object, name):
             yield pointer_to("spec", name, place, field), item.get(field), is_text, "a text in quotes"
     for place, item in placed(subject.object, "measurementRetention"):

@@ -30,7 +30,8 @@ def has_text(metric, name):
 def refused_limits(subject, place, metric):
     """What the controller refuses of a metric's limits."""
     def refused(name, message, mend):
-        return error("refused-by-controller", metric_pointer(place, name), f"{metric_title(place, metric)}: {message}", mend)
+        sentence = f"{metric_title(place, metric)}: {message}"
+        return error("refused-by-controller", metric_pointer(place, name), sentence, mend)
 
     limits = {name: limit_of(metric, name, subject.values) for name in
               ("count", "failureLimit", "inconclusiveLimit", "consecutiveErrorLimit")}
@@ -55,8 +56,9 @@ def refused_durations(subject, place, metric):
     for name in ("interval", "initialDelay"):
         text = bound(metric[name], subject.values) if has_text(metric, name) else None
         if text is not None and not is_duration(text):
+            title = metric_title(place, metric)
             yield error("refused-by-controller", metric_pointer(place, name),
-                        f"{metric_title(place, metric)}: `{name}` {shown(text)} is no duration, so the controller refuses it",
+                        f"{title}: `{name}` {shown(text)} is no duration, which the controller refuses",
                         "write a number and ns, us, ms, s, m or h, such as \"90s\" or \"1h30m\"")
 
 
@@ -83,8 +85,9 @@ def refused_names(subject):
     for place, metric in subject.metrics:
         name = metric.get("name")
         if isinstance(name, str) and seen.setdefault(name, place) != place:
+            title = metric_title(place, metric)
             yield error("refused-by-controller", metric_pointer(place, "name"),
-                        f"{metric_title(place, metric)}: metric {seen[name]} has this name, too, which the controller refuses",
+                        f"{title}: metric {seen[name]} has its name, which the controller refuses",
                         "give each metric a name of its own")
 
 
@@ -117,6 +120,6 @@ def unreachable_limits(subject):
                 continue  # the controller refuses it
             ends = f"ends after {count}" if metric.get("count") is not None else \
                 "is measured once, since it has neither `count` nor `interval`"
-            yield warning("unreachable-limit", metric_pointer(place, name),
-                          f"{metric_title(place, metric)} {ends}, so with `{name}` {limit} it is never {phase} by a limit",
-                          f"write a `{name}` below {count}" + (", or add an `interval`" if count == 1 else ""))
+            message = f"{metric_title(place, metric)} {ends}, so with `{name}` {limit} it is never {phase} by a limit"
+            mend = f"write a `{name}` below {count}" + (", or add an `interval`" if count == 1 else "")
+            yield warning("unreachable-limit", metric_pointer(place, name), message, mend)

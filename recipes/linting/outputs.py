@@ -62,9 +62,9 @@ def as_text(located, subjects):
 
 def member_of(one):
     finding = one.finding
-    return {"file": one.file, "kind": one.subject.kind, "line": one.line, "mend": finding.mend, "message": finding.message,
-            "name": one.subject.name, "page": one.page, "pointer": one.pointer, "rule": finding.rule,
-            "severity": finding.severity.value}
+    return {"file": one.file, "kind": one.subject.kind, "line": one.line, "mend": finding.mend,
+            "message": finding.message, "name": one.subject.name, "page": one.page, "pointer": one.pointer,
+            "rule": finding.rule, "severity": finding.severity.value}
 
 
 def as_json(located, subjects):
@@ -86,7 +86,8 @@ def command_of(one):
     given = {"file": one.file, "line": one.line, "title": finding.rule}
     words = ",".join(f"{name}={escaped_property(str(value))}" for name, value in given.items() if value is not None)
     at = f" ({one.pointer})" if one.line is None else ""
-    return f"::{COMMANDS[finding.severity]} {words}::{escaped(one_line(f'{finding.message}{at}'))}%0Amend: {escaped(one_line(finding.mend))}\n"
+    lines = one_line(finding.message + at), one_line(f"mend: {finding.mend}")
+    return f"::{COMMANDS[finding.severity]} {words}::" + "%0A".join(map(escaped, lines)) + "\n"
 
 
 def as_github(located, subjects):

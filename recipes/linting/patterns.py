@@ -20,8 +20,9 @@ def of_pattern(pattern, names, pointer, field):
     except Refused as fault:
         return error("metric-pattern", pointer, str(fault), "write `^NAME$` of a metric, or `.*` for all")
     if not found:
-        return error("metric-pattern", pointer, f"{shown(pattern)} matches no metric's name, which the controller refuses; "
-                     f"metrics are {listed(names)}", "write `^NAME$` of a metric, or `.*` for all")
+        says = f"{shown(pattern)} matches no metric's name, which the controller refuses"
+        return error("metric-pattern", pointer, f"{says}; metrics are {listed(names)}",
+                     "write `^NAME$` of a metric, or `.*` for all")
     if found == [pattern] or pattern == ALL:
         return None
     says = f"{shown(pattern)} is a regular expression, by which these are {EFFECT[field]}: {listed(found)}"

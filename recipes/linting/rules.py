@@ -6,7 +6,7 @@ from linting.arguments import arguments_without_value, unknown_arguments, unused
 from linting.asking import refusal_of_template
 from linting.conditions import conditions_missing, findings_of_texts
 from linting.fields import unknown_fields, wrong_types
-from linting.findings import Severity, error
+from linting.findings import error
 from linting.limits import refused_by_controller, unreachable_limits
 from linting.patterns import metric_patterns
 from linting.references import STAND_IN
@@ -15,8 +15,11 @@ from linting.subjects import metric_names, metric_pointer
 from linting.verdicts import findings_of_answers
 from manifests import line_of, pointer_to
 
-OF_TEXT = (unknown_fields, wrong_types, refused_by_controller, conditions_missing, findings_of_shapes, findings_of_texts,
-           unreachable_limits, unknown_arguments, unused_arguments, arguments_without_value, metric_patterns)
+OF_TEXT = (unknown_fields, wrong_types, refused_by_controller, conditions_missing, findings_of_shapes,
+           findings_of_texts, unreachable_limits, unknown_arguments, unused_arguments, arguments_without_value,
+           metric_patterns)
+# What the engine would refuse, too, and name in the place of anything else.
+REFUSED_ALREADY = ("refused-by-controller", "unknown-argument")
 METRIC = re.compile(r"metric (\d+)\b")
 
 
@@ -51,8 +54,7 @@ def findings_of(engine, subject, chosen):
     """The findings of the chosen rules, the first line's first."""
     findings = [finding for rule in OF_TEXT for finding in rule(subject)]
     findings += findings_of_answers(engine, subject)
-    is_refused = any(one.severity == Severity.ERROR and one.rule in ("refused-by-controller", "unknown-argument") for one in findings)
-    if not is_refused and subject.metrics:
+    if subject.metrics and not any(one.rule in REFUSED_ALREADY for one in findings):
         findings += refused_by_engine(engine, subject)
     findings = [finding for finding in dict.fromkeys(findings) if finding.rule in chosen]
     return sorted(findings, key=lambda one: (line_of(subject.found, one.pointer) or 0, numbered(one.pointer)))

@@ -35,5 +35,6 @@ def result_of(one):
 
 def as_sarif(located, _subjects):
     driver = {"name": "argo_judge lint", "rules": [rule_of(name) for name in RULES]}
-    run = {"tool": {"driver": driver}, "results": [result_of(one) for one in located], "columnKind": "unicodeCodePoints"}
+    run = {"tool": {"driver": driver}, "results": [result_of(one) for one in located],
+           "columnKind": "unicodeCodePoints"}
     return json.dumps({"$schema": SCHEMA, "version": "2.1.0", "runs": [run]}, ensure_ascii=False, indent=2) + "\n"

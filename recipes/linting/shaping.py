@@ -1,4 +1,4 @@
-"""The shape of each metric: that of the command line, of the template's annotation, or what its provider usually answers."""
+"""The shape of each metric: that of the command line, of the template's annotation, or its provider's usual one."""
 import json
 from typing import NamedTuple
 
@@ -67,7 +67,9 @@ def provider_of(metric):
 def outermost(shape):
     """The outermost part of a shape, whether it may be nil or not."""
     shape = member(shape, "optional", default=shape)
-    return shape if isinstance(shape, str) else next(iter([name for name in ("list", "record") if member(shape, name) is not None]), None)
+    if isinstance(shape, str):
+        return shape
+    return next((name for name in ("list", "record") if member(shape, name) is not None), None)
 
 
 def shape_of_metric(place, metric, shaped):
@@ -80,7 +82,8 @@ def shape_of_metric(place, metric, shaped):
                        f"declare one by the annotation {ANNOTATION} or --shapes: {PAGE}")
     part = outermost(shaped.shape)
     if shaped.declared and provider in LIKELY and part is not None and part not in LIKELY[provider]:
-        return warning("shape", shaped.declared, f"{title}: the shape is {shown(shaped.shape)}, which {provider} doesn't answer",
+        return warning("shape", shaped.declared,
+                       f"{title}: the shape is {shown(shaped.shape)}, which {provider} doesn't answer",
                        f"compare it with a real result; {PAGE}")
     return None
 
@@ -92,8 +95,9 @@ def usual_taken(subject, shapes, noted):
              and isinstance(metric.get("name"), str)}
     if taken:
         text = json.dumps({**noted, **taken}, ensure_ascii=False)
-        yield info("shape", pointer_to("metadata"), f"no shape is declared of {listed(list(taken))}, so what the provider "
-                   "usually answers is taken", f"annotate the template: {ANNOTATION}: '{text}'")
+        yield info("shape", pointer_to("metadata"),
+                   f"no shape is declared of {listed(list(taken))}, so what the provider usually answers is taken",
+                   f"annotate the template: {ANNOTATION}: '{text}'")
 
 
 def findings_of_shapes(subject):
@@ -103,7 +107,8 @@ def findings_of_shapes(subject):
     for name in noted:
         if name not in names and not subject.refers_to_others:
             close = close_to(name, names)
-            yield warning("shape", AT_ANNOTATION, f"a shape is declared of {shown(name)}, which is no metric; metrics are {listed(names)}",
+            yield warning("shape", AT_ANNOTATION,
+                          f"a shape is declared of {shown(name)}, which is no metric; metrics are {listed(names)}",
                           f"did you mean {shown(close)}?" if close else "remove it")
     shapes = shapes_of_metrics(subject)
     yield from usual_taken(subject, shapes, noted)

@@ -53,7 +53,8 @@ class Subject(NamedTuple):
 def placed(value, name):
     """The objects of a list in `spec`, each with its place there."""
     items = member(value, "spec", name)
-    return [(place, item) for place, item in enumerate(items) if isinstance(item, dict)] if isinstance(items, list) else []
+    items = items if isinstance(items, list) else []
+    return [(place, item) for place, item in enumerate(items) if isinstance(item, dict)]
 
 
 def metric_pointer(place, *names):

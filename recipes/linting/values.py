@@ -1,5 +1,5 @@
-"""Values of a shape on which a condition is tried: round its numbers, of each length that matters, with and without what
-is optional. There are a few hundred at most, whatever the shape is."""
+"""Values of a shape on which a condition is tried: round its numbers, of each length that matters, with and without
+what is optional. There are a few hundred at most, whatever the shape is."""
 import itertools
 import json
 import math
@@ -68,12 +68,14 @@ def decimals(material):
 
 
 def wholes(material):
-    near = [whole for number in material.numbers for whole in (math.floor(number), math.ceil(number) - 1, math.floor(number) + 1)]
+    near = [near for number in material.numbers
+            for near in (math.floor(number), math.ceil(number) - 1, math.floor(number) + 1)]
     return [number for number in [*near, 0, 1, LARGE, -LARGE] if abs(number) < 2**63]
 
 
 def texts(material):
-    other = next((text for text in OTHERS if not any(part in text or text in part for part in material.texts if part)), "@")
+    parts = [part for part in material.texts if part]
+    other = next((text for text in OTHERS if not any(part in text or text in part for part in parts)), "@")
     return [*material.texts, other, " ".join(material.texts)]
 
 

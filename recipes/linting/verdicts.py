@@ -7,7 +7,8 @@ from linting.subjects import metric_pointer, metric_title
 from linting.values import value_text
 
 MENDS_OF_FAULTS = {
-    "IndexOutOfRange": "test the length first: `len(result) > 0 && ..`, or `len(result) == 0 || ..` where no data is a success",
+    "IndexOutOfRange": "test the length first: `len(result) > 0 && ..`, or `len(result) == 0 || ..` where no data is a "
+                       "success",
     "NilOperand": "test for nil first, as `result != nil && ..`, or use `default(result, 0)`",
     "DivisionByZero": "test the divisor first, as `result.total > 0 && ..`",
 }
@@ -30,9 +31,9 @@ def constants(asked, answers):
     booleans = [answer for answer in answers if isinstance(answer, bool)]
     if len(booleans) < 2 or len(set(booleans)) != 1:
         return
-    kind = warning if asked.is_complete else info
+    kind, answer = warning if asked.is_complete else info, "true" if booleans[0] else "false"
     yield kind("constant-condition", asked.pointer,
-               f"{asked.title} is {'true' if booleans[0] else 'false'} for each of {len(booleans)} values that were tried{asked.noted}",
+               f"{asked.title} is {answer} for each of {len(booleans)} values that were tried{asked.noted}",
                "look at the threshold and its unit, 0.95 or 95, and at the shape")
 
 
@@ -43,11 +44,13 @@ def of_both(first, second, answers, others):
     pairs = list(zip(answers, others))
     value = first_with(first.question.values, pairs, (True, True))
     if value is not None:
-        yield warning("both-conditions", pointer, f"{title}: both conditions are true for {value}{noted}, which is a failure",
+        yield warning("both-conditions", pointer,
+                      f"{title}: both conditions are true for {value}{noted}, which is a failure",
                       "let them exclude one another, as `>= 0.95` and `< 0.95`")
     value = first_with(first.question.values, pairs, (False, False))
     if value is not None:
-        yield info("neither-condition", pointer, f"{title}: both conditions are false for {value}{noted}, which is inconclusive",
+        yield info("neither-condition", pointer,
+                   f"{title}: both conditions are false for {value}{noted}, which is inconclusive",
                    "nothing, where a person should decide there; else cover it by one of them")
 
 

@@ -1,5 +1,5 @@
-"""Looks at each example of docs/use/lint.md, put into a template without findings: a rule has to find something in what its
-section says that it finds, and nothing in the other. Both are those of each rule that there is."""
+"""Looks at each example of docs/use/lint.md, put into a template without findings: a rule has to find something in what
+its section says that it finds, and nothing in the other. Each rule that there is has both."""
 import json
 import os
 import pathlib

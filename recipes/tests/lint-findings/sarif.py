@@ -1,0 +1,15 @@
+"""Prints what a SARIF report has, without its rules, of which it checks that each has a section of the page."""
+import json
+import pathlib
+import sys
+import urllib.parse
+
+report = json.load(sys.stdin)
+run = report["runs"][0]
+for rule in run["tool"]["driver"]["rules"]:
+    page, _, section = rule["helpUri"].partition("#")
+    text = pathlib.Path(urllib.parse.unquote(urllib.parse.urlsplit(page).path)).read_text(encoding="utf-8")
+    if f"\n## {section}\n" not in text or section != rule["id"]:
+        print(f"{rule['id']}: the page has no section of it")
+del run["tool"]
+print(json.dumps(report, indent=2))
