@@ -1,0 +1,62 @@
+"""Why a case differs: what the engine explains of the events that led to it."""
+from itertools import islice
+from typing import NamedTuple
+
+from documents import parsed
+from reasons import lines_of_event
+from reports import event_line, metric_line
+from suites.comparing import differences
+from suites.judging import answered, document_of
+
+# Of a case, how many differences are shown, and how many events are explained.
+MOST_DIFFERENCES, MOST_EVENTS = 20, 6
+
+
+class Result(NamedTuple):
+    """A case, what differs of it (the first, and how many more there are), and the lines that say why."""
+    suite: object
+    case: object
+    differences: list
+    more: int
+    reasons: list
+
+    @property
+    def passed(self):
+        return not self.differences
+
+
+def explained(engine, document, place):
+    """What the engine explains of an event, and the metrics of its run; without an event, of a run that has none."""
+    words = ["--event", str(place)] if place is not None else ["--run", document["runs"][0]["name"]]
+    text, _ = answered(engine, ["explain", "--output", "json", *words], document)
+    return parsed(text, "explain")["runs"][0]
+
+
+def lines_of_metrics(metrics):
+    for one in metrics:
+        yield metric_line(one["metric"]).rstrip("\n")
+        if one["waitsFor"] is not None:
+            yield f"  {one['metric']['phase']}: {one['waitsFor']}"
+
+
+def reasons(engine, subject, case, found):
+    """The lines that say why a run is as it is: the events that led to it, and its metrics."""
+    places = sorted({place for one in found for place in one.events})
+    document = document_of(subject, [case])
+    lines, run = [], None
+    for place in places[:MOST_EVENTS] or [None]:
+        run = explained(engine, document, place)
+        for one in run["events"]:
+            lines += [event_line(one["event"]).rstrip("\n"), *lines_of_event(one)]
+    left = len(places) - MOST_EVENTS
+    lines += [f"and {left} more events"] if left > 0 else []
+    return lines + list(lines_of_metrics(run["metrics"]))
+
+
+def result_of(engine, subject, suite, case, outcome):
+    """The result of a case. Where it differs the engine is asked why."""
+    rest = differences(case, outcome)
+    found = list(islice(rest, MOST_DIFFERENCES))
+    more = sum(1 for _ in rest)
+    lines = reasons(engine, subject, case, found) if found and outcome.run is not None else []
+    return Result(suite, case, found, more, lines)

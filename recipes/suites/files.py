@@ -1,0 +1,128 @@
+"""The files of suites: each names a template, shapes, arguments and tests."""
+import os
+from dataclasses import dataclass
+
+from documents import NumberText, Refused, listed, member, note, objects, shown
+from dryruns import names_of, with_dry_names
+from manifests import documents_of, files_in, objects_of
+from suites.cases import args_of, case_of
+from suites.nodes import Node, check_fields, text_of
+from templates import ANNOTATION, metrics_of, noted_shapes, own_shape, with_conditions
+
+FIELDS = ("template", "templateName", "shapes", "args", "tests")
+KINDS = ("AnalysisTemplate", "ClusterAnalysisTemplate")
+
+
+@dataclass
+class Suite:
+    """The tests of one template; `written` is the template as its file has it, `template` as the engine judges it."""
+    file: str
+    template: dict
+    shapes: dict
+    args: dict
+    cases: list
+
+
+# ---- the template
+
+def path_next_to(node, expected):
+    """The path of a file that a suite names, which is relative to the suite's own folder."""
+    folder = "." if node.found.file == "-" else os.path.dirname(node.found.file)
+    return os.path.join(folder, text_of(node, expected))
+
+
+def template_in_file(node, name):
+    """The template of a file, by its name where there are several."""
+    path = path_next_to(node, "the path of a template's file, or a template")
+    found = [one.value for one in objects_of(path, f"{node.where}: template") if member(one.value, "kind") in KINDS]
+    names = [member(one, "metadata", "name") for one in found]
+    chosen = [one for one in found if name.value is None or member(one, "metadata", "name") == name.value]
+    if len(chosen) != 1:
+        wanted = "one template there, or its `templateName`" if name.value is None else f"one template of the name {shown(name.value)}"
+        raise Refused(f"{node.where}: {path}: expected {wanted}; templates are {listed(names)}")
+    return chosen[0]
+
+
+def check_arguments(node, template):
+    """Refuses an argument that is a number, which the engine would be given as a text and kubectl refuses."""
+    for place, arg in enumerate(objects(member(template, "spec", "args"))):
+        if isinstance(member(arg, "value"), NumberText):
+            raise Refused(f"{node.where}: spec.args[{place}].value of the template: expected a text, found the number {arg['value']}")
+
+
+def template_of(suite):
+    """The template of a suite: its own, or that of the file that it names."""
+    node, name = suite.member("template"), suite.member("templateName")
+    if isinstance(node.value, dict):
+        if name.value is not None:
+            raise Refused(f"{name.where}: expected no `templateName` with a template in the suite itself")
+        template = node.value
+    else:
+        template = template_in_file(node, name)
+    check_arguments(node, template)
+    return with_conditions(with_dry_names(template))
+
+
+# ---- shapes
+
+def given_shapes(node):
+    """The shapes that a suite has: an object, or the path of a file that has one."""
+    if node.value is None or isinstance(node.value, dict):
+        return node.value
+    path = path_next_to(node, "the path of a file of shapes, or an object of them")
+    found = [value for value, _ in documents_of(path, f"{node.where}: shapes")]
+    if len(found) != 1 or not isinstance(found[0], dict):
+        raise Refused(f"{node.where}: {path}: expected one object that has a shape for each metric, by its name")
+    return found[0]
+
+
+def shapes_of(suite, template):
+    """The shapes of a template's metrics: those of the suite, else those of the template's annotation."""
+    named = [metric for metric in metrics_of(template) if isinstance(member(metric, "name"), str)]
+    own = {metric["name"]: own_shape(metric) for metric in named}
+    given = given_shapes(suite.member("shapes"))
+    given = noted_shapes(template) if given is None else given
+    if given is None and not all(own.values()):
+        raise Refused(f"{suite.where}: expected `shapes`, or the annotation {ANNOTATION} of the template")
+    return {**{name: shape for name, shape in own.items() if shape}, **(given or {})}
+
+
+# ---- suites
+
+def suite_of(found):
+    """The suite that a document is."""
+    node = Node(found.value, found, "")
+    check_fields(node, FIELDS, "a suite")
+    template = template_of(node)
+    arguments = [arg["name"] for arg in objects(member(template, "spec", "args")) if isinstance(member(arg, "name"), str)]
+    args, metrics = args_of(node.member("args"), arguments), names_of(template)
+    cases, places = [], {}
+    for item in node.member("tests").items("a list of tests as `tests`"):
+        case = case_of(item, args, metrics, arguments)
+        if case.name in places:
+            raise Refused(f"{item.where}: a test has the name {shown(case.name)} already: {places[case.name]}")
+        places[case.name] = item.where
+        cases.append(case)
+    if not cases:
+        raise node.member("tests").refused("one test or more")
+    return Suite(found.file, template, shapes_of(node, template), args, cases)
+
+
+def is_of_kubernetes(value):
+    return member(value, "apiVersion") is not None and member(value, "kind") is not None
+
+
+def suites_in(paths):
+    """The suites of files and folders. Objects of Kubernetes that are there, too, are counted in a line."""
+    suites, passed_over = [], 0
+    for path in files_in(paths):
+        for found in objects_of(path, path):
+            if is_of_kubernetes(found.value):
+                passed_over += 1
+            else:
+                suites.append(suite_of(found))
+    if not suites:
+        raise Refused(f"{', '.join(paths)}: expected a suite, an object with `template` and `tests`; found none")
+    if passed_over:
+        note(f"objects of Kubernetes, which are no suites, were passed over: {passed_over}")
+    return suites

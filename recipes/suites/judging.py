@@ -1,0 +1,97 @@
+"""What the engine says of cases: many of them are runs of one document."""
+import json
+import re
+import subprocess
+import sys
+from typing import NamedTuple, Optional
+
+from documents import judged
+from ending import Status
+from reports import checked
+from suites.cases import MOST_BYTES, MOST_MEASUREMENTS
+
+MOST_RUNS = 64
+TEXT = re.compile(r'"(?:[^"\\]|\\.)*"')
+NAME = re.compile(r": ([A-Z][A-Za-z0-9]*)(?=:|$)")
+
+
+class Subject(NamedTuple):
+    """What cases are judged by: a template, the shapes of its metrics, and the arguments of a case's run."""
+    template: dict
+    shapes: dict
+    args_of: object = lambda case: case.args
+
+
+class Outcome(NamedTuple):
+    """What the engine says of a case: its run of a report, or the line of a refusal."""
+    run: Optional[dict]
+    refusal: Optional[str]
+
+
+def name_of_refusal(line):
+    """The name in the line of a refusal, which comes after where it is."""
+    found = NAME.search(TEXT.sub('""', line))
+    return found[1] if found else line
+
+
+# ---- documents
+
+def document_of(subject, cases):
+    """The document whose runs are these cases."""
+    runs = [{"name": case.name, "args": subject.args_of(case)} for case in cases]
+    entries = [{"run": case.name, **({} if answer.metric is None else {"metric": answer.metric}), **answer.members}
+               for case in cases for answer in case.in_order()]
+    return {"manifest": subject.template, "shapes": subject.shapes, "runs": runs, "measurements": entries}
+
+
+def parts_of(cases, first_size):
+    """Cases in parts that fit one document each. One that expects a refusal is alone: it would be that of the others."""
+    part, count, size = [], 0, first_size
+    for case in cases:
+        is_alone = case.expected.refused is not None
+        is_full = (len(part) == MOST_RUNS or count + case.count > MOST_MEASUREMENTS or size + case.size > MOST_BYTES)
+        if part and (is_full or is_alone):
+            yield part
+            part, count, size = [], 0, first_size
+        if is_alone:
+            yield [case]
+        else:
+            part, count, size = [*part, case], count + case.count, size + case.size
+    if part:
+        yield part
+
+
+# ---- the engine
+
+def ended_otherwise(ended):
+    """Ends as the engine did where it neither judged nor refused a document, with its own line."""
+    sys.stderr.write(ended.stderr)
+    raise Status(ended.returncode if ended.returncode > 0 else 128 - ended.returncode)
+
+
+def answered(engine, words, document):
+    """What the engine writes of a document, or its refusal, one of which is None."""
+    ended = judged(engine, words, document, stdout=subprocess.PIPE, stderr=subprocess.PIPE)
+    if ended.returncode == 2:
+        return None, ended.stderr.strip()
+    if ended.returncode not in (0, 1):
+        ended_otherwise(ended)
+    return ended.stdout, None
+
+
+def outcomes_of_part(engine, subject, cases):
+    """The outcome of each case of a part; where their document is refused each has one of its own."""
+    document = document_of(subject, cases)
+    text, refusal = answered(engine, ["run", "--plain", "--output", "json"], document)
+    if refusal is None:
+        return [Outcome(run, None) for run in checked(document, text, "document", "report")]
+    if len(cases) == 1:
+        return [Outcome(None, refusal)]
+    return [outcome for case in cases for outcome in outcomes_of_part(engine, subject, [case])]
+
+
+def outcomes_of(engine, subject, cases):
+    """Each case with its outcome."""
+    first_size = len(json.dumps([subject.template, subject.shapes])) + 1024
+    for part in parts_of(cases, first_size):
+        yield from zip(part, outcomes_of_part(engine, subject, part))
