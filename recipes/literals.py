@@ -20,8 +20,9 @@ ARITHMETIC = ("+", "-", "*", "/", "%")
 NOTHING_LEFT = ("", "(", "[", "{", ",", "?", ":", "!", "&&", "||", *ARITHMETIC, *OPERATORS)
 SIZES = ("len", "count")
 
-# A number, the comparison whose right operand it is (any where there is none), and the text that writes it.
-Literal = namedtuple("Literal", "number comparison written")
+# A number, the comparison whose right operand it is (any where there is none), the text that writes it, where its digits
+# begin and end, and whether it is compared with a list's length or a count of its items.
+Literal = namedtuple("Literal", "number comparison written start end is_size")
 
 
 def compares_otherwise(literal, measured, cut):
@@ -61,20 +62,32 @@ def sides(texts, place):
     return place - 1, "", right
 
 
-def literals_of(condition):
-    """The numbers of a bound condition that a measured number may be compared with: no index, no default, and none that
-    is compared with a list's length."""
-    tokens = [(found.lastgroup, found[0]) for found in TOKEN.finditer(condition) if found.lastgroup != "blank"]
-    tokens = [("", ""), ("", ""), *tokens, ("", "")]  # left and right of a number there may be nothing
+def is_of_size(texts, inside, place, at):
+    """Whether a number is compared with a list's length or a count of its items, left of it (at `at`) or right of it."""
+    is_left = texts[at] in COMPARISONS and texts[at - 1] == ")" and inside[at - 1] in SIZES
+    return is_left or texts[place + 1] in COMPARISONS and texts[place + 2] in SIZES
+
+
+def numbers_of(condition):
+    """The numbers of a bound condition: no index and no default."""
+    found = [one for one in TOKEN.finditer(condition) if one.lastgroup != "blank"]
+    # Left and right of a number there may be nothing.
+    tokens = [("", ""), ("", ""), *((one.lastgroup, one[0]) for one in found), ("", ""), ("", "")]
     texts, inside = [text for _, text in tokens], list(openers(tokens))
     for place, (kind, text) in enumerate(tokens):
         if kind != "number" or inside[place] == "index":
             continue
         at, minus, right = sides(texts, place)
         left = texts[at]
-        is_size = left in COMPARISONS and texts[at - 1] == ")" and inside[at - 1] in SIZES
-        if is_size or (left, inside[place]) == (",", "default"):
+        if (left, inside[place]) == (",", "default"):
             continue
         comparison = left if left in COMPARISONS else "" if left in ARITHMETIC else MIRRORED.get(right, "")
-        number = number_of_literal(text)
-        yield Literal(-number if minus else number, comparison, minus + text)
+        number, token = number_of_literal(text), found[place - 2]
+        yield Literal(-number if minus else number, comparison, minus + text, token.start(), token.end(),
+                      is_of_size(texts, inside, place, at))
+
+
+def literals_of(condition):
+    """The numbers of a bound condition that a measured number may be compared with: no index, no default, and none that
+    is compared with a list's length."""
+    return (literal for literal in numbers_of(condition) if not literal.is_size)

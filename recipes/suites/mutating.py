@@ -1,3 +1,56 @@
-"""Which moves of a template no test notices."""
+"""Which moves of a template no test notices: the tests are judged anew by each moved template."""
+import os
+from concurrent.futures import ThreadPoolExecutor
+from dataclasses import dataclass, field
+
+from suites.comparing import differences
+from suites.judging import Subject, name_of_refusal, outcomes_of
+from suites.moves import moves_of
+
+
+@dataclass
+class Trial:
+    """What came of the moves of a suite's template; one that is passed over has a reason."""
+    suite: object
+    noticed: list = field(default_factory=list)
+    unnoticed: list = field(default_factory=list)
+    passed_over: list = field(default_factory=list)
+
+
+def judged_cases(suite):
+    """The tests that may notice a move: those whose document is judged."""
+    return [case for case in suite.cases if case.expected.refused is None]
+
+
+def tried(engine, suite, move):
+    """Whether a test notices a move, or the name of the refusal where each document is refused by it."""
+    subject = Subject(move.template_of(suite.template), suite.shapes, move.args_of)
+    refusals, count = [], 0
+    for case, outcome in outcomes_of(engine, subject, judged_cases(suite)):
+        count += 1
+        if outcome.refusal is not None:
+            refusals.append(name_of_refusal(outcome.refusal))
+        elif next(differences(case, outcome), None) is not None:
+            return True
+    return refusals[0] if refusals and len(refusals) == count else False
+
+
 def trials_of(engine, suites):
-    return []
+    """A trial for each suite; moves are judged side by side."""
+    trials = [Trial(suite) for suite in suites]
+    found = [(trial, move) for trial in trials
+             for move in moves_of(trial.suite.template, trial.suite.shapes, judged_cases(trial.suite))]
+    with ThreadPoolExecutor(os.cpu_count()) as side_by_side:
+        answers = side_by_side.map(lambda one: one[1].after and tried(engine, one[0].suite, one[1]), found)
+        for (trial, move), answer in zip(found, answers):
+            add(trial, move, answer)
+    return trials
+
+
+def add(trial, move, answer):
+    if move.after is None:
+        trial.passed_over.append((move, move.need))
+    elif isinstance(answer, str):
+        trial.passed_over.append((move, f"refused, {answer}"))
+    else:
+        (trial.noticed if answer else trial.unnoticed).append(move)

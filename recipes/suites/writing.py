@@ -24,7 +24,7 @@ def lines_of(result):
 
 
 def line_of_move(move):
-    return f"{move.what}: {move.before} -> {move.after}"
+    return f"{move.what}: {move.before}" + ("" if move.after is None else f" -> {move.after}")
 
 
 def counted(number, what):
