@@ -71,13 +71,13 @@ def patterns_of(template):
     return patterns if all(isinstance(pattern, str) and pattern for pattern in patterns) else None
 
 
-def by_patterns(patterns, names):
+def by_patterns(patterns, names, is_noted=True):
     """The names that regular expressions make dry. Each that doesn't match just the metric of its name is
-    reported."""
+    reported, where notes are wanted."""
     dry = set()
     for place, pattern in enumerate(patterns):
         found = matched(pattern, names, place)
-        if found != [pattern] and pattern != ALL:
+        if is_noted and found != [pattern] and pattern != ALL:
             note(f"spec.dryRun: {shown(pattern)} is a regular expression, by which these are dry: {listed(found)}")
         dry.update(found)
     return dry
@@ -90,12 +90,12 @@ def with_dry(template, dry):
     return {**template, "spec": {**spec, "dryRun": rules} if rules else spec}
 
 
-def with_dry_names(template):
+def with_dry_names(template, is_noted=True):
     """A template whose `spec.dryRun` has whole names, or is as it was where argo_judge reads it alike or refuses it."""
     patterns, names = patterns_of(template), names_of(template)
     if not patterns or not names or set(patterns) == {ALL}:
         return template
-    return with_dry(template, by_patterns(patterns, names))
+    return with_dry(template, by_patterns(patterns, names, is_noted))
 
 
 # ---- the marks of a run

@@ -78,8 +78,8 @@ def answer_of(node, metric, more_fields=()):
     known = ANSWER_FIELDS + more_fields
     for name in node.value:
         if name not in known:
-            raise Refused(f"{node.member(name).where}: an answer has no field {shown(name)}; {guess(name, known)} "
-                          "A record is written as `value: {..}`")
+            raise Refused(f"{node.member(name).where}: an answer has no field {shown(name)}; {guess(name, known)}; "
+                          "a record is written as `value: {..}`")
     members, repeat = members_of(node), node.member("repeat")
     times = 1 if repeat.value is None else whole_of(repeat, 1, MOST_MEASUREMENTS)
     is_stop = "stop" in members

@@ -31,13 +31,11 @@ NOTHING = OfEvent((), (), None)
 def check_verdict(node, words):
     causes = CAUSES.get(words[1], ()) if len(words) > 1 else ()
     choices = (VERDICTS, tuple(CAUSES) if words[:1] == ("Error",) else (), causes)
+    if not words or len(words) > len(choices) or not any(choices[len(words) - 1]):
+        raise node.refused(f"{', '.join(VERDICTS)}, or Error with its cause, or with its cause and fault")
     for word, known in zip(words, choices):
-        if not any(known):
-            raise Refused(f"{node.where}: {shown(node.value)} is no verdict; nothing comes before {shown(word)} that has a part")
         if word not in known:
             raise Refused(f"{node.where}: {shown(node.value)} is no verdict; {guess(word, known)}")
-    if not 1 <= len(words) <= len(choices):
-        raise node.refused("a verdict of one to three words")
 
 
 def verdict_of(node):
@@ -66,7 +64,7 @@ def effect_of(node):
 def of_event(node, is_stop):
     """What an answer of a suite expects of the event that it makes."""
     verdict, fault = verdict_of(node.member("verdict")), node.member("fault")
-    name = None if fault.value is None else word_of(fault, FAULTS + MISFITS, "a fault or a misfit")
+    name = None if fault.value is None else word_of(fault, FAULTS + MISFITS, "a fault or misfit")
     if is_stop and (verdict or name):
         raise Refused(f"{node.where}: a stop has neither verdict nor fault; expected `effect` alone")
     return OfEvent(verdict, effect_of(node.member("effect")), name)

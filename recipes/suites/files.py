@@ -9,17 +9,17 @@ from suites.cases import args_of, case_of
 from suites.nodes import Node, check_fields, text_of
 from templates import ANNOTATION, metrics_of, noted_shapes, own_shape, with_conditions
 
-FIELDS = ("template", "templateName", "shapes", "args", "tests")
+FIELDS = ("template", "templateName", "shapes", "args", "equivalentMoves", "tests")
 KINDS = ("AnalysisTemplate", "ClusterAnalysisTemplate")
 
 
 @dataclass
 class Suite:
-    """The tests of one template; `written` is the template as its file has it, `template` as the engine judges it."""
+    """The tests of one template. `equivalent` are moves, by their lines, that no test can notice."""
     file: str
     template: dict
     shapes: dict
-    args: dict
+    equivalent: list
     cases: list
 
 
@@ -60,7 +60,7 @@ def template_of(suite):
     else:
         template = template_in_file(node, name)
     check_arguments(node, template)
-    return with_conditions(with_dry_names(template))
+    return with_conditions(with_dry_names(template, is_noted=False))
 
 
 # ---- shapes
@@ -105,7 +105,10 @@ def suite_of(found):
         cases.append(case)
     if not cases:
         raise node.member("tests").refused("one test or more")
-    return Suite(found.file, template, shapes_of(node, template), args, cases)
+    moves = node.member("equivalentMoves")
+    lines = [] if moves.value is None else moves.items("a list of moves, as --mutate prints them")
+    equivalent = [text_of(line, "a move, as --mutate prints it") for line in lines]
+    return Suite(found.file, template, shapes_of(node, template), equivalent, cases)
 
 
 def is_of_kubernetes(value):

@@ -29,6 +29,11 @@ class Move:
     argument: Optional[str] = None
     by: Fraction = Fraction(0)
 
+    @property
+    def line(self):
+        """The move as it is printed, and as a suite names it."""
+        return f"{self.what}: {self.before}" + ("" if self.after is None else f" -> {self.after}")
+
     def template_of(self, template):
         return changed(template, self.path, self.value) if self.path else template
 

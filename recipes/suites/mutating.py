@@ -3,6 +3,7 @@ import os
 from concurrent.futures import ThreadPoolExecutor
 from dataclasses import dataclass, field
 
+from documents import Refused, shown
 from suites.comparing import differences
 from suites.judging import Subject, name_of_refusal, outcomes_of
 from suites.moves import moves_of
@@ -35,11 +36,21 @@ def tried(engine, suite, move):
     return refusals[0] if refusals and len(refusals) == count else False
 
 
+def moves_of_suite(suite):
+    """The moves of a suite's template. One that no test can notice has to be there."""
+    cases = judged_cases(suite)
+    moves = list(moves_of(suite.template, suite.shapes, cases)) if cases else []
+    lines = [move.line for move in moves if move.after is not None]
+    for line in suite.equivalent:
+        if line not in lines:
+            raise Refused(f"{suite.file}: equivalentMoves: expected a move of the template as --mutate prints it, found {shown(line)}")
+    return moves
+
+
 def trials_of(engine, suites):
     """A trial for each suite; moves are judged side by side."""
     trials = [Trial(suite) for suite in suites]
-    found = [(trial, move) for trial in trials
-             for move in moves_of(trial.suite.template, trial.suite.shapes, judged_cases(trial.suite))]
+    found = [(trial, move) for trial in trials for move in moves_of_suite(trial.suite)]
     with ThreadPoolExecutor(os.cpu_count()) as side_by_side:
         answers = side_by_side.map(lambda one: one[1].after and tried(engine, one[0].suite, one[1]), found)
         for (trial, move), answer in zip(found, answers):
@@ -48,9 +59,15 @@ def trials_of(engine, suites):
 
 
 def add(trial, move, answer):
+    """Adds what came of a move to a trial."""
+    is_equivalent = move.line in trial.suite.equivalent
     if move.after is None:
         trial.passed_over.append((move, move.need))
     elif isinstance(answer, str):
         trial.passed_over.append((move, f"refused, {answer}"))
+    elif is_equivalent and answer:
+        raise Refused(f"{trial.suite.file}: equivalentMoves: a test notices {shown(move.line)}; expected none that does")
+    elif is_equivalent:
+        trial.passed_over.append((move, "one of the suite's equivalentMoves"))
     else:
         (trial.noticed if answer else trial.unnoticed).append(move)

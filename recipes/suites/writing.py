@@ -23,10 +23,6 @@ def lines_of(result):
     return lines + [f"  {line}" for line in result.reasons]
 
 
-def line_of_move(move):
-    return f"{move.what}: {move.before}" + ("" if move.after is None else f" -> {move.after}")
-
-
 def counted(number, what):
     return f"{number} {what}" if number == 1 else f"{number} {what}s"
 
@@ -36,9 +32,9 @@ def counted(number, what):
 def text_of_moves(trial):
     """What is said of the moves of a suite's template."""
     for move in trial.unnoticed:
-        yield f"UNNOTICED {trial.suite.file}: {line_of_move(move)}\n  needs {move.need}\n"
+        yield f"UNNOTICED {trial.suite.file}: {move.line}\n  needs {move.need}\n"
     for move, why in trial.passed_over:
-        yield f"passed over {trial.suite.file}: {line_of_move(move)}: {why}\n"
+        yield f"passed over {trial.suite.file}: {move.line}: {why}\n"
     noticed = f"{len(trial.noticed)} of {counted(len(trial.noticed) + len(trial.unnoticed), 'move')} noticed"
     yield f"{trial.suite.file}: {noticed}\n"
 
@@ -115,9 +111,9 @@ def junit_cases(results, trials):
         yield result.case.name, result.suite.file, lines[0] if lines else None, "\n".join(lines)
     for trial in trials or ():
         for move in trial.noticed:
-            yield f"move of {line_of_move(move)}", trial.suite.file, None, ""
+            yield f"move of {move.line}", trial.suite.file, None, ""
         for move in trial.unnoticed:
-            yield f"move of {line_of_move(move)}", trial.suite.file, "no test notices it", f"needs {move.need}"
+            yield f"move of {move.line}", trial.suite.file, "no test notices it", f"needs {move.need}"
 
 
 def junit_of(results, trials):
