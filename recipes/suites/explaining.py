@@ -9,7 +9,7 @@ from suites.comparing import differences
 from suites.judging import answered, document_of
 
 # Of a case, how many differences are shown, and how many events are explained.
-MOST_DIFFERENCES, MOST_EVENTS = 20, 6
+MOST_DIFFERENCES, MOST_EVENTS = 8, 4
 
 
 class Result(NamedTuple):
@@ -48,8 +48,7 @@ def reasons(engine, subject, case, found):
         run = explained(engine, document, place)
         for one in run["events"]:
             lines += [event_line(one["event"]).rstrip("\n"), *lines_of_event(one)]
-    left = len(places) - MOST_EVENTS
-    lines += [f"and {left} more events"] if left > 0 else []
+    lines += ["other events are left out"] if places[MOST_EVENTS:] else []
     return lines + list(lines_of_metrics(run["metrics"]))
 
 
@@ -58,5 +57,6 @@ def result_of(engine, subject, suite, case, outcome):
     rest = differences(case, outcome)
     found = list(islice(rest, MOST_DIFFERENCES))
     more = sum(1 for _ in rest)
-    lines = reasons(engine, subject, case, found) if found and outcome.run is not None else []
+    is_judged = case.expected.refused is None and outcome.run is not None
+    lines = reasons(engine, subject, case, found) if found and is_judged else []
     return Result(suite, case, found, more, lines)

@@ -8,12 +8,12 @@ from literals import ARGUMENT, COMPARISONS, bound, numbers_of
 from suites.numbers import MILLIONTH, moved, number_in, signed
 from templates import CONDITIONS, values_of
 
-# A limit, the least that it may be, which of two is the number of measurements that differs by them, and of which verdict.
+# A limit, the least that it may be, which of two is the number of measurements that differs by them, and what came of those.
 LIMITS = (
-    ("count", 1, min, "measured without error"),
+    ("count", 1, min, "ended without Error"),
     ("failureLimit", 0, max, "failed"),
-    ("inconclusiveLimit", 0, max, "inconclusive"),
-    ("consecutiveErrorLimit", 0, max, "in succession with errors"),
+    ("inconclusiveLimit", 0, max, "ended Inconclusive"),
+    ("consecutiveErrorLimit", 0, max, "ended in Error, one after another"),
 )
 
 
@@ -71,7 +71,7 @@ def changed(value, path, new):
 # ---- what would notice a move
 
 def need_of_limit(choice, counted):
-    return lambda before, after: f"a test with just {choice(before, after)} {counted}, and the metric's phase"
+    return lambda before, after: f"a test in which just {choice(before, after)} {counted}, and the metric's phase"
 
 
 def need_of_literal(literal):

@@ -13,6 +13,7 @@ from suites.moves import moves_of
 class Trial:
     """What came of the moves of a suite's template; one that is passed over has a reason."""
     suite: object
+    cases: list
     noticed: list = field(default_factory=list)
     unnoticed: list = field(default_factory=list)
     passed_over: list = field(default_factory=list)
@@ -23,25 +24,23 @@ def judged_cases(suite):
     return [case for case in suite.cases if case.expected.refused is None]
 
 
-def tried(engine, suite, move):
+def tried(engine, trial, move):
     """Whether a test notices a move, or the name of the refusal where each document is refused by it."""
-    subject = Subject(move.template_of(suite.template), suite.shapes, move.args_of)
-    refusals, count = [], 0
-    for case, outcome in outcomes_of(engine, subject, judged_cases(suite)):
-        count += 1
+    subject = Subject(move.template_of(trial.suite.template), trial.suite.shapes, move.args_of)
+    refusals = []
+    for case, outcome in outcomes_of(engine, subject, trial.cases):
         if outcome.refusal is not None:
             refusals.append(name_of_refusal(outcome.refusal))
         elif next(differences(case, outcome), None) is not None:
             return True
-    return refusals[0] if refusals and len(refusals) == count else False
+    return refusals[0] if refusals and len(refusals) == len(trial.cases) else False
 
 
-def moves_of_suite(suite):
+def moves_of_suite(suite, cases):
     """The moves of a suite's template. One that no test can notice has to be there."""
-    cases = judged_cases(suite)
     moves = list(moves_of(suite.template, suite.shapes, cases)) if cases else []
     lines = [move.line for move in moves if move.after is not None]
-    for line in suite.equivalent:
+    for line in suite.equivalent if cases else ():
         if line not in lines:
             raise Refused(f"{suite.file}: equivalentMoves: expected a move of the template as --mutate prints it, found {shown(line)}")
     return moves
@@ -49,10 +48,10 @@ def moves_of_suite(suite):
 
 def trials_of(engine, suites):
     """A trial for each suite; moves are judged side by side."""
-    trials = [Trial(suite) for suite in suites]
-    found = [(trial, move) for trial in trials for move in moves_of_suite(trial.suite)]
+    trials = [Trial(suite, judged_cases(suite)) for suite in suites]
+    found = [(trial, move) for trial in trials for move in moves_of_suite(trial.suite, trial.cases)]
     with ThreadPoolExecutor(os.cpu_count()) as side_by_side:
-        answers = side_by_side.map(lambda one: one[1].after and tried(engine, one[0].suite, one[1]), found)
+        answers = side_by_side.map(lambda one: one[1].after and tried(engine, *one), found)
         for (trial, move), answer in zip(found, answers):
             add(trial, move, answer)
     return trials

@@ -35,8 +35,11 @@ def text_of_moves(trial):
         yield f"UNNOTICED {trial.suite.file}: {move.line}\n  needs {move.need}\n"
     for move, why in trial.passed_over:
         yield f"passed over {trial.suite.file}: {move.line}: {why}\n"
-    noticed = f"{len(trial.noticed)} of {counted(len(trial.noticed) + len(trial.unnoticed), 'move')} noticed"
-    yield f"{trial.suite.file}: {noticed}\n"
+    tried = len(trial.noticed) + len(trial.unnoticed)
+    said = f"{len(trial.noticed)} of {counted(tried, 'move')} noticed" if tried else "nothing to move"
+    if not trial.cases:
+        said = "nothing is moved, since each test expects a refusal"
+    yield f"{trial.suite.file}: {said}\n"
 
 
 def text_of(results, trials):
