@@ -1,7 +1,7 @@
 """Objects of a cluster, read by `kubectl get`. Nothing in the cluster is changed."""
 import subprocess
 
-from documents import ENGINE, ENGINE_HELP, Refused, command_line, parsed
+from documents import ENGINE, ENGINE_HELP, Refused, command_line, member, parsed
 from manifests import objects_in
 
 HANDED_ON = ("namespace", "context", "kubeconfig")
@@ -44,9 +44,10 @@ def fetched(kind, name, words):
 
 
 def fetched_all(kind, words, names=(), selector=None):
-    """The objects of a kind: those of the names, those of labels, or all."""
-    where = f"kubectl get {kind}"
-    return objects_in(got([kind, *names, *(["-l", selector] if selector else [])], words), where)
+    """The objects of a kind, each by its name: those of the names, those of labels, or all."""
+    text = got([kind, *names, *(["-l", selector] if selector else [])], words)
+    return [found._replace(file=f"{kind}/{member(found.value, 'metadata', 'name')}", pointer="")
+            for found in objects_in(text, f"kubectl get {kind}")]
 
 
 def kind_of_template(words):
