@@ -20,11 +20,16 @@ def weight(made):
     return len(json.dumps(made["measurements"])) + len(json.dumps(made["runs"]))
 
 
+def key_of(made):
+    """What the runs of one document have in common: the template but for its name, and the shapes."""
+    return json.dumps([{name: value for name, value in made["manifest"].items() if name != "metadata"}, made["shapes"]])
+
+
 def batches_of(documents):
     """The places of documents that have one template and its shapes, of which each batch is small enough."""
     batches, open_ones = [], {}
     for place, made in enumerate(documents):
-        key = json.dumps([made["manifest"], made["shapes"]])
+        key = key_of(made)
         batch, size = open_ones.get(key, (None, 0))
         if batch is None or size + weight(made) > MOST_BYTES:
             batch, size = [], 0
