@@ -20,8 +20,8 @@ ARITHMETIC = ("+", "-", "*", "/", "%")
 NOTHING_LEFT = ("", "(", "[", "{", ",", "?", ":", "!", "&&", "||", *ARITHMETIC, *OPERATORS)
 SIZES = ("len", "count")
 
-# A number, the comparison whose right operand it is (any where there is none), the text that writes it, where its digits
-# begin and end, and whether it is compared with a list's length or a count of its items.
+# A number, the comparison whose right operand it is (any where there is none), the text that writes it, where its
+# digits begin and end, and whether it is compared with a list's length or a count of its items.
 Literal = namedtuple("Literal", "number comparison written start end is_size")
 
 
@@ -63,7 +63,7 @@ def sides(texts, place):
 
 
 def is_of_size(texts, inside, place, at):
-    """Whether a number is compared with a list's length or a count of its items, left of it (at `at`) or right of it."""
+    """Whether a number is compared with a list's length or a count of items, left of it (at `at`) or right of it."""
     is_left = texts[at] in COMPARISONS and texts[at - 1] == ")" and inside[at - 1] in SIZES
     return is_left or texts[place + 1] in COMPARISONS and texts[place + 2] in SIZES
 

@@ -108,7 +108,8 @@ def columns_of(node, metrics):
     given = {} if answers.value is None else answers.members("an object that has a list of answers for a metric's name")
     for name, member in given.items():
         known_name(member, name, metrics, "metric")
-    return [[answer_of(item, name) for item in given[name].items("a list of answers")] for name in metrics if name in given]
+    return [[answer_of(item, name) for item in given[name].items("a list of answers")]
+            for name in metrics if name in given]
 
 
 # ---- a test
@@ -132,7 +133,8 @@ def check_sizes(case):
     if case.count > MOST_MEASUREMENTS:
         raise Refused(f"{case.node.where}: found {case.count} measurements; expected at most {MOST_MEASUREMENTS}")
     if case.size > MOST_BYTES:
-        raise Refused(f"{case.node.where}: its measurements have about {case.size} bytes; expected at most {MOST_BYTES}")
+        found = f"its measurements have about {case.size} bytes"
+        raise Refused(f"{case.node.where}: {found}; expected at most {MOST_BYTES}")
 
 
 def check_expects(case):
@@ -141,8 +143,8 @@ def check_expects(case):
     if case.expected.refused is not None and of_events:
         raise Refused(f"{case.node.where}: a document that is refused has no events; expected `refused` alone")
     if not of_events and case.expected == OfCase(None, {}, None):
-        raise Refused(f"{case.node.where}: test {shown(case.name)} checks nothing; expected `expect`, or `verdict`, `effect` "
-                      "or `fault` of an answer")
+        raise Refused(f"{case.node.where}: test {shown(case.name)} checks nothing; expected `expect`, or `verdict`, "
+                      "`effect` or `fault` of an answer")
 
 
 def case_of(node, args, metrics, argument_names):

@@ -6,7 +6,7 @@ from suites.judging import name_of_refusal
 
 
 class Difference(NamedTuple):
-    """What was expected of something and what was found; `events`: which events of the run led to it, by their places."""
+    """What was expected of something and what was found; `events`: the places of the events that led to it."""
     what: str
     expected: str
     got: str

@@ -90,7 +90,7 @@ def of_case(node, metrics):
         return OfCase(None, {}, None)
     check_fields(node, FIELDS, "what a test expects")
     run, by_name, refused = (node.member(name) for name in FIELDS)
-    found = {} if by_name.value is None else by_name.members("an object that has for a metric's name what is expected of it")
+    found = {} if by_name.value is None else by_name.members("an object of what is expected by the names of metrics")
     for name, member in found.items():
         known_name(member, name, metrics, "metric")
     expected = OfCase(None if run.value is None else word_of(run, PHASES, "a phase"),

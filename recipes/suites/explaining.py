@@ -1,4 +1,5 @@
 """Why a case differs: what the engine explains of the events that led to it."""
+from dataclasses import replace
 from itertools import islice
 from typing import NamedTuple
 
@@ -10,6 +11,8 @@ from suites.judging import answered, document_of
 
 # Of a case, how many differences are shown, and how many events are explained.
 MOST_DIFFERENCES, MOST_EVENTS = 8, 4
+# The name of a run that is explained; that of a test may have characters that no command line takes.
+NAME = "test"
 
 
 class Result(NamedTuple):
@@ -27,7 +30,7 @@ class Result(NamedTuple):
 
 def explained(engine, document, place):
     """What the engine explains of an event, and the metrics of its run; without an event, of a run that has none."""
-    words = ["--event", str(place)] if place is not None else ["--run", document["runs"][0]["name"]]
+    words = ["--event", str(place)] if place is not None else ["--run", NAME]
     text, _ = answered(engine, ["explain", "--output", "json", *words], document)
     return parsed(text, "explain")["runs"][0]
 
@@ -42,7 +45,7 @@ def lines_of_metrics(metrics):
 def reasons(engine, subject, case, found):
     """The lines that say why a run is as it is: the events that led to it, and its metrics."""
     places = sorted({place for one in found for place in one.events})
-    document = document_of(subject, [case])
+    document = document_of(subject, [replace(case, name=NAME)])
     lines, run = [], None
     for place in places[:MOST_EVENTS] or [None]:
         run = explained(engine, document, place)

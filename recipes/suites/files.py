@@ -38,8 +38,8 @@ def template_in_file(node, name):
     names = [member(one, "metadata", "name") for one in found]
     chosen = [one for one in found if name.value is None or member(one, "metadata", "name") == name.value]
     if len(chosen) != 1:
-        wanted = "one template there, or its `templateName`" if name.value is None else f"one template of the name {shown(name.value)}"
-        raise Refused(f"{node.where}: {path}: expected {wanted}; templates are {listed(names)}")
+        wanted = "or its `templateName`" if name.value is None else f"of the name {shown(name.value)}"
+        raise Refused(f"{node.where}: {path}: expected one template there, {wanted}; templates are {listed(names)}")
     return chosen[0]
 
 
@@ -47,7 +47,8 @@ def check_arguments(node, template):
     """Refuses an argument that is a number, which the engine would be given as a text and kubectl refuses."""
     for place, arg in enumerate(objects(member(template, "spec", "args"))):
         if isinstance(member(arg, "value"), NumberText):
-            raise Refused(f"{node.where}: spec.args[{place}].value of the template: expected a text, found the number {arg['value']}")
+            where = f"{node.where}: spec.args[{place}].value of the template"
+            raise Refused(f"{where}: expected a text, found the number {arg['value']}")
 
 
 def template_of(suite):
@@ -94,7 +95,8 @@ def suite_of(found):
     node = Node(found.value, found, "")
     check_fields(node, FIELDS, "a suite")
     template = template_of(node)
-    arguments = [arg["name"] for arg in objects(member(template, "spec", "args")) if isinstance(member(arg, "name"), str)]
+    named = [member(arg, "name") for arg in objects(member(template, "spec", "args"))]
+    arguments = [name for name in named if isinstance(name, str)]
     args, metrics = args_of(node.member("args"), arguments), names_of(template)
     cases, places = [], {}
     for item in node.member("tests").items("a list of tests as `tests`"):

@@ -45,11 +45,12 @@ def document_of(subject, cases):
 
 
 def parts_of(cases, first_size):
-    """Cases in parts that fit one document each. One that expects a refusal is alone: it would be that of the others."""
+    """Cases in parts that fit one document each. One that expects a refusal is alone, since others would have it, too."""
     part, count, size = [], 0, first_size
     for case in cases:
         is_alone = case.expected.refused is not None
-        is_full = (len(part) == MOST_RUNS or count + case.count > MOST_MEASUREMENTS or size + case.size > MOST_BYTES)
+        is_larger = count + case.count > MOST_MEASUREMENTS or size + case.size > MOST_BYTES
+        is_full = len(part) == MOST_RUNS or is_larger
         if part and (is_full or is_alone):
             yield part
             part, count, size = [], 0, first_size

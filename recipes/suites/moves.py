@@ -3,12 +3,13 @@ from dataclasses import dataclass
 from fractions import Fraction
 from typing import NamedTuple, Optional
 
-from documents import member, objects, shown
+from documents import member, objects
 from literals import ARGUMENT, COMPARISONS, bound, numbers_of
 from suites.numbers import MILLIONTH, moved, number_in, signed
 from templates import CONDITIONS, values_of
 
-# A limit, the least that it may be, which of two is the number of measurements that differs by them, and what came of those.
+# A limit, the least that it may be, of which of two limits the number of measurements tells them apart, and what came
+# of those measurements.
 LIMITS = (
     ("count", 1, min, "ended without Error"),
     ("failureLimit", 0, max, "failed"),
@@ -44,7 +45,7 @@ class Move:
 
 
 class Use(NamedTuple):
-    """How an argument's value is used: by how much it is moved, and what would notice that (of `before` and `after`)."""
+    """How an argument's value is used: by how much it is moved, the least that it may be, and what would notice that."""
     by: Fraction
     least: Optional[int]
     need: object
@@ -104,9 +105,8 @@ def pieces_of(text, values):
 def has_wholes(shape):
     """Whether a shape has whole numbers."""
     if isinstance(shape, dict):
-        fields = member(shape, "record", default={})
-        inner = [member(shape, "list"), member(shape, "optional"), *(fields.values() if isinstance(fields, dict) else ())]
-        return any(has_wholes(one) for one in inner)
+        inner = [member(shape, "list"), member(shape, "optional"), *member(shape, "record", default={}).values()]
+        return any(map(has_wholes, inner))
     return shape == "whole"
 
 

@@ -42,7 +42,8 @@ def moves_of_suite(suite, cases):
     lines = [move.line for move in moves if move.after is not None]
     for line in suite.equivalent if cases else ():
         if line not in lines:
-            raise Refused(f"{suite.file}: equivalentMoves: expected a move of the template as --mutate prints it, found {shown(line)}")
+            raise Refused(f"{suite.file}: equivalentMoves: expected a move of the template as --mutate prints it, "
+                          f"found {shown(line)}")
     return moves
 
 
@@ -65,7 +66,8 @@ def add(trial, move, answer):
     elif isinstance(answer, str):
         trial.passed_over.append((move, f"refused, {answer}"))
     elif is_equivalent and answer:
-        raise Refused(f"{trial.suite.file}: equivalentMoves: a test notices {shown(move.line)}; expected none that does")
+        said = f"a test notices {shown(move.line)}; expected none that does"
+        raise Refused(f"{trial.suite.file}: equivalentMoves: {said}")
     elif is_equivalent:
         trial.passed_over.append((move, "one of the suite's equivalentMoves"))
     else:

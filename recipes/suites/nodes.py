@@ -66,9 +66,10 @@ def text_of(node, expected):
 
 
 def word_of(node, names, expected):
-    """A text that is one of these names."""
+    """A text that is one of these names; `expected`: what it is, after its article."""
     if text_of(node, expected) not in names:
-        raise Refused(f"{node.where}: {shown(node.value)} is no {expected.split(' ', 1)[1]}; {guess(node.value, names)}")
+        kind = expected.split(" ", 1)[1]
+        raise Refused(f"{node.where}: {shown(node.value)} is no {kind}; {guess(node.value, names)}")
     return node.value
 
 

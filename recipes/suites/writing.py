@@ -32,9 +32,9 @@ def counted(number, what):
 def text_of_moves(trial):
     """What is said of the moves of a suite's template."""
     for move in trial.unnoticed:
-        yield f"UNNOTICED {trial.suite.file}: {move.line}\n  needs {move.need}\n"
+        yield f"UNNOTICED {trial.suite.file}: {one_line(move.line)}\n  needs {move.need}\n"
     for move, why in trial.passed_over:
-        yield f"passed over {trial.suite.file}: {move.line}: {why}\n"
+        yield f"passed over {trial.suite.file}: {one_line(move.line)}: {why}\n"
     tried = len(trial.noticed) + len(trial.unnoticed)
     said = f"{len(trial.noticed)} of {counted(tried, 'move')} noticed" if tried else "nothing to move"
     if not trial.cases:
@@ -126,7 +126,8 @@ def junit_of(results, trials):
     root = ElementTree.Element("testsuites")
     for file, own in by_file.items():
         failures = sum(message is not None for _, _, message, _ in own)
-        suite = ElementTree.SubElement(root, "testsuite", name=xml_text(file), tests=str(len(own)), failures=str(failures))
+        counts = {"tests": str(len(own)), "failures": str(failures)}
+        suite = ElementTree.SubElement(root, "testsuite", name=xml_text(file), **counts)
         for name, _, message, text in own:
             add_case(suite, name, file, message, text)
     return '<?xml version="1.0" encoding="utf-8"?>\n' + ElementTree.tostring(root, encoding="unicode") + "\n"
