@@ -4,7 +4,7 @@ from dataclasses import dataclass
 
 from documents import NumberText, Refused, listed, member, note, objects, shown
 from dryruns import names_of, with_dry_names
-from manifests import documents_of, files_in, objects_of
+from manifests import SUFFIXES, documents_of, files_in, objects_of, yaml
 from suites.cases import args_of, case_of
 from suites.nodes import Node, check_fields, text_of
 from templates import ANNOTATION, metrics_of, noted_shapes, own_shape, with_conditions
@@ -114,13 +114,21 @@ def suite_of(found):
 
 
 def is_of_kubernetes(value):
-    return member(value, "apiVersion") is not None and member(value, "kind") is not None
+    names = ("apiVersion", "kind")
+    return all(member(value, name) is not None for name in names) and member(value, "tests") is None
+
+
+def check_readable(path):
+    """Refuses YAML where PyYAML isn't installed: kubectl reads its own objects alone."""
+    if yaml is None and path.endswith(SUFFIXES) and not path.endswith(".json"):
+        raise Refused(f"{path}: found YAML; expected PyYAML, or the suite as JSON, as `yq -o json` writes it")
 
 
 def suites_in(paths):
     """The suites of files and folders. Objects of Kubernetes that are there, too, are counted in a line."""
     suites, passed_over = [], 0
     for path in files_in(paths):
+        check_readable(path)
         for found in objects_of(path, path):
             if is_of_kubernetes(found.value):
                 passed_over += 1

@@ -45,7 +45,7 @@ def document_of(subject, cases):
 
 
 def parts_of(cases, first_size):
-    """Cases in parts that fit one document each. One that expects a refusal is alone, since others would have it, too."""
+    """Cases in parts that fit one document each. One that expects a refusal is alone: it would be one of all."""
     part, count, size = [], 0, first_size
     for case in cases:
         is_alone = case.expected.refused is not None

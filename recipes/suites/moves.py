@@ -8,7 +8,7 @@ from literals import ARGUMENT, COMPARISONS, bound, numbers_of
 from suites.numbers import MILLIONTH, moved, number_in, signed
 from templates import CONDITIONS, values_of
 
-# A limit, the least that it may be, of which of two limits the number of measurements tells them apart, and what came
+# A limit, the least that it may be, which of two limits is the number of measurements that they differ by, and what came
 # of those measurements.
 LIMITS = (
     ("count", 1, min, "ended without Error"),
@@ -45,7 +45,7 @@ class Move:
 
 
 class Use(NamedTuple):
-    """How an argument's value is used: by how much it is moved, the least that it may be, and what would notice that."""
+    """How an argument's value is used: by how much it moves, the least that it may be, and what would notice that."""
     by: Fraction
     least: Optional[int]
     need: object
