@@ -8,8 +8,8 @@ from literals import ARGUMENT, COMPARISONS, bound, numbers_of
 from suites.numbers import MILLIONTH, moved, number_in, signed
 from templates import CONDITIONS, values_of
 
-# A limit, the least that it may be, which of two limits is the number of measurements that they differ by, and what came
-# of those measurements.
+# A limit, the least that it may be, which of two limits is the number of measurements that they differ by, and what
+# came of those measurements.
 LIMITS = (
     ("count", 1, min, "ended without Error"),
     ("failureLimit", 0, max, "failed"),
