@@ -1,5 +1,5 @@
 """What the recipe `test` and kubectl's plugin do alike."""
-from documents import ENGINE, ENGINE_HELP, Refused, shown, write_text
+from documents import ENGINE, ENGINE_HELP, Refused, note, shown, write_text
 from suites.explaining import result_of
 from suites.files import suites_in
 from suites.judging import Subject, outcomes_of
@@ -23,15 +23,16 @@ def chosen(suites, text):
 
 def results_of(engine, suite):
     subject = Subject(suite.template, suite.shapes)
-    return [result_of(engine, subject, suite, case, outcome) for case, outcome in outcomes_of(engine, subject, suite.cases)]
+    outcomes = outcomes_of(engine, subject, suite.cases)
+    return [result_of(engine, subject, suite, case, outcome) for case, outcome in outcomes]
 
 
 def add_flags(parser):
     parser.add_argument("--filter", metavar="TEXT", help="run the tests alone whose name has this text")
-    parser.add_argument("--mutate", action="store_true", help="list the moves of limits and thresholds that no test notices")
+    parser.add_argument("--mutate", action="store_true", help="list moves of limits and thresholds that none notices")
     parser.add_argument("--output", choices=WRITERS, default="text", help="what is written; text without it")
     parser.add_argument("--engine", metavar="PROGRAM", default=ENGINE, help=ENGINE_HELP)
-    parser.add_argument("files", nargs="+", metavar="FILE", help="a suite in YAML or JSON, or a folder; - is standard input")
+    parser.add_argument("files", nargs="+", metavar="FILE", help="a suite in YAML or JSON, or a folder; - is the input")
 
 
 def test(words):
@@ -40,5 +41,7 @@ def test(words):
     results = [result for suite in suites for result in results_of(words.engine, suite)]
     passed = all(result.passed for result in results)
     trials = trials_of(words.engine, suites) if words.mutate and passed else None
+    if words.mutate and not passed:
+        note("--mutate: nothing is moved, since a test fails")
     write_text(WRITERS[words.output](results, trials))
     return 0 if passed and not any(trial.unnoticed for trial in trials or ()) else 1
