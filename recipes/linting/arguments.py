@@ -42,7 +42,7 @@ def arguments_without_value(subject):
         is_from_cluster = arg.get("valueFrom") is not None
         if not isinstance(name, str) or name in subject.values or is_from_cluster and name not in judged:
             continue
-        mend = f"conditions are looked at with {STAND_IN} for it; --arg {name}=VALUE takes a value of yours" \
-            if name in judged else "nothing, where each rollout gives it"
+        in_part = f"its conditions are looked at in part, with {STAND_IN} for it; --arg {name}=VALUE gives it a value"
+        mend = in_part if name in judged else "nothing, where each rollout gives it"
         yield info("argument-without-value", pointer_to("spec", "args", place),
                    f"the argument {shown(name)} has no value, so each run has to give one", mend)

@@ -32,18 +32,23 @@ MENDS_OF_RULES = {
     "fine-literal": "write at most six digits after the point, or have the provider answer in a smaller unit",
     "text-and-number": "write a number without quotes; a shape of \"decimal\" reads texts such as \"0.95\", too",
 }
+# What depends on the shape: faults of kinds, and of code.
+BY_SHAPE = ("NotAList", "NoSuchField", "NotScalar", "NoCommonKind", "PredicatesTooDeep", "WrongOperand", "NotTruth",
+            "TooManyOps", "StackTooDeep", "BudgetTooLarge")
+ANY_SHAPE = "bool"
 OF_SHAPES = ("TooDeep: a shape", "UnknownShape", "MaxMissing", "MaxTooLarge", "NestedOptional")
 
 
 class Asked(NamedTuple):
-    """A condition of a metric as the engine is asked; whether it has arguments without a value, and whether each
-    combination of values is there."""
+    """A condition of a metric as the engine is asked; whether it has arguments without a value, whether each
+    combination of values is there, and whether there is a shape: without one its form alone is looked at."""
     place: int
     metric: dict
     name: str
     question: Question
     has_stand_in: bool
     is_complete: bool
+    has_shape: bool
 
     @property
     def pointer(self):
@@ -80,15 +85,17 @@ def asked_of_metric(subject, place, metric, shape):
         text = bound(written, values)
         if text:
             texts[name] = without_conversions(text), has_stand_in
-    made, is_complete = values_of(shape, [text for text, _ in texts.values()]) if texts else ([], True)
-    return [Asked(place, metric, name, Question(text, shape, made), has_stand_in, is_complete)
+    has_shape = shape is not None
+    made, is_complete = values_of(shape, [text for text, _ in texts.values()]) if texts and has_shape else ([], True)
+    shape = shape if has_shape else ANY_SHAPE
+    return [Asked(place, metric, name, Question(text, shape, made), has_stand_in, is_complete, has_shape)
             for name, (text, has_stand_in) in texts.items()]
 
 
 def asked_of(subject):
     shapes = shapes_of_metrics(subject)
-    return [asked for place, metric in subject.metrics if place in shapes
-            for asked in asked_of_metric(subject, place, metric, shapes[place].shape)]
+    return [asked for place, metric in subject.metrics
+            for asked in asked_of_metric(subject, place, metric, shapes[place].shape if place in shapes else None)]
 
 
 # ---- what a text says
@@ -150,7 +157,9 @@ def text_and_number(words):
 
 
 def refused(asked, words, declared):
-    """The finding of a condition or a shape that the engine refuses."""
+    """The finding of a condition or a shape that the engine refuses; none of what depends on a missing shape."""
+    if not asked.has_shape and fault_in(words) in BY_SHAPE:
+        return None
     if words.startswith(OF_SHAPES):
         title = metric_title(asked.place, asked.metric)
         return error("shape", declared or metric_pointer(asked.place), f"{title}: the shape is refused: {words}",

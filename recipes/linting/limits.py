@@ -42,7 +42,7 @@ def refused_limits(subject, place, metric):
             yield refused(name, f"`{name}` is {limit}, which the controller refuses", f"write 0 or more{newer}")
         elif name in ENDS and limit is not None and count is not None and 0 < count < limit:
             yield refused(name, f"`{name}` {limit} is above `count` {count}, which the controller refuses",
-                          f"write a `{name}` below {count}")
+                          f"lower it below {count}")
     if count is not None and count > 1 and not metric.get("interval"):
         yield refused("count", f"`count` is {count} and there is no `interval`, which the controller refuses",
                       "add an `interval`, \"1m\" say")
@@ -121,5 +121,5 @@ def unreachable_limits(subject):
             ends = f"ends after {count}" if metric.get("count") is not None else \
                 "is measured once, since it has neither `count` nor `interval`"
             message = f"{metric_title(place, metric)} {ends}, so with `{name}` {limit} it is never {phase} by a limit"
-            mend = f"write a `{name}` below {count}" + (", or add an `interval`" if count == 1 else "")
+            mend = f"lower it below {count}" + (", or add an `interval`" if count == 1 else "")
             yield warning("unreachable-limit", metric_pointer(place, name), message, mend)

@@ -78,7 +78,8 @@ def shape_of_metric(place, metric, shaped):
     if not has_conditions(metric):
         return None
     if shaped is None:
-        return warning("shape", metric_pointer(place), f"{title} has no shape, so its conditions aren't looked at",
+        return warning("shape", metric_pointer(place),
+                       f"{title} has no shape, so only the form of its conditions is looked at",
                        f"declare one by the annotation {ANNOTATION} or --shapes: {PAGE}")
     part = outermost(shaped.shape)
     if shaped.declared and provider in LIKELY and part is not None and part not in LIKELY[provider]:

@@ -13,7 +13,8 @@ from linting.tokens import tokens_of
 
 MOST_VALUES, MOST_NODES, MOST_NODES_OF_ALL = 400, 2000, 10_000
 MOST_LITERALS, MOST_TEXTS, LONGEST_LENGTH = 12, 8, 64
-LARGE = 1_000_000_000
+# Numbers that are tried besides those that conditions mention.
+USUAL_NUMBERS = (0, 1, 3, 100, 1_000_000_000, -1_000_000_000)
 LEAST_STEP = Fraction(1, 1_000_000)
 GREATEST = Fraction(2**63 - 1, 1_000_000)
 ESCAPE = re.compile(r"\\(.)", re.DOTALL)
@@ -64,13 +65,13 @@ def decimal_text(number):
 
 def decimals(material):
     near = [number + step for number in material.numbers for step in (0, -LEAST_STEP, LEAST_STEP)]
-    return [NumberText(decimal_text(number)) for number in [*near, 0, 1, LARGE, -LARGE] if abs(number) <= GREATEST]
+    return [NumberText(decimal_text(number)) for number in [*near, *USUAL_NUMBERS] if abs(number) <= GREATEST]
 
 
 def wholes(material):
     near = [near for number in material.numbers
             for near in (math.floor(number), math.ceil(number) - 1, math.floor(number) + 1)]
-    return [number for number in [*near, 0, 1, LARGE, -LARGE] if abs(number) < 2**63]
+    return [number for number in [*near, *USUAL_NUMBERS] if abs(number) < 2**63]
 
 
 def texts(material):

@@ -33,24 +33,23 @@ def constants(asked, answers):
         return
     kind, answer = warning if asked.is_complete else info, "true" if booleans[0] else "false"
     yield kind("constant-condition", asked.pointer,
-               f"{asked.title} is {answer} for each of {len(booleans)} values that were tried{asked.noted}",
+               f"{asked.title} is {answer} for each of {len(booleans)} values that were tried",
                "look at the threshold and its unit, 0.95 or 95, and at the shape")
 
 
-def of_both(first, second, answers, others):
+def of_both(first, answers, others):
     """What two conditions of a metric say of one value."""
     pointer, title = metric_pointer(first.place), metric_title(first.place, first.metric)
-    noted = first.noted or second.noted
     pairs = list(zip(answers, others))
     value = first_with(first.question.values, pairs, (True, True))
     if value is not None:
         yield warning("both-conditions", pointer,
-                      f"{title}: both conditions are true for {value}{noted}, which is a failure",
+                      f"{title}: both conditions are true for {value}, which is a failure",
                       "let them exclude one another, as `>= 0.95` and `< 0.95`")
     value = first_with(first.question.values, pairs, (False, False))
     if value is not None:
         yield info("neither-condition", pointer,
-                   f"{title}: both conditions are false for {value}{noted}, which is inconclusive",
+                   f"{title}: both conditions are false for {value}, which is inconclusive",
                    "nothing, where a person should decide there; else cover it by one of them")
 
 
@@ -62,13 +61,14 @@ def findings_of_answers(engine, subject):
     for one, answer in zip(asked, answers):
         if answer.refusal is None:
             yield from faults(one, answer.answers)
-            yield from constants(one, answer.answers)
+            yield from [] if one.has_stand_in else constants(one, answer.answers)
             continue
-        finding = refused(one, answer.refusal, shapes[one.place].declared)
-        if finding.rule != "shape" or one.place not in seen_shapes:
+        finding = refused(one, answer.refusal, shapes[one.place].declared if one.has_shape else "")
+        if finding is not None and (finding.rule != "shape" or one.place not in seen_shapes):
             yield finding
         seen_shapes.add(one.place)
-    for place in range(len(asked) - 1):
-        is_pair = asked[place].place == asked[place + 1].place
-        if is_pair and not answers[place].refusal and not answers[place + 1].refusal:
-            yield from of_both(asked[place], asked[place + 1], answers[place].answers, answers[place + 1].answers)
+    given = list(zip(asked, answers))
+    for (first, answer), (second, other) in zip(given, given[1:]):
+        is_guess = first.has_stand_in or second.has_stand_in
+        if first.place == second.place and not is_guess and answer.refusal is None and other.refusal is None:
+            yield from of_both(first, answer.answers, other.answers)
