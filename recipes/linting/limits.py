@@ -118,7 +118,7 @@ def unreachable_limits(subject):
                 continue
             if limit > count and metric.get("count") is not None:
                 continue  # the controller refuses it
-            ends = f"ends after {count}" if metric.get("count") is not None else \
+            ends = f"ends after {count} measurement{'s' if count > 1 else ''}" if metric.get("count") is not None else \
                 "is measured once, since it has neither `count` nor `interval`"
             message = f"{metric_title(place, metric)} {ends}, so with `{name}` {limit} it is never {phase} by a limit"
             mend = f"lower it below {count}" + (", or add an `interval`" if count == 1 else "")

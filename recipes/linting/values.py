@@ -12,6 +12,8 @@ from literals import literals_of, number_of_literal
 from linting.tokens import tokens_of
 
 MOST_VALUES, MOST_NODES, MOST_NODES_OF_ALL = 400, 2000, 10_000
+# The engine takes no deeper shape.
+MOST_LEVELS = 16
 MOST_LITERALS, MOST_TEXTS, LONGEST_LENGTH = 12, 8, 64
 # Numbers that are tried besides those that conditions mention.
 USUAL_NUMBERS = (0, 1, 3, 100, 1_000_000_000, -1_000_000_000)
@@ -103,32 +105,49 @@ class Maker:
     def __init__(self, material):
         self.material, self.is_complete = material, True
 
-    def values(self, shape):
-        """Values of a shape; none where it is no shape, which the engine refuses."""
+    def values(self, shape, level=1):
+        """Values of a shape at a level; none where it is no shape, which the engine refuses."""
+        if level > MOST_LEVELS:
+            return []
         if isinstance(shape, str):
             made = SCALARS[shape](self.material) if shape in SCALARS else []
-        elif "optional" in shape if isinstance(shape, dict) else False:
-            made = [*self.values(shape["optional"]), None]
+        elif isinstance(shape, dict) and "optional" in shape:
+            made = [*self.values(shape["optional"], level + 1), None]
         elif isinstance(member(shape, "record"), dict):
-            made = self.records(shape["record"])
+            made = self.records(shape["record"], level + 1)
+        elif member(shape, "list") is not None and isinstance(member(shape, "max"), int):
+            made = self.lists(shape["list"], shape["max"], level + 1)
         else:
-            made = self.lists(member(shape, "list"), member(shape, "max")) if member(shape, "list") is not None else []
-        return distinct(value for value in made if size_of(value) <= MOST_NODES)
+            made = []
+        return self.smallest(made)
 
-    def records(self, fields):
+    def smallest(self, made):
+        """As many of the smallest values as are tried, of a size that is."""
+        chosen, nodes = [], 0
+        for value in distinct([value for value in made if size_of(value) <= MOST_NODES]):
+            nodes += size_of(value)
+            if nodes > MOST_NODES_OF_ALL or len(chosen) == MOST_VALUES:
+                self.is_complete = False
+                break
+            chosen.append(value)
+        return chosen
+
+    def records(self, fields, level):
         """Records; a field that no condition mentions has one value alone."""
-        choices = [self.values(shape)[:None if name in self.material.names else 1] for name, shape in fields.items()]
+        choices = []
+        for name, shape in fields.items():
+            values = self.values(shape, level)
+            choices.append(values if name in self.material.names else values[:1])
         return [dict(zip(fields, chosen)) for chosen in self.combined(choices)]
 
-    def lists(self, shape, longest):
-        if not isinstance(longest, int):
-            return []
-        items = self.values(shape)
-        pairs = [list(pair) for pair in self.combined([items, items])] if longest >= 2 else []
+    def lists(self, shape, longest, level):
+        """Lists of no item, of one, of two, and of equal items."""
+        items = [(item, size_of(item)) for item in self.values(shape, level)]
+        pairs = self.combined([[item for item, _ in items]] * 2) if longest >= 2 else []
         lengths = {1, longest, *self.material.lengths} - {0, 2}
         equal = [[item] * length for length in sorted(lengths) if length <= longest
-                 for item in items if size_of(item) * length < MOST_NODES]
-        return [[], *equal, *pairs]
+                 for item, size in items if size * length < MOST_NODES]
+        return [[], *equal, *map(list, pairs)]
 
     def combined(self, choices):
         """A choice of each: all of them or, where they are too many, as many as are tried, spread over all."""
@@ -151,13 +170,7 @@ class Maker:
 def values_of(shape, conditions):
     """Values of a shape on which conditions are tried, the smallest first, and whether each combination is there."""
     maker = Maker(material_of(conditions))
-    made, nodes = [], 0
-    for value in maker.values(shape):
-        nodes += size_of(value)
-        if nodes > MOST_NODES_OF_ALL or len(made) == MOST_VALUES:
-            return made, False
-        made.append(value)
-    return made, maker.is_complete
+    return maker.values(shape), maker.is_complete
 
 
 def value_text(value):
