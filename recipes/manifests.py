@@ -7,10 +7,11 @@ values are.
 import os
 import re
 import subprocess
+from collections import Counter
 from decimal import Decimal
 from typing import NamedTuple
 
-from documents import LongNumber, NumberText, Refused, member, parsed_all, read_text, shown, whole
+from documents import LongNumber, NumberText, Refused, member, note, parsed_all, read_text, shown, whole
 
 try:
     import yaml
@@ -192,6 +193,10 @@ def objects_in(text, where):
             for value in parsed_all(text, where) for item, pointer, own in items_of(value, {})]
 
 
+def is_of(found, kinds):
+    return member(found.value, "kind") in kinds
+
+
 def files_in(paths):
     """The files that are named, and those of the named folders that have JSON or YAML, in the order of their names."""
     for path in paths:
@@ -207,3 +212,12 @@ def files_in(paths):
 def found_in(paths):
     """The objects of files and folders."""
     return [found for path in files_in(paths) for found in objects_of(path, path)]
+
+
+def of_kinds(found, kinds, what):
+    """The objects of some kinds. Others are counted in a line, by their kinds."""
+    others = Counter(shown(member(one.value, "kind", default="none")) for one in found if not is_of(one, kinds))
+    if others:
+        times = ", ".join(f"{kind} ({number})" for kind, number in others.items())
+        note(f"objects that are no {what} are passed over: {times}")
+    return [one for one in found if is_of(one, kinds)]

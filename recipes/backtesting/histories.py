@@ -4,6 +4,7 @@ from typing import NamedTuple
 from analysisruns import checked_run, document_of
 from cuts import note_cuts
 from documents import Refused, kept_notes, member, note, shown
+from manifests import of_kinds
 from reconciliations import DONE
 from templates import ANNOTATION, metrics_of
 
@@ -35,17 +36,8 @@ def name_of(run):
 
 
 def runs_in(found):
-    """The AnalysisRuns among objects, and what else there is, by its kind."""
-    runs, others = [], {}
-    for one in found:
-        kind = member(one.value, "kind")
-        if kind == "AnalysisRun":
-            runs.append(one.value)
-        else:
-            others[shown(kind)] = others.get(shown(kind), 0) + 1
-    if others:
-        kinds = ", ".join(f"{kind} ({times})" for kind, times in others.items())
-        note(f"objects that are no AnalysisRun are passed over: {kinds}")
+    """The AnalysisRuns among objects."""
+    runs = [one.value for one in of_kinds(found, ("AnalysisRun",), "AnalysisRun")]
     if not runs:
         raise Refused("input: expected AnalysisRuns, as `kubectl get analysisrun -o json` prints them, found none")
     return runs

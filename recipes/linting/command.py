@@ -1,19 +1,14 @@
 """What the recipe `lint` and kubectl's plugin do alike."""
-from documents import ENGINE, ENGINE_HELP, Refused, listed, member, note, read_json, shown, write_text
+from documents import ENGINE, ENGINE_HELP, Refused, listed, read_json, shown, write_text
 from linting.findings import Severity, chosen_rules
 from linting.outputs import Located, as_github, as_json, as_text
 from linting.rules import findings_of
 from linting.sarif import as_sarif
 from linting.subjects import KINDS, Subject
+from manifests import of_kinds
 from templates import add_arg_flag, add_shapes_flag, shapes_in
 
 OUTPUTS = {"text": as_text, "json": as_json, "sarif": as_sarif, "github": as_github}
-
-
-def title_of(found):
-    kind, name = member(found.value, "kind"), member(found.value, "metadata", "name")
-    words = [word for word in (kind, shown(name) if isinstance(name, str) else None) if isinstance(word, str)]
-    return " ".join(words) or "what is no object of Kubernetes"
 
 
 def given_arguments(words):
@@ -25,14 +20,9 @@ def given_arguments(words):
 
 def subjects_of(words, objects, where):
     """The templates among objects; others are passed over in words."""
-    given, subjects = given_arguments(words.arg), []
+    given = given_arguments(words.arg)
     shapes = shapes_in(read_json(words.shapes, "shapes"), "shapes") if words.shapes else {}
-    for found in objects:
-        if member(found.value, "kind") in KINDS:
-            subjects.append(Subject(found, given, shapes))
-        else:
-            place = "standard input" if found.file == "-" else found.file
-            note(f"{place}: {title_of(found)} is passed over; expected {', '.join(KINDS)}")
+    subjects = [Subject(found, given, shapes) for found in of_kinds(objects, KINDS, "template")]
     if not subjects:
         raise Refused(f"{where}: found no template; expected one of kind {', '.join(KINDS)}")
     names = sorted({name for subject in subjects for _, name in subject.args})

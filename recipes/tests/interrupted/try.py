@@ -13,6 +13,8 @@ ENGINE = os.environ["ENGINE"]
 BUNDLE = os.path.realpath("../../../examples/bundles/success-rate.json")
 RUN = os.path.realpath("../../../examples/analysisrun.json")
 SHAPES = os.path.realpath("../analysisrun/shapes.json")
+SUITE = os.path.realpath("../kubectl-lint/suite.json")
+TEMPLATE = os.path.realpath("../../../examples/backtest/stricter.json")
 # Each recipe's words; FIFO is replaced by the file that is read, which is a pipe where the recipe is interrupted.
 RECIPES = {
     "from-jsonl": ["--allow-empty", "--add-to", "FIFO", os.devnull],
@@ -23,6 +25,9 @@ RECIPES = {
     "shapes": ["FIFO"],
     "from-analysisrun": ["--shapes", SHAPES, RUN],
     "compare-analysisrun": ["--engine", ENGINE, "--shapes", SHAPES, RUN],
+    "lint": ["--engine", ENGINE, RUN],
+    "test": ["--engine", ENGINE, SUITE],
+    "backtest": ["--engine", ENGINE, "--template", TEMPLATE, "--arg", "threshold=0.99", RUN],
     "kubectl-argo_judge": ["check", "success-rate", "--engine", ENGINE],
 }
 
@@ -42,7 +47,7 @@ def ready(folder, recipe, fifo):
         return [word.replace("FIFO", BUNDLE) for word in RECIPES[recipe]]
     os.mkfifo(f"{folder}/fifo")
     os.replace(f"{folder}/fifo", f"{folder}/parts/0.json")
-    return [word.replace("FIFO", "parts/0.json").replace(RUN, "parts/0.json") for word in RECIPES[recipe]]
+    return ["parts/0.json" if word in ("FIFO", RUN, SUITE) else word for word in RECIPES[recipe]]
 
 
 def started(folder, recipe, words, **more):
