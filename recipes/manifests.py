@@ -19,7 +19,9 @@ except ImportError:
     yaml = None
 
 SUFFIXES = (".json", ".yaml", ".yml")
-CONVERT = "expected PyYAML, or JSON as `kubectl create --dry-run=client -o json -f FILE` prints it"
+# An empty patch of what a file has: no cluster is asked.
+BY_KUBECTL = ["kubectl", "patch", "--local", "--type=merge", "-p", "{}", "-o", "json", "-f"]
+CONVERT = "expected PyYAML, or JSON as `kubectl patch --local --type=merge -p '{}' -o json -f FILE` prints it"
 # What aliases may make of a file at most.
 MOST_NODES = 1_000_000
 
@@ -144,8 +146,7 @@ def yaml_documents(text, where):
 def documents_by_kubectl(text, where):
     """The objects of a YAML text, as kubectl reads it."""
     try:
-        ended = subprocess.run(["kubectl", "create", "--dry-run=client", "-o", "json", "-f", "-"], input=text,
-                               capture_output=True, encoding="utf-8")
+        ended = subprocess.run([*BY_KUBECTL, "-"], input=text, capture_output=True, encoding="utf-8")
     except OSError:
         raise Refused(f"{where}: found YAML; {CONVERT}")
     if ended.returncode != 0:

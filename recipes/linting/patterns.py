@@ -39,6 +39,7 @@ def metric_patterns(subject):
             pattern = bound(pattern, subject.values) if is_text(pattern) else None
             if pattern is not None:
                 finding = of_pattern(pattern, names, pointer_to("spec", field, place, "metricName"), field)
-                yield from [] if finding is None else [finding]
                 if finding is not None and SLOW in finding.message:
-                    break  # the others may take as long
+                    yield finding._replace(message=f"{finding.message}; what follows in the list isn't looked at")
+                    break  # it may take as long
+                yield from [] if finding is None else [finding]

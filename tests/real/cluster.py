@@ -21,6 +21,8 @@ COMMANDS = [
     ["explain", "guestbook-7-success-rate", "--shapes", SHAPES, "--event", "2"],
     ["check", "success-rate", "--namespace", "default"],
     ["check", "apdex", "--cluster"],
+    ["lint"],
+    ["lint", "--cluster", "apdex"],
     ["backtest", "--template", "success-rate"],
     ["backtest", "--template", "success-rate", "-l", "step-index=1"],
     ["backtest", "--template", "success-rate", "-l", "step-index=2"],
@@ -116,8 +118,22 @@ def ended(root, words, path, kubeconfig, home):
     return found.returncode, found.stdout, found.stderr
 
 
+def fault_without_pyyaml(root, engine, folder):
+    """What is wrong where kubectl reads YAML, since PyYAML isn't there: each example template has to be linted."""
+    (folder / "yaml.py").write_text("raise ImportError\n", encoding="utf-8")
+    environment = {**os.environ, "PYTHONPATH": str(folder), "KUBECONFIG": os.devnull, "PYTHONDONTWRITEBYTECODE": "1"}
+    templates = root / "examples/templates"
+    found = subprocess.run([root / "recipes/lint", "--engine", engine, "--output", "json", templates], env=environment,
+                           capture_output=True, text=True)
+    if found.returncode != 0:
+        return f"status {found.returncode}: {found.stderr.strip()}"
+    wanted, linted = len(list(templates.glob("*.yaml"))), json.loads(found.stdout)["templates"]
+    return None if linted == wanted else f"expected {wanted} templates, found {linted}"
+
+
 def checks(root, engine, folder):
     """Each command by its words, with what is wrong, if something is: a real kubectl has to give what the tests' own does."""
+    yield "YAML without PyYAML", fault_without_pyyaml(root, engine, folder)
     stored = root / "recipes/tests/objects/kind/default"
     real = f"{root}/recipes:{os.environ['PATH']}"
     own = f"{root}/recipes:{root}/recipes/tests/bin:{os.environ['PATH']}"
