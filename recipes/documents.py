@@ -13,8 +13,12 @@ import subprocess
 import sys
 
 ROOT = os.path.dirname(os.path.dirname(os.path.realpath(__file__)))
-ENGINE = os.path.join(ROOT, "crates", "argo_judge", "out", "argo_judge")
-ENGINE_HELP = "argo_judge, where it isn't the one that bin/prove argo_judge built here"
+# What bin/install installed is in PREFIX/lib/argo_judge, with a list of it, and the program in PREFIX/bin.
+IS_INSTALLED = os.path.isfile(os.path.join(ROOT, "installed"))
+BUILT = os.path.join(ROOT, "crates", "argo_judge", "out", "argo_judge")
+ENGINE = os.path.join(os.path.dirname(os.path.dirname(ROOT)), "bin", "argo_judge") if IS_INSTALLED else BUILT
+MAKES_ENGINE = "bin/install installs" if IS_INSTALLED else f"{ROOT}/bin/prove argo_judge builds"
+ENGINE_HELP = f"argo_judge, where it isn't the one that {'was installed' if IS_INSTALLED else 'bin/prove argo_judge built'} here"
 # What a whole number may have for the engine to read the document.
 MOST_DIGITS = 309
 
@@ -161,7 +165,7 @@ def listed(names):
 def started(engine, words, **more):
     """A start of the engine. Where none is built it is refused: a recipe never starts a proof."""
     if engine == ENGINE and not os.path.isfile(ENGINE):
-        raise Refused(f"{ENGINE} isn't there; expected the program, which {ROOT}/bin/prove argo_judge builds")
+        raise Refused(f"{ENGINE} isn't there; expected the program, which {MAKES_ENGINE}")
     try:
         return subprocess.run([engine, *words], **more)
     except OSError as fault:

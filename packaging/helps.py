@@ -1,0 +1,62 @@
+"""The program's commands and flags, read off its own help, so that no second table of them can differ from it."""
+import re
+import subprocess
+from typing import NamedTuple, Optional
+
+COMMAND = re.compile(r"  (\w+)  +(\S.*)")
+FLAG = re.compile(r"  (?:-(\w), |    )--([\w-]+)(?: <(\w+)>)?  +(\S.*)")
+WORD = re.compile(r"`([a-z]+)`")
+
+
+class Flag(NamedTuple):
+    name: str
+    short: Optional[str]
+    value: Optional[str]
+    help: str
+
+    @property
+    def choices(self):
+        """The words that its value may be, where the help lists them."""
+        return WORD.findall(self.help) if self.value == "FORMAT" else []
+
+
+class Help(NamedTuple):
+    """Of the program, or of one of its commands: what it does, what it takes, and the rest of its help."""
+    name: str
+    about: str
+    usage: str
+    flags: list
+    commands: list
+    text: str
+
+
+def parts_of(text):
+    """The lines of a help by their headings: the first part, `Usage`, `Commands`, `Options`, and what follows them."""
+    about, _, rest = text.partition("\n\nUsage: ")
+    usage, _, rest = rest.partition("\n\n")
+    lists = {"Commands": [], "Options": []}
+    while rest.partition(":\n")[0] in lists:
+        heading, _, rest = rest.partition(":\n")
+        lines, _, rest = rest.partition("\n\n")
+        lists[heading] = lines.rstrip("\n").split("\n")
+    return about, usage, lists, rest.rstrip("\n")
+
+
+def flag_of(line):
+    short, name, value, help = FLAG.fullmatch(line).groups()
+    return Flag(name, short, value, help)
+
+
+def help_of(program, command=None):
+    """The help of a program, or of one of its commands."""
+    words = [program, *([command] if command else []), "--help"]
+    text = subprocess.run(words, stdout=subprocess.PIPE, encoding="utf-8", check=True).stdout
+    about, usage, lists, rest = parts_of(text)
+    commands = [COMMAND.fullmatch(line).groups() for line in lists["Commands"]]
+    return Help(command or "argo_judge", about, usage, [flag_of(line) for line in lists["Options"]], commands, rest)
+
+
+def helps_of(program):
+    """The help of a program, and that of each of its commands."""
+    own = help_of(program)
+    return own, [help_of(program, name) for name, _ in own.commands]
