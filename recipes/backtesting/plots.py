@@ -57,7 +57,7 @@ def svg_of(result, sweep):
     numbers = {name: [getattr(sums, name) for _, sums in result.sweep] for name, _ in SERIES}
     drawn = [(name, colour) for name, colour in SERIES if name == "stopped" or any(numbers[name])]
     parts = [*grid(most), *labels(values)]
-    for name, colour in drawn:
+    for name, colour in reversed(drawn):  # the last one is in front
         parts.extend(curve(numbers[name], most, name, colour))
     title = f"{sweep.argument}, of {len(result.outcomes)} runs"
     parts += [*legend(drawn), text(LEFT + (WIDTH - LEFT - RIGHT) / 2, HEIGHT - 12, title)]
