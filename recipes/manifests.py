@@ -32,6 +32,7 @@ DECIMAL_WHOLE = re.compile(r"[+-]?(0|[1-9][0-9_]*)", re.ASCII)
 OTHER_WHOLE = re.compile(r"([+-]?)0([xX][0-9a-fA-F_]+|[bB][01_]+|[oO]?[0-7_]+)", re.ASCII)
 FRACTION = re.compile(r"[+-]?(\.[0-9]+|[0-9]+(\.[0-9]*)?)([eE][+-]?[0-9]+)?", re.ASCII)
 JSON_FRACTION = re.compile(r"-?(0|[1-9][0-9]*)(\.[0-9]+)?([eE][+-]?[0-9]+)?", re.ASCII)
+JSON_WORD = re.compile(rf"null|true|false|{JSON_FRACTION.pattern}", re.ASCII)
 NOT_FINITE = re.compile(r"[+-]?\.(inf|Inf|INF)|\.(nan|NaN|NAN)")
 
 
@@ -158,7 +159,10 @@ def documents_by_kubectl(text, where):
 # ---- files
 
 def is_json(path, text):
-    return path.endswith(".json") or not path.endswith(SUFFIXES) and text.lstrip()[:1] in ("{", "[")
+    """Whether a text is JSON: by its file's name, else by how it begins, or since it is a number or a word of JSON."""
+    if path.endswith(SUFFIXES):
+        return path.endswith(".json")
+    return text.lstrip()[:1] in ("{", "[") or JSON_WORD.fullmatch(text.strip()) is not None
 
 
 def documents_of(path, where):
