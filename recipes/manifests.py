@@ -37,7 +37,7 @@ NOT_FINITE = re.compile(r"[+-]?\.(inf|Inf|INF)|\.(nan|NaN|NAN)")
 
 
 class Found(NamedTuple):
-    """An object, the file that has it, its JSON pointer there, and the lines of values by their pointers in the object."""
+    """An object, the file that has it, its JSON pointer there, and the lines of its values, by pointers in it."""
     value: object
     file: str
     pointer: str

@@ -11,9 +11,9 @@ from backtesting.sweeps import sweep_of
 def add_flags(parser):
     add_arg_flag(parser)
     add_shapes_flag(parser)
-    parser.add_argument("--sweep", metavar="NAME=FROM:TO:STEP", help="judge by each of these values of an argument, too")
-    parser.add_argument("--output", choices=("text", "json", "svg"), default="text", help="a table (the default), one JSON "
-                        "object, or a plot of --sweep")
+    parser.add_argument("--sweep", metavar="NAME=FROM:TO:STEP", help="judge by these values of an argument, too")
+    parser.add_argument("--output", choices=("text", "json", "svg"), default="text",
+                        help="a table (the default), one JSON object, or a plot of --sweep")
     parser.add_argument("--engine", metavar="PROGRAM", default=ENGINE, help=ENGINE_HELP)
 
 

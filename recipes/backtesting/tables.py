@@ -18,7 +18,8 @@ def table(rows):
 def rows_of_flips(outcomes):
     for one in outcomes:
         if one.flips:
-            yield one_line(one.name), one.controller, one.own["phase"], one.other["phase"], one_line("; ".join(why(one)))
+            differs = one_line("; ".join(why(one)))
+            yield one_line(one.name), one.controller, one.own["phase"], one.other["phase"], differs
 
 
 def lines_of_flips(result):

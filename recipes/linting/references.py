@@ -38,15 +38,15 @@ def bound(text, values):
 
 def texts_in(value, names=()):
     """Each text in a value, with the names and indexes that lead to it."""
-    todo = [(value, names)]
-    while todo:
-        value, names = todo.pop()
+    waiting = [(value, names)]
+    while waiting:
+        value, names = waiting.pop()
         if isinstance(value, str):
             yield value, names
         elif isinstance(value, dict):
-            todo += [(item, (*names, name)) for name, item in reversed(list(value.items()))]
+            waiting += [(item, (*names, name)) for name, item in reversed(list(value.items()))]
         elif isinstance(value, list):
-            todo += [(item, (*names, place)) for place, item in reversed(list(enumerate(value)))]
+            waiting += [(item, (*names, place)) for place, item in reversed(list(enumerate(value)))]
 
 
 def referring_texts(subject):
