@@ -69,10 +69,11 @@ def with_argument(made, name, value):
 def with_shapes(run, template):
     """A run with the template's shapes where it has none of its own: by either template the answers are the same."""
     noted = member(template, "metadata", "annotations", ANNOTATION)
-    own = member(run, "metadata", "annotations", default={})
-    if noted is None or ANNOTATION in own:
+    own = member(run, "metadata", "annotations")
+    if noted is None or member(own, ANNOTATION) is not None:
         return run
-    return {**run, "metadata": {**run["metadata"], "annotations": {**own, ANNOTATION: noted}}}
+    noted_too = {**(own if isinstance(own, dict) else {}), ANNOTATION: noted}
+    return {**run, "metadata": {**run["metadata"], "annotations": noted_too}}
 
 
 def judgement_of(run, template, args, sweep, flags):
