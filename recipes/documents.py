@@ -13,11 +13,11 @@ import subprocess
 import sys
 
 ROOT = os.path.dirname(os.path.dirname(os.path.realpath(__file__)))
-# What bin/install installed is in PREFIX/lib/argo_judge, with a list of it, and the program in PREFIX/bin.
+# What is installed is in PREFIX/lib/argo_judge, with a list of it, and the program in PREFIX/bin.
 IS_INSTALLED = os.path.isfile(os.path.join(ROOT, "installed"))
 BUILT = os.path.join(ROOT, "crates", "argo_judge", "out", "argo_judge")
 ENGINE = os.path.join(os.path.dirname(os.path.dirname(ROOT)), "bin", "argo_judge") if IS_INSTALLED else BUILT
-MAKES_ENGINE = "bin/install installs" if IS_INSTALLED else f"{ROOT}/bin/prove argo_judge builds"
+MAKES_ENGINE = "install puts there" if IS_INSTALLED else f"{ROOT}/bin/prove argo_judge builds"
 MADE_ENGINE = "was installed" if IS_INSTALLED else "bin/prove argo_judge built"
 ENGINE_HELP = f"argo_judge, where it isn't the one that {MADE_ENGINE} here"
 # What a whole number may have for the engine to read the document.

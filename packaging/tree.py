@@ -1,0 +1,81 @@
+"""The files that a release and an installation have, and where: the one table of them, and how they are made.
+
+A tree has the same form as a folder into which it is installed, with the list of its files.
+"""
+import importlib.util
+import os
+import pathlib
+import shutil
+import subprocess
+import sys
+
+import completions
+from helps import helps_of
+from installing import LIBRARY, LIST, Refused
+from manual import manual
+
+ROOT = pathlib.Path(__file__).resolve().parent.parent
+PLUGIN = pathlib.PurePath("bin/kubectl-argo_judge")
+# What of recipes/ isn't for users.
+TESTS = ("tests", "check", "__pycache__")
+# The documents of README.md, for a first start.
+EXAMPLES = ("examples/bundles/success-rate.json", "examples/analysisrun.json")
+
+
+def version_of(program):
+    """The version in the line that --version prints: `argo_judge 0.1.0`, and what it was built of."""
+    line = subprocess.run([program, "--version"], stdout=subprocess.PIPE, text=True, check=True).stdout
+    return line.split()[1]
+
+
+def made_texts(program):
+    """The files that are made of the program's help, by their paths."""
+    own, commands = helps_of(program)
+    return {
+        "share/man/man1/argo_judge.1": manual(own, commands, version_of(program)),
+        "share/bash-completion/completions/argo_judge": completions.bash(own, commands),
+        "share/zsh/site-functions/_argo_judge": completions.zsh(own, commands),
+        "share/fish/vendor_completions.d/argo_judge.fish": completions.fish(own, commands),
+    }
+
+
+def copied_files(program):
+    """The files that are copied, by their paths."""
+    recipes = ROOT / "recipes"
+    files = [path for path in sorted(recipes.rglob("*")) if path.relative_to(recipes).parts[0] not in TESTS]
+    files += [*sorted((ROOT / "docs/use").glob("*.md")), ROOT / "docs/report.schema.json"]
+    files += [ROOT / name for name in EXAMPLES]
+    found = {str(LIBRARY / path.relative_to(ROOT)): path for path in files if path.is_file() and path.suffix != ".pyc"}
+    return {"bin/argo_judge": program, **found}
+
+
+def add_library(tree):
+    """Adds the C library, include/argo_judge.h and lib/libargo_judge.a and .so, where it can be made; otherwise a line
+    says why not."""
+    if importlib.util.find_spec("library") is None:
+        return
+    import library
+    try:
+        library.made(tree)
+    except Refused as fault:
+        print(f"without the C library: {fault}", file=sys.stderr)
+
+
+def files_of(folder):
+    """The paths of the files and links of a folder, in their order."""
+    found = [path for path in folder.rglob("*") if path.is_symlink() or not path.is_dir()]
+    return sorted(path.relative_to(folder).as_posix() for path in found)
+
+
+def make(tree, program):
+    """Makes the tree with that program in an empty folder."""
+    for path, source in copied_files(program).items():
+        (tree / path).parent.mkdir(parents=True, exist_ok=True)
+        shutil.copyfile(source, tree / path)
+        (tree / path).chmod(0o755 if os.access(source, os.X_OK) else 0o644)
+    for path, text in made_texts(program).items():
+        (tree / path).parent.mkdir(parents=True, exist_ok=True)
+        (tree / path).write_text(text, encoding="utf-8")
+    (tree / PLUGIN).symlink_to(os.path.join("..", LIBRARY, "recipes", PLUGIN.name))
+    add_library(tree)
+    (tree / LIST).write_text("".join(f"{path}\n" for path in [*files_of(tree), LIST]), encoding="utf-8")
