@@ -1,0 +1,64 @@
+"""What a release's file PROVED says: of which commit, kit, gate and sources its program is."""
+import pathlib
+import re
+import subprocess
+from typing import NamedTuple
+
+from installing import Refused
+from scripts import checksum
+
+ROOT = pathlib.Path(__file__).resolve().parent.parent
+OUT = ROOT / "crates/argo_judge/out"
+PROGRAM, OBJECT, SOURCES, GATE = (OUT / f"argo_judge{ending}" for ending in ("", ".o", ".sources", ".gate"))
+# The line of GATE: the program's checksum, the commit that the gate ran on, and the gate's last line.
+GATE_LINE = re.compile(r"([0-9a-f]{64}) ([0-9a-f]{40}(?:-dirty)?) (\d+ passed, 0 failed)\n")
+DIFFERENCE = ("the gate proved, built and ran its program; the program here is linked of the same object file, "
+              "statically and with the commit in the text of --version, after the proof")
+
+
+class Gate(NamedTuple):
+    """What the last whole run of the gate left: which program it was of, and on which commit it ran."""
+    program: str
+    commit: str
+    last_line: str
+
+
+def git(*words):
+    ended = subprocess.run(["git", "-C", ROOT, *words], stdout=subprocess.PIPE, stderr=subprocess.PIPE, text=True)
+    if ended.returncode != 0:
+        raise Refused(f"git {words[0]}: {ended.stderr.strip().splitlines()[-1]}")
+    return ended.stdout.strip()
+
+
+def gate():
+    """What the last whole run of the gate left, if it ended well."""
+    line = GATE_LINE.fullmatch(GATE.read_text(encoding="utf-8")) if GATE.is_file() else None
+    return Gate(*line.groups()) if line else None
+
+
+def doubts():
+    """Why this checkout has no release yet, a text for each reason."""
+    found = gate()
+    if found is None:
+        yield f"{GATE.relative_to(ROOT)} has no last line of the gate, where a whole .ci/run leaves one"
+    elif found.program != checksum(PROGRAM.read_bytes()):
+        yield f"{GATE.relative_to(ROOT)} is of another program, where a whole .ci/run leaves one of the program there"
+    if git("status", "--porcelain"):
+        yield "git has uncommitted changes, where a release has none"
+
+
+def check_program():
+    """Refuses a program that isn't the one of the sources as they are, and one without its object file."""
+    for file in (PROGRAM, SOURCES):
+        if not file.is_file():
+            raise Refused(f"{file.relative_to(ROOT)} isn't there; expected what bin/prove argo_judge makes")
+    if subprocess.run([ROOT / "bin/prove", "--unchanged", "argo_judge"]).returncode != 0:
+        raise Refused("the program isn't that of the sources as they are; expected it as bin/prove argo_judge builds it")
+    if not OBJECT.is_file():
+        raise Refused(f"{OBJECT.relative_to(ROOT)} isn't there; expected it as bin/prove --object argo_judge makes it")
+
+
+def proved(lines):
+    """The text of PROVED: these lines, then the checksums of the sources."""
+    text = "".join(f"{name}: {value}\n" for name, value in lines.items())
+    return f"{text}sources: their checksums, as bin/prove --sources argo_judge prints them\n{SOURCES.read_text('utf-8')}"

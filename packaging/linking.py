@@ -1,0 +1,57 @@
+"""How an object file becomes a program: as the kit links it, and statically."""
+import os
+import pathlib
+import shutil
+import subprocess
+
+from installing import Refused
+
+# The kit's libraries that each program is linked with, by their paths in the kit.
+LIBRARIES = ("c/libos_c.a", "c/liblibc_c.a")
+STATIC = ("-static-pie", "-s", "-Wl,--build-id=none", "-Wl,--gc-sections", "-Wl,-z,relro,-z,now")
+# A static program has to stay below this many bytes.
+LIMIT = 2_000_000
+
+
+def kit():
+    """The kit's folder: the one above that of rt."""
+    found = shutil.which("rt")
+    if found is None:
+        raise Refused("rt isn't on the PATH; expected the kit that README.md names")
+    return pathlib.Path(found).resolve().parent.parent
+
+
+def kit_line():
+    """What `rt version` prints, the kit's name first."""
+    return (kit() / "KIT-ID").read_text(encoding="utf-8").strip()
+
+
+def linked(words, program):
+    """The program that these words link; what the linker says where it fails."""
+    ended = subprocess.run(words, stdout=subprocess.PIPE, stderr=subprocess.STDOUT, text=True, errors="replace")
+    if ended.returncode != 0:
+        said = ended.stdout.strip().splitlines()
+        raise Refused(f"{pathlib.Path(words[0]).name} ended with {ended.returncode}: {said[-1] if said else 'no output'}")
+    return program.read_bytes()
+
+
+def link_as_the_kit_does(object_file, program):
+    folder = kit()
+    words = [folder / "bin/rattle-link", "--target", "x86_64-unknown-linux-gnu", "--toolchain", folder / "toolchain"]
+    return linked([*words, "-o", program, object_file, *(folder / name for name in LIBRARIES)], program)
+
+
+def link_statically(object_file, program):
+    if shutil.which("cc") is None:
+        raise Refused("cc isn't installed; expected a C compiler that links statically")
+    words = ["cc", *STATIC, object_file, *(kit() / name for name in LIBRARIES), "-o", program]
+    content = linked(words, program)
+    if len(content) >= LIMIT:
+        raise Refused(f"the static program has {len(content)} bytes; expected less than {LIMIT}")
+    return content
+
+
+def tools():
+    """The C compiler and the C library that a static program is linked by and with."""
+    line = subprocess.run(["cc", "--version"], stdout=subprocess.PIPE, text=True, check=True).stdout.splitlines()[0]
+    return f"{line}, {os.confstr('CS_GNU_LIBC_VERSION')}"
