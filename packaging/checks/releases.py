@@ -1,0 +1,177 @@
+"""Tries bin/release: a trial of this checkout and one of a copy of it, what is unpacked and installed of them, a release
+of the copy, and what is refused."""
+import hashlib
+import os
+import pathlib
+import shutil
+import subprocess
+
+import linking
+from checks.images import of_images
+from checks.installs import of_prefix, of_program, of_removal
+from checks.starts import ROOT, ended, hidden, in_folder, note, put_shell
+from evidence import GATE, OBJECT, OUT, PROGRAM
+from stamps import PLACEHOLDER
+from tree import version_of
+
+LAST_LINE = "3 passed, 0 failed"
+AUTHOR = ["-c", "user.name=check", "-c", "user.email=check@example.com", "-c", "commit.gpgsign=false"]
+
+
+def copy_of_checkout(copy):
+    """A copy of this checkout with its uncommitted changes, its history, and what is built."""
+    subprocess.run(["git", "clone", "--quiet", "--shared", "--no-checkout", ROOT, copy], check=True)
+    subprocess.run(["git", "-C", copy, "reset", "--quiet"], check=True)
+    listed = subprocess.run(["git", "ls-files", "-z", "--cached", "--others", "--exclude-standard"], cwd=ROOT,
+                            stdout=subprocess.PIPE, text=True, check=True).stdout
+    for name in filter(None, listed.split("\0")):
+        if (ROOT / name).is_file():
+            (copy / name).parent.mkdir(parents=True, exist_ok=True)
+            shutil.copy2(ROOT / name, copy / name)
+    shutil.copytree(OUT, in_copy(copy, OUT), ignore=lambda _, names: [it for it in names if "argo_judge" not in it])
+
+
+def in_copy(copy, path):
+    return copy / path.relative_to(ROOT)
+
+
+def unpacked(archive, folder):
+    folder.mkdir()
+    ended(["tar", "-xzf", archive, "-C", folder])
+    return next(folder.iterdir())
+
+
+def archive_in(folder):
+    return next(folder.glob("*.tar.gz"))
+
+
+# ---- what is in a release
+
+def values_of(tree):
+    """What PROVED says before the sources, by its names, and the sources."""
+    head, _, sources = (tree / "PROVED").read_text(encoding="utf-8").partition("\nsources: ")
+    return dict(line.partition(": ")[::2] for line in head.splitlines()), sources.partition("\n")[2]
+
+
+def of_proved(tree):
+    values, sources = values_of(tree)
+    program = (tree / "bin/argo_judge").read_bytes()
+    commit = ended(["git", "-C", ROOT, "rev-parse", "HEAD"]).stdout.strip()
+    yield "PROVED names the program", values["sha256 of bin/argo_judge"] == hashlib.sha256(program).hexdigest()
+    yield "PROVED has the sources", sources == ended([ROOT / "bin/prove", "--sources", "argo_judge"]).stdout
+    yield "PROVED has the commit", values["commit"] == commit
+    yield "a trial says so", values["trial"] != ""
+    said = ended([tree / "bin/argo_judge", "--version"]).stdout.split()
+    yield "--version has the commit and the kit", [commit + ",", values["kit"].split()[0]] == \
+        [said[4], said[5].rstrip(")")]
+    texts = [path.read_bytes() for path in tree.rglob("*") if path.is_file()]
+    yield "no file names this folder", not any(os.fsencode(ROOT) + b"/" in text for text in texts)
+
+
+def of_small_roots(tree, folder):
+    """The program alone, and from a shell, in folders that have nothing else."""
+    for what, start in (("alone", ["/bin/argo_judge"]), ("with a shell", ["/bin/sh", "-c", '"$@"', "sh", "/bin/argo_judge"])):
+        root = folder / f"root {what}"
+        (root / "bin").mkdir(parents=True)
+        shutil.copy(tree / "bin/argo_judge", root / "bin")
+        if what != "alone":
+            put_shell(root)
+        words = in_folder(root, start)
+        if words is not None:
+            yield from of_program(f"in an empty system, {what}", words)
+
+
+def of_tree(tree, folder):
+    yield from of_proved(tree)
+    yield from of_prefix("unpacked", tree, folder)
+    yield from of_small_roots(tree, folder)
+    home = folder / "home"
+    prefix, install = home / ".local", [tree / "install"]
+    for turn in ("installed", "installed again"):
+        start = ended(hidden(install), env={**os.environ, "HOME": str(home)})
+        yield f"from a release, {turn}", start.returncode == 0
+    yield from of_prefix("from a release", prefix, folder)
+    yield "a release isn't installed over itself", ended([*install, tree]).returncode == 2
+    yield from of_removal("from a release", install, prefix)
+    (tree / "lib/argo_judge/recipes/lint").unlink()
+    refused = ended([*install, folder / "not installed"])
+    yield "a release without a file is refused", refused.returncode == 2 and "recipes/lint is missing" in refused.stdout
+    yield "and nothing is installed", not (folder / "not installed").exists()
+
+
+# ---- what is refused
+
+def refusal(copy, *words):
+    """The line with which the release of a copy is refused."""
+    found = ended([copy / "bin/release", *words, "--to", copy / "dist"])
+    is_one_line = found.stdout.startswith("release: ") and found.stdout.count("\n") == 1
+    return found.stdout if found.returncode == 2 and is_one_line else ""
+
+
+def of_last_line(copy, folder):
+    """A release needs the last line of the gate, of this program, and everything committed."""
+    gate = in_copy(copy, GATE)
+    gate.unlink(missing_ok=True)
+    yield "without the gate's last line there is no release", "argo_judge.gate" in refusal(copy)
+    gate.write_text(f"{'0' * 64} {'0' * 40} {LAST_LINE}\n", encoding="utf-8")
+    yield "with that of another program neither", "another program" in refusal(copy)
+    checksum = hashlib.sha256(PROGRAM.read_bytes()).hexdigest()
+    gate.write_text(f"{checksum} {'0' * 40} {LAST_LINE}\n", encoding="utf-8")
+    (copy / "uncommitted").write_text("", encoding="utf-8")
+    yield "with uncommitted changes neither", "uncommitted" in refusal(copy)
+    subprocess.run(["git", "-C", copy, "add", "--all"], check=True)
+    subprocess.run(["git", *AUTHOR, "-C", copy, "commit", "--quiet", "-m", "a check"], check=True)
+    yield "a release", ended([copy / "bin/release", "--to", folder / "released"]).returncode == 0
+    values, _ = values_of(unpacked(archive_in(folder / "released"), folder / "of the release"))
+    yield "PROVED has the gate's last line", values["gate"] == LAST_LINE and "trial" not in values
+
+
+def of_refusals(copy):
+    """A trial, too, is of the sources, and of the object file that the program was linked of."""
+    program, object_file = in_copy(copy, PROGRAM), in_copy(copy, OBJECT)
+    source = copy / "crates/argo_judge/src/main.rt"
+    before = source.read_bytes()
+    source.write_bytes(before + b"// changed\n")
+    yield "changed sources are refused", "sources as they are" in refusal(copy, "--trial")
+    source.write_bytes(before)
+    other = object_file.read_bytes().replace(PLACEHOLDER.encode(), b"!" * len(PLACEHOLDER))
+    object_file.write_bytes(other)
+    yield "another object file is refused", "byte for byte" in refusal(copy, "--trial")
+    linking.link_as_the_kit_does(object_file, program)
+    yield "an object file without the place of the stamp is refused", "0 times" in refusal(copy, "--trial")
+    object_file.unlink()
+    yield "no object file is refused", "--object" in refusal(copy, "--trial")
+
+
+def can_release():
+    """Whether a release can be tried; otherwise a line says why not."""
+    if not OBJECT.is_file():
+        note("the proof left no object file, so no release is tried; bin/prove --object argo_judge makes it")
+    elif shutil.which("cc") is None:
+        note("cc isn't installed, so no release is tried")
+    elif ended([ROOT / "bin/prove", "--unchanged", "argo_judge"]).returncode != 0:
+        note("the program isn't of the sources as they are, so no release is tried")
+    else:
+        return True
+    return False
+
+
+def of_release(folder):
+    if not can_release():
+        return
+    copy, one, two = folder / "copy", folder / "one", folder / "two"
+    copy_of_checkout(copy)
+    for checkout, made in ((ROOT, one), (copy, two)):
+        found = ended([checkout / "bin/release", "--trial", "--to", made])
+        yield f"a trial of {checkout.name}", found.returncode == 0
+        if found.returncode != 0:
+            print(found.stdout, end="")
+            return
+    yield "the same bytes from two folders", archive_in(one).read_bytes() == archive_in(two).read_bytes()
+    checked = ended(["sha256sum", "--check", "--quiet", f"{archive_in(one).name}.sha256"], cwd=one)
+    yield "the archive's checksum", checked.returncode == 0
+    tree = unpacked(archive_in(one), folder / "unpacked")
+    yield from of_images(archive_in(one), archive_in(two), tree, folder)
+    yield from of_tree(tree, folder)
+    yield from of_last_line(copy, folder)
+    yield from of_refusals(copy)
