@@ -4,7 +4,7 @@ use Rattle.std.proofs.lemmas.List.{length-append}
 use Rattle.std.specs.Prelude.{MatchBool, codes, decimal, is_some}
 use Rattle.std.specs.Str.Pattern.{FindsText, HasMatch}
 use Rattle.ar_manifest.specs.Cut.{cut_at}
-use Rattle.ar_words.specs.Names.{numbered}
+use Rattle.ar_words.specs.Names.{kind_and_number}
 use Rattle.ar_manifest.proofs.Cuts.{cut_at_first, cut_at_none}
 
 -- what `contains` returns
@@ -13,5 +13,5 @@ contains_cuts sign text true some found = sym (ap is_some (cut_at_first sign som
 contains_cuts sign text false some none = sym (ap is_some (cut_at_none sign some text none))
 
 -- a kind and a number are some words
-pub numbered_some : (kind words : List ℕ) (number : ℕ) → words ≡ numbered kind number → 0 < length words
+pub numbered_some : (kind words : List ℕ) (number : ℕ) → words ≡ kind_and_number kind number → 0 < length words
 numbered_some kind words number is = rw is (omega (arith, length-append kind (codes " " ++ decimal number)))

@@ -6,8 +6,8 @@ use Rattle.std.proofs.lemmas.List.{append-nil, append_assoc}
 use Rattle.serde_json.specs.View.{view}
 use Rattle.serde_json.specs.declared.value.Value.{Value}
 use Rattle.serde_json.specs.Data.{Data}
-use Rattle.ar_words.specs.Names.{item_text}
-use Rattle.ar_words.specs.Warnings.{Close, close_lines, close_to_metric, condition_line, lines_from, metric_lines, read_over, warning}
+use Rattle.ar_words.specs.Names.{named_item}
+use Rattle.ar_words.specs.Warnings.{Close, close_lines, close_to_metric, condition_line, lines_from, metric_warnings, read_over, warning}
 
 -- ---- texts, one after another
 
@@ -39,10 +39,10 @@ is_read_over name first second third fourth after one other more following last 
     four first second third fourth after name.name (codes "\" is not read; did you mean \"") name.meant (codes "\"?") other more following last
     ∙ ap (λ text. text ++ (name.name ++ (codes "\" is not read; did you mean \"" ++ (name.meant ++ codes "\"?")))) one
 
-pub is_metric : (before first after at again : List ℕ) (names : List Close) (number : ℕ) (metric : Data) → at ≡ item_text (codes "metric") number metric → again ≡ item_text (codes "metric") number metric → names ≡ close_to_metric
-    → first ≡ before ++ close_lines at names metric → after ≡ first ++ condition_line again metric → after ≡ before ++ metric_lines number metric
+pub is_metric : (before first after at again : List ℕ) (names : List Close) (number : ℕ) (metric : Data) → at ≡ named_item (codes "metric") number metric → again ≡ named_item (codes "metric") number metric → names ≡ close_to_metric
+    → first ≡ before ++ close_lines at names metric → after ≡ first ++ condition_line again metric → after ≡ before ++ metric_warnings number metric
 is_metric before first after at again names number metric named named_again is one other =
-    let text : List ℕ = item_text (codes "metric") number metric in
+    let text : List ℕ = named_item (codes "metric") number metric in
     two before first after (close_lines text close_to_metric metric) (condition_line text metric)
     (one ∙ (ap (λ at. before ++ close_lines at names metric) named ∙ ap (λ names. before ++ close_lines text names metric) is))
     (other ∙ ap (λ at. first ++ condition_line at metric) named_again)
@@ -67,10 +67,10 @@ no_close f g names offset written total past so_far =
 -- one metric more
 pub next_metric : (metrics : List Value) (offset : ℕ) (metric : Value) (written total : List ℕ) → offset < length metrics → metric ≡ slice_index_or metrics offset metric
     → written ++ lines_from offset (map (λ metric. view metric) (drop offset metrics)) ≡ total
-    → (written ++ metric_lines offset (view metric)) ++ lines_from (offset + 1) (map (λ metric. view metric) (drop (offset + 1) metrics)) ≡ total
+    → (written ++ metric_warnings offset (view metric)) ++ lines_from (offset + 1) (map (λ metric. view metric) (drop (offset + 1) metrics)) ≡ total
 next_metric metrics offset metric written total within is so_far =
     rw (add-one offset)
-    (append_assoc written (metric_lines offset (view metric)) (lines_from (suc offset) (map (λ metric. view metric) (drop (suc offset) metrics)))
+    (append_assoc written (metric_warnings offset (view metric)) (lines_from (suc offset) (map (λ metric. view metric) (drop (suc offset) metrics)))
     ∙ ap (λ metrics. written ++ lines_from offset (map (λ metric. view metric) metrics)) (sym (left_at metrics offset metric within is)) ∙ so_far)
 
 pub no_metric : (metrics : List Value) (offset : ℕ) (written total : List ℕ) → length metrics ≤ offset → written ++ lines_from offset (map (λ metric. view metric) (drop offset metrics)) ≡ total → written ≡ total

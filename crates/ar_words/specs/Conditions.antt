@@ -107,16 +107,16 @@ is_conversion token =
 abbrev pub conversion_advice : (token : Text) → Text
 conversion_advice token = if is_conversion token then codes "; leave it out: the shape says the kind" else []
 
-abbrev pub advice : BuildCause → TokenAt → Text
-advice (Grammar (syntax.UnknownName at)) found = conversion_advice found.token
-advice cause found = []
+abbrev pub cause_advice : BuildCause → TokenAt → Text
+cause_advice (Grammar (syntax.UnknownName at)) found = conversion_advice found.token
+cause_advice cause found = []
 
 -- ---- with the condition
 
 unfoldable pub with_quote : BuildCause → Option Operands → (text : Text) → Option TokenAt → Text
 with_quote cause operands text None = text
 with_quote cause operands text (Some found) =
-    cause_words cause found operands text ++ (codes "; in " ++ (quoted_round found ++ advice cause found))
+    cause_words cause found operands text ++ (codes "; in " ++ (quoted_round found ++ cause_advice cause found))
 
 -- a condition where `result` has a shape
 unfoldable pub condition_words : Option Shape → (condition : Option Text) → BuildCause → (text : Text) → Text

@@ -44,5 +44,5 @@ limits_misfit metric =
     (option_or (limit_misfit (codes "inconclusiveLimit") metric) (limit_misfit (codes "consecutiveErrorLimit") metric)))
 
 -- what is said of the first such field, in the order in which a template is read
-abbrev pub misfit : (metric : Data) → Option Text
-misfit metric = option_or (texts_misfit metric) (limits_misfit metric)
+abbrev pub metric_misfit : (metric : Data) → Option Text
+metric_misfit metric = option_or (texts_misfit metric) (limits_misfit metric)

@@ -13,8 +13,8 @@ item_name item = text_member (codes "name") item
 -- ---- items
 
 -- as `metric 3`
-abbrev pub numbered : (kind : Text) → (number : ℕ) → Text
-numbered kind number = kind ++ (codes " " ++ decimal number)
+abbrev pub kind_and_number : (kind : Text) → (number : ℕ) → Text
+kind_and_number kind number = kind ++ (codes " " ++ decimal number)
 
 -- a name after a blank, if there is one
 abbrev pub after_blank : Option Text → Text
@@ -22,8 +22,8 @@ after_blank None = []
 after_blank (Some name) = codes " " ++ quoted name
 
 -- an item by its kind, its number and its name
-abbrev pub item_text : (kind : Text) → (number : ℕ) → Data → Text
-item_text kind number item = numbered kind number ++ after_blank (item_name item)
+abbrev pub named_item : (kind : Text) → (number : ℕ) → Data → Text
+named_item kind number item = kind_and_number kind number ++ after_blank (item_name item)
 
 -- ---- lists
 

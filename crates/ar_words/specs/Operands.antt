@@ -56,12 +56,12 @@ are_two (Some (Two left right)) = true
 are_two operands = false
 
 -- the right one of a membership is that of a list's items
-abbrev pub between : (is_membership : Bool) → Text
-between is_membership = if is_membership then codes " and a list of " else codes " and "
+abbrev pub between_operands : (is_membership : Bool) → Text
+between_operands is_membership = if is_membership then codes " and a list of " else codes " and "
 
 abbrev pub operands_said : (is_membership : Bool) → Option Operands → Text
 operands_said is_membership None = []
 operands_said is_membership (Some (Before owner)) = codes "; found " ++ (kind_said owner ++ codes " before it")
 operands_said is_membership (Some (One operand)) = codes "; found " ++ kind_said operand
 operands_said is_membership (Some (Two left right)) =
-    codes "; found " ++ (kind_said left ++ (between is_membership ++ kind_said right))
+    codes "; found " ++ (kind_said left ++ (between_operands is_membership ++ kind_said right))

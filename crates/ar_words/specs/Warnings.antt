@@ -4,7 +4,7 @@ use Rattle.std.specs.Prelude.{ℕ, suc, Bool, true, false, ◌&&◌, if◌then�
 use Rattle.ar_value.specs.Terms.{Text}
 use Rattle.serde_json.specs.Data.{Data}
 use Rattle.ar_json.specs.Members.{member, member_of_member, text_member}
-use Rattle.ar_words.specs.Names.{item_text}
+use Rattle.ar_words.specs.Names.{named_item}
 use Rattle.ar_words.specs.Lists.{metrics}
 
 -- ---- names that are close to others
@@ -79,15 +79,15 @@ condition_line at metric =
     if has_no_condition metric then warning at (codes "no condition, so each measured value is Successful") else []
 
 -- of a metric, by its number and its name
-abbrev pub metric_lines : (number : ℕ) → Data → Text
-metric_lines number metric =
-    close_lines (item_text (codes "metric") number metric) close_to_metric metric
-    ++ condition_line (item_text (codes "metric") number metric) metric
+abbrev pub metric_warnings : (number : ℕ) → Data → Text
+metric_warnings number metric =
+    close_lines (named_item (codes "metric") number metric) close_to_metric metric
+    ++ condition_line (named_item (codes "metric") number metric) metric
 
 -- of metrics, the first of which has a number
 abbrev pub lines_from : (number : ℕ) → List Data → Text
 lines_from number [] = []
-lines_from number (metric ∷ metrics) = metric_lines number metric ++ lines_from (suc number) metrics
+lines_from number (metric ∷ metrics) = metric_warnings number metric ++ lines_from (suc number) metrics
 
 abbrev pub spec_lines : Option Data → Text
 spec_lines None = []

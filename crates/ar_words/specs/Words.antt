@@ -17,13 +17,13 @@ use Rattle.ar_judge.specs.declared.error.BuildCause.TheVariants as build
 use Rattle.ar_judge.specs.declared.error.BuildError.{BuildError}
 use Rattle.ar_words.specs.Bindings.{condition_bound_for, limit_in, unbound_of_run}
 use Rattle.ar_words.specs.Conditions.{after_name, build_words, condition_words}
-use Rattle.ar_words.specs.Fields.{misfit}
+use Rattle.ar_words.specs.Fields.{metric_misfit}
 use Rattle.ar_words.specs.Found.{found_after, limit_said, reference_said}
 use Rattle.ar_words.specs.Lists.{entry_text, list_item, list_in, metrics, runs, template_list, text_at}
 use Rattle.ar_quote.specs.Shown.{quoted}
 use Rattle.ar_syntax.specs.declared.error.SyntaxError.{SyntaxError}
 use Rattle.ar_syntax.specs.declared.error.SyntaxError.TheVariants.{Unexpected}
-use Rattle.ar_words.specs.Names.{item_text, names_text, numbered}
+use Rattle.ar_words.specs.Names.{named_item, names_text, kind_and_number}
 use Rattle.ar_words.specs.Operands.{declaration_in, declared_shape}
 
 -- ---- names in a text
@@ -36,7 +36,7 @@ in_place words (Some shown) text = unwrap_or (option_map (λ cut. cut.0 ++ (show
 -- an item's kind and number are followed by its name
 abbrev pub next_to_item : (kind : Text) → (number : ℕ) → Option (List Data) → (text : Text) → Text
 next_to_item kind number items text =
-    in_place (numbered kind number) (option_map (item_text kind number) (list_item number items)) text
+    in_place (kind_and_number kind number) (option_map (named_item kind number) (list_item number items)) text
 
 abbrev pub next_to_metric : Data → (number : ℕ) → (text : Text) → Text
 next_to_metric document number text = next_to_item (codes "metric") number (metrics document) text
@@ -48,7 +48,7 @@ next_to_run document number text = next_to_item (codes "run") number (runs docum
 abbrev pub with_argument : Data → (number : ℕ) → (text : Text) → Text
 with_argument document number text =
     in_place (codes "spec.args")
-    (option_map (item_text (codes "argument") number) (list_item number (template_list (codes "args") document)))
+    (option_map (named_item (codes "argument") number) (list_item number (template_list (codes "args") document)))
     text
 
 -- `the name` is followed by the name that two runs have
@@ -83,7 +83,7 @@ template_words document (causes.Unsupported number) text = next_to_metric docume
 template_words document (causes.DoubleMetric number) text = next_to_metric document number text
 template_words document (causes.BadField number) text =
     next_to_metric document number
-    (found_after (codes "BadField: ") (option_and_then misfit (list_item number (metrics document))) text)
+    (found_after (codes "BadField: ") (option_and_then metric_misfit (list_item number (metrics document))) text)
 template_words document (causes.OpenBraces number) text = next_to_metric document number text
 template_words document (causes.IntervalMissing number) text = next_to_metric document number text
 template_words document cause text = text

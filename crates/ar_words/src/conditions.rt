@@ -2,7 +2,7 @@
 
 ghost use Rattle.std.specs.Prelude.{◌≡◌, ◌<◌, ◌++◌, IfOk, OnOk, length, option_map, string_bytes};
 ghost use Rattle.ar_value.specs.View.{shape_view};
-ghost use Rattle.ar_words.specs.Conditions.{advice, after_name, build_words, cause_words, condition_words, conversion_advice, has_predicate, is_conversion, is_field, is_membership, refused_offset, taken, takes_alike, takes_numbers, takes_texts, token_in, unexpected, with_quote, wrong_operand};
+ghost use Rattle.ar_words.specs.Conditions.{cause_advice, after_name, build_words, cause_words, condition_words, conversion_advice, has_predicate, is_conversion, is_field, is_membership, refused_offset, taken, takes_alike, takes_numbers, takes_texts, token_in, unexpected, with_quote, wrong_operand};
 ghost use Rattle.ar_quote.specs.Tokens.{found};
 
 use crate::cuts::cut_at;
@@ -198,7 +198,7 @@ fn push_conversion_advice(out: &mut String, token: &str) -> Result<(), AllocErro
 
 fn push_advice(out: &mut String, cause: BuildCause, here: TokenAt<'_>) -> Result<(), AllocError>
     ensures { OnOk result (string_bytes out.new ≡ string_bytes out.old
-        ++ advice cause (found here.entry.before.now here.entry.token.now here.entry.after.now)) }
+        ++ cause_advice cause (found here.entry.before.now here.entry.token.now here.entry.after.now)) }
 {
     match cause {
         BuildCause::Grammar(SyntaxError::UnknownName(_)) => push_conversion_advice(out, here.token),

@@ -2,7 +2,7 @@
 
 ghost use Rattle.std.specs.Prelude.{◌≡◌, IfOk, option_and_then, option_map, string_bytes};
 ghost use Rattle.serde_json.specs.View.{view};
-ghost use Rattle.ar_words.specs.Fields.{json_said, limit_misfit, limits_misfit, misfit, misfit_said, text_misfit, texts_misfit};
+ghost use Rattle.ar_words.specs.Fields.{json_said, limit_misfit, limits_misfit, metric_misfit, misfit_said, text_misfit, texts_misfit};
 
 use ar_json::members::member;
 use serde_json::Value as Json;
@@ -89,7 +89,7 @@ fn misfit_said(alloc: Global, found: Misfit<'_>) -> Result<String, AllocError>
 /// What is said of a metric's first field that holds a value of another kind than it takes.
 pub(crate) fn field_said(alloc: Global, metric: Option<&Json>) -> Result<Option<String>, AllocError>
     ensures { IfOk result (λ said. option_map (λ said. string_bytes said) said
-        ≡ option_and_then misfit (option_map (λ json. view json.now) metric.entry)) }
+        ≡ option_and_then metric_misfit (option_map (λ json. view json.now) metric.entry)) }
 {
     let Some(metric) = metric else {
         return Ok(None);

@@ -2,7 +2,7 @@
 
 ghost use Rattle.std.specs.Prelude.{◌≡◌, ◌++◌, IfOk, OnOk, map, option_map, string_bytes, take};
 ghost use Rattle.serde_json.specs.View.{view};
-ghost use Rattle.ar_words.specs.Names.{after_blank, item_text, most_listed, item_name, names_listed, names_text, others_counted};
+ghost use Rattle.ar_words.specs.Names.{after_blank, named_item, most_listed, item_name, names_listed, names_text, others_counted};
 ghost use Rattle.ar_words.specs.Private.Listed.{name_listed};
 
 use ar_json::members::text_member;
@@ -33,13 +33,13 @@ fn push_after_blank(out: &mut String, name: Option<&str>) -> Result<(), AllocErr
 }
 
 /// An item of the document, by its kind, its number and its name.
-pub(crate) fn item_text(
+pub(crate) fn named_item(
     alloc: Global,
     kind: &str,
     number: usize,
     item: &Json,
 ) -> Result<String, AllocError>
-    ensures { IfOk result (λ text. string_bytes text ≡ item_text kind.now number (view item.now)) }
+    ensures { IfOk result (λ text. string_bytes text ≡ named_item kind.now number (view item.now)) }
 {
     let mut text = format!(in alloc; "{kind} {number}")?;
     push_after_blank(&mut text, name_of(item))?;

@@ -3,7 +3,7 @@
 ghost use Rattle.std.specs.Prelude.{◌≡◌, ◌++◌, IfOk, OnOk, option_map, string_bytes};
 ghost use Rattle.serde_json.specs.View.{view};
 ghost use Rattle.ar_value.specs.View.{shape_view};
-ghost use Rattle.ar_words.specs.Operands.{between, declaration_in, declared_shape, kind_said, operands_in, operands_said, refused_operands};
+ghost use Rattle.ar_words.specs.Operands.{between_operands, declaration_in, declared_shape, kind_said, operands_in, operands_said, refused_operands};
 
 use crate::lists::{metrics, text_at};
 use ar_check::found::{OperandKind, Operands};
@@ -97,8 +97,8 @@ fn kind_said(kind: OperandKind) -> &'static str
 }
 
 /// What is between what is said of two operands.
-fn between(is_membership: bool) -> &'static str
-    ensures { result.now ≡ between is_membership }
+fn between_operands(is_membership: bool) -> &'static str
+    ensures { result.now ≡ between_operands is_membership }
 {
     if is_membership {
         " and a list of "
@@ -127,7 +127,7 @@ pub(crate) fn push_operands(
         Operands::One(operand) => out.push_str(kind_said(operand)),
         Operands::Two(left, right) => {
             out.push_str(kind_said(left))?;
-            out.push_str(between(is_membership))?;
+            out.push_str(between_operands(is_membership))?;
             out.push_str(kind_said(right))
         }
     }

@@ -7,7 +7,7 @@ ghost use Rattle.ar_words.specs.Bindings.{condition_bound_for};
 ghost use Rattle.ar_words.specs.Conditions.{build_words};
 ghost use Rattle.ar_words.specs.Lists.{list_item};
 ghost use Rattle.ar_quote.specs.Shown.{quoted};
-ghost use Rattle.ar_words.specs.Names.{item_text};
+ghost use Rattle.ar_words.specs.Names.{named_item};
 ghost use Rattle.ar_words.specs.Words.{next_to_item, next_to_metric, next_to_run, bind_words, built_words, bundle_words, eval_words, given_kind, has_braces, head_words, in_place, kind_of_list, list_kind, list_words, manifest_words, template_words, those_there, with_advice, with_argument, with_arguments, with_double_name, with_names, with_place};
 
 use crate::bindings::{bound_of, limit_in, refused_condition, unbound_in};
@@ -16,7 +16,7 @@ use crate::cuts::cut_at;
 use crate::fields::field_said;
 use crate::found::{found_after, limit_said, reference_said};
 use crate::lists::{entry_text, item_at, list_in, metrics, runs, template_list, text_at};
-use crate::names::{item_text, push_names};
+use crate::names::{named_item, push_names};
 use crate::operands::{declaration_in, declared_shape};
 use ar_document::BundleError;
 use ar_eval::EvalError;
@@ -71,11 +71,11 @@ fn shown_item(
     items: Option<&[Json]>,
 ) -> Result<Option<String>, AllocError>
     ensures { IfOk result (λ shown. option_map (λ shown. string_bytes shown) shown
-        ≡ option_map (item_text kind.now number)
+        ≡ option_map (named_item kind.now number)
         (list_item number (option_map (λ list. map (λ item. view item) list.now) items.entry))) }
 {
     match item_at(items, number) {
-        Some(item) => Ok(Some(item_text(alloc, kind, number, item)?)),
+        Some(item) => Ok(Some(named_item(alloc, kind, number, item)?)),
         None => Ok(None),
     }
 }

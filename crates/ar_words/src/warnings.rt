@@ -3,10 +3,10 @@
 
 ghost use Rattle.std.specs.Prelude.{◌≡◌, ◌++◌, [], IfOk, OnOk, map, option_map, string_bytes};
 ghost use Rattle.serde_json.specs.View.{view};
-ghost use Rattle.ar_words.specs.Warnings.{close, close_line, close_lines, close_to_metric, close_to_spec, condition_line, has_no_condition, is_left_out, lines_from, metric_lines, read_over, spec_lines, warning, warnings_text};
+ghost use Rattle.ar_words.specs.Warnings.{close, close_line, close_lines, close_to_metric, close_to_spec, condition_line, has_no_condition, is_left_out, lines_from, metric_warnings, read_over, spec_lines, warning, warnings_text};
 
 use crate::lists::metrics;
-use crate::names::item_text;
+use crate::names::named_item;
 use ar_json::members::{member, member_of_member, text_member};
 use serde_json::Value as Json;
 use std::alloc::{AllocError, Global};
@@ -157,9 +157,9 @@ fn push_metric(
     number: usize,
     metric: &Json,
 ) -> Result<(), AllocError>
-    ensures { OnOk result (string_bytes out.new ≡ string_bytes out.old ++ metric_lines number (view metric.now)) }
+    ensures { OnOk result (string_bytes out.new ≡ string_bytes out.old ++ metric_warnings number (view metric.now)) }
 {
-    let at = item_text(alloc, "metric", number, metric)?;
+    let at = named_item(alloc, "metric", number, metric)?;
     push_all_close(alloc, out, at.as_str(), metric, close_to_metric())?;
     push_condition(out, at.as_str(), metric)
 }
