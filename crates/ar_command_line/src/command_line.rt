@@ -16,6 +16,11 @@ use thiserror::Error;
 /// How many workers judge where the words name no number.
 pub const DEFAULT_WORKERS: usize = 4;
 
+/// What `--version` says after the program's name. A release has its commit and kit in the place of the words
+/// in parentheses.
+pub const VERSION: &str =
+    "0.1.0 (built from a checkout; a release shows the commit and the kit here)";
+
 /// How an answer is written.
 #[derive(Clone, Copy, Debug)]
 pub enum Format {
@@ -292,7 +297,7 @@ fn program<'a>(alloc: Global) -> clap::Command<'a>
     ensures { app_of result ≡ program }
 {
     clap::Command::new(alloc, "argo_judge")
-        .version("0.1.0")
+        .version(VERSION)
         .about("Judges canary measurements by the conditions of Argo Rollouts' analysis")
         .after_help(HELP)
         .disable_help_subcommand(true)

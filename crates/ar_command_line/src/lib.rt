@@ -40,7 +40,7 @@ mod selection;
 pub mod stream;
 pub mod usage;
 
-pub use command_line::{Command, DEFAULT_WORKERS, Format, UsageError, command_of, shown};
+pub use command_line::{Command, DEFAULT_WORKERS, Format, UsageError, VERSION, command_of, shown};
 pub use device::Device;
 pub use input::{InputError, read_input};
 pub use kept::Kept;

@@ -4,12 +4,9 @@
 //! The program reads one JSON document from standard input, carries a command out on it, and
 //! writes the answer to standard output. `ar_command` is all of that over any reader and writer:
 //! `serve` with workers, `serve_plain` without. `ar_command_line` says what the words of the command
-//! line ask for. What is left to this crate are the words of refusals and the exit status.
-//!
-//! - `words`: the words of a refusal, with names of the document that was read, which `ar_words` finds
+//! line ask for, and `ar_refusal` what is said of a refused input. What is left to this crate are the
+//! standard streams and the exit status.
 #![tactic(auto)]
-
-mod words;
 
 ghost use Rattle.std.specs.Prelude.{◌≡◌, ◌≤◌, ℕ, Ok, false};
 ghost use Rattle.ar_command_line.specs.declared.command_line.Command.TheVariants as commands;
@@ -23,6 +20,7 @@ use ar_command::{
 use ar_command_line::{
     UsageError, command_of, event_text, output_text, shown, words_text, workers_text,
 };
+use ar_refusal::{refusal_text, warning_lines};
 use ar_workers::{FreeGate, WorkError};
 use std::alloc::{AllocError, Global};
 use std::process::ExitCode;
@@ -30,7 +28,6 @@ use std::rt::Env;
 use std::sync::Wait;
 use std::thread::Threads;
 use std::{env, io};
-use words::{refusal_text, warning_lines};
 
 /// What a command line can ask for.
 #[derive(Drop)]
@@ -232,13 +229,24 @@ fn refuse<R: AllocGlobal + Eprint>(
     input: &[u8],
     refusal: &Refusal,
 ) -> u8 {
-    match refusal_text(rt.alloc(), command, input, refusal) {
+    match refusal_line(rt.alloc(), command, input, refusal) {
         Ok(text) => {
             let _ = eprintln!(rt; "argo_judge: {text}");
             status::REFUSED
         }
         Err(error) => out_of_memory(rt, ServeError::from(error)),
     }
+}
+
+/// The line of a refused input.
+fn refusal_line(
+    alloc: Global,
+    command: Command<'_>,
+    input: &[u8],
+    refusal: &Refusal,
+) -> Result<String, AllocError> {
+    let own = format!(in alloc; "{refusal}")?;
+    refusal_text(alloc, command, input, refusal, own)
 }
 
 fn out_of_memory<R: Eprint>(rt: &R, error: ServeError) -> u8 {

@@ -1,0 +1,2 @@
+pub mod Refused
+pub use Rattle.ar_command.specs.Serving
