@@ -5,11 +5,12 @@ import os
 import pathlib
 import shutil
 import subprocess
+from itertools import chain
 
 import linking
 from checks.images import of_images
 from checks.installs import of_prefix, of_program, of_removal
-from checks.starts import ROOT, ended, hidden, in_folder, note, put_shell
+from checks.starts import ROOT, ended, hidden, in_folder, note, put_shell, side_by_side
 from evidence import GATE, OBJECT, OUT, PROGRAM
 from stamps import PLACEHOLDER
 from tree import version_of
@@ -156,22 +157,25 @@ def can_release():
     return False
 
 
+def of_trial(checkout, folder):
+    found = ended([checkout / "bin/release", "--trial", "--to", folder])
+    if found.returncode != 0:
+        print(f"packaging: {found.stdout}", end="")
+    yield f"a trial in {folder.name}", found.returncode == 0
+
+
 def of_release(folder):
     if not can_release():
         return
     copy, one, two = folder / "copy", folder / "one", folder / "two"
     copy_of_checkout(copy)
-    for checkout, made in ((ROOT, one), (copy, two)):
-        found = ended([checkout / "bin/release", "--trial", "--to", made])
-        yield f"a trial of {checkout.name}", found.returncode == 0
-        if found.returncode != 0:
-            print(found.stdout, end="")
-            return
+    trials = list(side_by_side(of_trial(ROOT, one), of_trial(copy, two)))
+    yield from trials
+    if not all(passed for _, passed in trials):
+        return
     yield "the same bytes from two folders", archive_in(one).read_bytes() == archive_in(two).read_bytes()
     checked = ended(["sha256sum", "--check", "--quiet", f"{archive_in(one).name}.sha256"], cwd=one)
     yield "the archive's checksum", checked.returncode == 0
     tree = unpacked(archive_in(one), folder / "unpacked")
-    yield from of_images(archive_in(one), archive_in(two), tree, folder)
-    yield from of_tree(tree, folder)
-    yield from of_last_line(copy, folder)
-    yield from of_refusals(copy)
+    yield from side_by_side(of_images(archive_in(one), archive_in(two), tree, folder), of_tree(tree, folder),
+                            chain(of_last_line(copy, folder), of_refusals(copy)))

@@ -4,12 +4,20 @@ import pathlib
 import re
 import shutil
 import subprocess
+from concurrent.futures import ThreadPoolExecutor
 
 ROOT = pathlib.Path(__file__).resolve().parent.parent.parent
 BUILT = ROOT / "crates/argo_judge/out/argo_judge"
-# Answers whether the system allows name spaces.
+# A start in a name space of its own, in which folders can be hidden; and one for which a folder is the whole system.
 ALLOWED = ["unshare", "--user", "--map-root-user", "--mount"]
 IN_FOLDER = ["unshare", "--user", "--map-root-user", "chroot"]
+
+
+def side_by_side(*groups):
+    """The checks of several groups, which are tried at the same time."""
+    with ThreadPoolExecutor(len(groups)) as pool:
+        for found in list(pool.map(list, groups)):
+            yield from found
 
 
 def ended(words, **more):
