@@ -47,15 +47,17 @@ def doubts():
         yield "git has uncommitted changes, where a release has none"
 
 
-def check_program():
-    """Refuses a program that isn't the one of the sources as they are, and one without its object file."""
-    for file in (PROGRAM, SOURCES):
+def check_files():
+    """Refuses a checkout without the program, or without what the program was made of."""
+    for file, option in ((PROGRAM, ""), (SOURCES, ""), (OBJECT, "--object ")):
         if not file.is_file():
-            raise Refused(f"{file.relative_to(ROOT)} isn't there; expected what bin/prove argo_judge makes")
+            raise Refused(f"{file.relative_to(ROOT)} isn't there; expected it as bin/prove {option}argo_judge makes it")
+
+
+def check_sources():
+    """Refuses a program that isn't that of the sources as they are."""
     if subprocess.run([ROOT / "bin/prove", "--unchanged", "argo_judge"]).returncode != 0:
         raise Refused("the program isn't that of the sources as they are; expected it as bin/prove argo_judge builds it")
-    if not OBJECT.is_file():
-        raise Refused(f"{OBJECT.relative_to(ROOT)} isn't there; expected it as bin/prove --object argo_judge makes it")
 
 
 def proved(lines):

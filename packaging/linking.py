@@ -18,7 +18,10 @@ def kit():
     found = shutil.which("rt")
     if found is None:
         raise Refused("rt isn't on the PATH; expected the kit that README.md names")
-    return pathlib.Path(found).resolve().parent.parent
+    folder = pathlib.Path(found).resolve().parent.parent
+    if not (folder / "KIT-ID").is_file():
+        raise Refused(f"{folder} has no KIT-ID; expected the kit, with rt in its folder bin")
+    return folder
 
 
 def kit_line():

@@ -18,6 +18,8 @@ ROOT = pathlib.Path(__file__).resolve().parent.parent
 PLUGIN = pathlib.PurePath("bin/kubectl-argo_judge")
 # What of recipes/ isn't for users.
 TESTS = ("tests", "check", "__pycache__")
+# The C library.
+LIBRARY_FILES = ("include/argo_judge.h", "lib/libargo_judge.a", "lib/libargo_judge.so")
 # The documents of README.md, for a first start.
 EXAMPLES = ("examples/bundles/success-rate.json", "examples/analysisrun.json")
 
@@ -50,8 +52,7 @@ def copied_files(program):
 
 
 def add_library(tree):
-    """Adds the C library, include/argo_judge.h and lib/libargo_judge.a and .so, where it can be made; otherwise a line
-    says why not."""
+    """Adds LIBRARY_FILES, where they can be made; otherwise a line says why not."""
     if importlib.util.find_spec("library") is None:
         return
     import library

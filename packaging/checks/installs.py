@@ -2,11 +2,14 @@
 import shutil
 import subprocess
 
-from checks.starts import BUILT, ROOT, ended, hidden, note
+from checks.starts import BUILT, ROOT, ended, hidden, is_current, note
 
 DOCUMENT = ROOT / "examples/bundles/success-rate.json"
 TEMPLATE = "objects/kind/default/analysistemplate/success-rate.json"
 SUITE = ROOT / "recipes/tests/kubectl-lint/suite.json"
+LINT = "lib/argo_judge/recipes/lint"
+TEST = "lib/argo_judge/recipes/test"
+LINTED = "1 template: "
 PLUGIN = "bin/kubectl-argo_judge"
 FOREIGN = "another program\n"
 
@@ -33,10 +36,9 @@ def of_program(what, words):
 
 def starts_of(prefix, folder):
     """Starts of the scripts that are installed, each by its name, with what its output has to have."""
-    recipes = prefix / "lib/argo_judge/recipes"
     return [
-        ("a recipe", [recipes / "lint", folder / "template.json"], "1 template: "),
-        ("tests of templates", [recipes / "test", folder / "suite.json"], "1 passed, 0 failed"),
+        ("a recipe", [prefix / LINT, folder / "template.json"], LINTED),
+        ("tests of templates", [prefix / TEST, folder / "suite.json"], "1 passed, 0 failed"),
         ("the plugin", [prefix / PLUGIN, "test", folder / "suite.json"], "1 passed, 0 failed"),
     ]
 
@@ -62,13 +64,11 @@ def of_removal(what, install, prefix):
 
 def of_install(folder):
     what, prefix, install = "by bin/install", folder / "prefix", [ROOT / "bin/install"]
-    if ended([ROOT / "bin/prove", "--unchanged", "argo_judge"]).returncode != 0:
+    if not is_current():
         yield "a program of other sources is refused", ended([*install, prefix]).returncode == 2
         note("the program isn't of the sources as they are, so it isn't installed")
         return
     for turn in ("installed", "installed again"):
         yield f"{what}, {turn}", ended([*install, prefix]).returncode == 0
     yield from of_prefix(what, prefix, folder)
-    for name, words, wanted in starts_of(prefix, folder):
-        yield f"{what}, {name} next to the checkout", wanted in ended(words, cwd=folder).stdout
     yield from of_removal(what, install, prefix)

@@ -2,19 +2,20 @@
 of the copy, and what is refused."""
 import hashlib
 import os
-import pathlib
+import re
 import shutil
 import subprocess
 from itertools import chain
 
 import linking
 from checks.images import of_images
-from checks.installs import of_prefix, of_program, of_removal
-from checks.starts import ROOT, ended, hidden, in_folder, note, put_shell, side_by_side
+from checks.installs import LINT, LINTED, of_prefix, of_program, of_removal
+from checks.starts import ROOT, ended, hidden, in_folder, is_current, note, put_shell, side_by_side
 from evidence import GATE, OBJECT, OUT, PROGRAM
 from stamps import PLACEHOLDER
 from tree import version_of
 
+TIME = 1_000_000_000
 LAST_LINE = "3 passed, 0 failed"
 AUTHOR = ["-c", "user.name=check", "-c", "user.email=check@example.com", "-c", "commit.gpgsign=false"]
 
@@ -69,6 +70,15 @@ def of_proved(tree):
     yield "no file names this folder", not any(os.fsencode(ROOT) + b"/" in text for text in texts)
 
 
+def of_page(tree):
+    """The commands for a first start in a release's README.md."""
+    start = (tree / "README.md").read_text(encoding="utf-8").partition("\n## Install\n")[0]
+    for block in re.findall(r"^```sh\n(.*?)^```$", start, re.M | re.S):
+        found = ended(hidden(["bash", "-o", "pipefail", "-c", block]), cwd=tree)
+        yield f"README.md of a release: {block}", found.returncode in (0, 1) and found.stdout.startswith("run ")
+    (tree / "shapes.json").unlink()
+
+
 def of_small_roots(tree, folder):
     """The program alone, and from a shell, in folders that have nothing else."""
     for what, start in (("alone", ["/bin/argo_judge"]), ("with a shell", ["/bin/sh", "-c", '"$@"', "sh", "/bin/argo_judge"])):
@@ -84,7 +94,9 @@ def of_small_roots(tree, folder):
 
 def of_tree(tree, folder):
     yield from of_proved(tree)
-    yield from of_prefix("unpacked", tree, folder)
+    yield from of_page(tree)
+    yield from of_program("unpacked", hidden([tree / "bin/argo_judge"]))
+    yield "unpacked, a recipe", LINTED in ended(hidden([tree / LINT, folder / "template.json"])).stdout
     yield from of_small_roots(tree, folder)
     home = folder / "home"
     prefix, install = home / ".local", [tree / "install"]
@@ -94,9 +106,9 @@ def of_tree(tree, folder):
     yield from of_prefix("from a release", prefix, folder)
     yield "a release isn't installed over itself", ended([*install, tree]).returncode == 2
     yield from of_removal("from a release", install, prefix)
-    (tree / "lib/argo_judge/recipes/lint").unlink()
+    (tree / LINT).unlink()
     refused = ended([*install, folder / "not installed"])
-    yield "a release without a file is refused", refused.returncode == 2 and "recipes/lint is missing" in refused.stdout
+    yield "a release without a file is refused", refused.returncode == 2 and f"{LINT} is missing" in refused.stdout
     yield "and nothing is installed", not (folder / "not installed").exists()
 
 
@@ -122,8 +134,11 @@ def of_last_line(copy, folder):
     yield "with uncommitted changes neither", "uncommitted" in refusal(copy)
     subprocess.run(["git", "-C", copy, "add", "--all"], check=True)
     subprocess.run(["git", *AUTHOR, "-C", copy, "commit", "--quiet", "-m", "a check"], check=True)
-    yield "a release", ended([copy / "bin/release", "--to", folder / "released"]).returncode == 0
-    values, _ = values_of(unpacked(archive_in(folder / "released"), folder / "of the release"))
+    made = ended([copy / "bin/release", "--to", folder / "released"], env={**os.environ, "SOURCE_DATE_EPOCH": str(TIME)})
+    yield "a release", made.returncode == 0
+    tree = unpacked(archive_in(folder / "released"), folder / "of the release")
+    yield "a release has the time that it is given", {path.lstat().st_mtime for path in tree.rglob("*")} == {TIME}
+    values, _ = values_of(tree)
     yield "PROVED has the gate's last line", values["gate"] == LAST_LINE and "trial" not in values
 
 
@@ -150,7 +165,7 @@ def can_release():
         note("the proof left no object file, so no release is tried; bin/prove --object argo_judge makes it")
     elif shutil.which("cc") is None:
         note("cc isn't installed, so no release is tried")
-    elif ended([ROOT / "bin/prove", "--unchanged", "argo_judge"]).returncode != 0:
+    elif not is_current():
         note("the program isn't of the sources as they are, so no release is tried")
     else:
         return True

@@ -40,6 +40,12 @@ def is_there(program):
 
 
 @functools.lru_cache(maxsize=None)
+def is_current():
+    """Whether the program is that of the sources as they are."""
+    return ended([ROOT / "bin/prove", "--unchanged", "argo_judge"]).returncode == 0
+
+
+@functools.lru_cache(maxsize=None)
 def is_allowed():
     """Whether the system allows name spaces."""
     return shutil.which("unshare") is not None and ended([*ALLOWED, "chroot", "/", "true"]).returncode == 0
