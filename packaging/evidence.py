@@ -24,7 +24,7 @@ class Gate(NamedTuple):
 
 
 def git(*words):
-    ended = subprocess.run(["git", "-C", ROOT, *words], stdout=subprocess.PIPE, stderr=subprocess.PIPE, text=True)
+    ended = subprocess.run(["git", "--no-optional-locks", "-C", ROOT, *words], capture_output=True, text=True)
     if ended.returncode != 0:
         raise Refused(f"git {words[0]}: {ended.stderr.strip().splitlines()[-1]}")
     return ended.stdout.strip()
@@ -51,13 +51,13 @@ def check_files():
     """Refuses a checkout without the program, or without what the program was made of."""
     for file, option in ((PROGRAM, ""), (SOURCES, ""), (OBJECT, "--object ")):
         if not file.is_file():
-            raise Refused(f"{file.relative_to(ROOT)} isn't there; expected it as bin/prove {option}argo_judge makes it")
+            raise Refused(f"{file.relative_to(ROOT)} isn't there; bin/prove {option}argo_judge makes it")
 
 
 def check_sources():
     """Refuses a program that isn't that of the sources as they are."""
     if subprocess.run([ROOT / "bin/prove", "--unchanged", "argo_judge"]).returncode != 0:
-        raise Refused("the program isn't that of the sources as they are; expected it as bin/prove argo_judge builds it")
+        raise Refused("the program isn't that of the sources as they are; bin/prove argo_judge proves and builds it")
 
 
 def proved(lines):

@@ -33,8 +33,8 @@ def linked(words, program):
     """The program that these words link; what the linker says where it fails."""
     ended = subprocess.run(words, stdout=subprocess.PIPE, stderr=subprocess.STDOUT, text=True, errors="replace")
     if ended.returncode != 0:
-        said = ended.stdout.strip().splitlines()
-        raise Refused(f"{pathlib.Path(words[0]).name} ended with {ended.returncode}: {said[-1] if said else 'no output'}")
+        last = (ended.stdout.strip().splitlines() or ["it wrote nothing"])[-1]
+        raise Refused(f"{pathlib.Path(words[0]).name} ended with {ended.returncode}: {last}")
     return program.read_bytes()
 
 

@@ -1,4 +1,4 @@
-"""What bin/release and packaging/image share: their command lines, how they end, and what they say of what they made."""
+"""What bin/release and packaging/image share: command lines, how they end, and what they say of what they made."""
 import argparse
 import hashlib
 import subprocess

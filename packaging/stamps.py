@@ -7,7 +7,7 @@ SHORTEST_COMMIT = 12
 
 
 def stamp_of(commit, kit):
-    """The stamp, which is as long as the placeholder: a long name of a kit cuts the commit, a short one leaves spaces."""
+    """The stamp, as long as the placeholder: a kit's long name cuts the commit, a short one leaves spaces."""
     room = len(PLACEHOLDER) - len(f"(of commit , {kit})")
     if room < SHORTEST_COMMIT:
         raise Refused(f"the kit's name is {kit}; expected one that leaves {SHORTEST_COMMIT} digits of the commit")

@@ -1,5 +1,5 @@
-"""Tries what is made of the program's help: completions by bash, and their form by zsh and fish where they are installed;
-the manual page by groff where it is."""
+"""Tries what is made of the program's help: completions by bash, and their form by zsh and fish where they are
+installed; the manual page by groff where it is."""
 import completions
 from checks.starts import ended, is_there
 from helps import helps_of

@@ -33,7 +33,8 @@ def of_layers(image, tree, folder):
     [found] = json.loads(files["index.json"])["manifests"]
     manifest = json.loads(blob(files, found))
     config, [layer] = json.loads(blob(files, manifest["config"])), manifest["layers"]
-    yield "the image's layer is whole", config["rootfs"]["diff_ids"] == [layer["digest"]] and blob(files, layer) is not None
+    content = blob(files, layer)
+    yield "the image's layer is whole", content is not None and config["rootfs"]["diff_ids"] == [layer["digest"]]
     start = config["config"]["Entrypoint"]
     yield "the image starts the program", start == ["/bin/argo_judge"]
     version = manifest["annotations"]["org.opencontainers.image.version"]
@@ -42,7 +43,7 @@ def of_layers(image, tree, folder):
     yield "the Job's image is of this version", f"/argo-judge-recipes:{version}\n" in job
     root = folder / "image"
     root.mkdir()
-    (folder / "layer.tar").write_bytes(blob(files, layer))
+    (folder / "layer.tar").write_bytes(content or b"")
     ended(["tar", "-xf", folder / "layer.tar", "-C", root])
     words = in_folder(root, start)
     if words is not None:

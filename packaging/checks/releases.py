@@ -1,5 +1,5 @@
-"""Tries bin/release: a trial of this checkout and one of a copy of it, what is unpacked and installed of them, a release
-of the copy, and what is refused."""
+"""Tries bin/release: a trial of this checkout and one of a copy of it, what is unpacked and installed of them, a
+release of the copy, and what is refused."""
 import hashlib
 import os
 import re
@@ -13,7 +13,6 @@ from checks.installs import LINT, LINTED, of_prefix, of_program, of_removal
 from checks.starts import ROOT, ended, hidden, in_folder, is_current, note, put_shell, side_by_side
 from evidence import GATE, OBJECT, OUT, PROGRAM
 from stamps import PLACEHOLDER
-from tree import version_of
 
 TIME = 1_000_000_000
 LAST_LINE = "3 passed, 0 failed"
@@ -62,10 +61,9 @@ def of_proved(tree):
     yield "PROVED names the program", values["sha256 of bin/argo_judge"] == hashlib.sha256(program).hexdigest()
     yield "PROVED has the sources", sources == ended([ROOT / "bin/prove", "--sources", "argo_judge"]).stdout
     yield "PROVED has the commit", values["commit"] == commit
-    yield "a trial says so", values["trial"] != ""
-    said = ended([tree / "bin/argo_judge", "--version"]).stdout.split()
-    yield "--version has the commit and the kit", [commit + ",", values["kit"].split()[0]] == \
-        [said[4], said[5].rstrip(")")]
+    yield "a trial says so", values.get("trial", "") != ""
+    said = ended([tree / "bin/argo_judge", "--version"]).stdout
+    yield "--version has the commit and the kit", commit[:12] in said and values["kit"].split()[0] in said
     texts = [path.read_bytes() for path in tree.rglob("*") if path.is_file()]
     yield "no file names this folder", not any(os.fsencode(ROOT) + b"/" in text for text in texts)
 
@@ -81,15 +79,15 @@ def of_page(tree):
 
 def of_small_roots(tree, folder):
     """The program alone, and from a shell, in folders that have nothing else."""
-    for what, start in (("alone", ["/bin/argo_judge"]), ("with a shell", ["/bin/sh", "-c", '"$@"', "sh", "/bin/argo_judge"])):
-        root = folder / f"root {what}"
+    alone, with_shell = folder / "alone", folder / "with a shell"
+    for root in (alone, with_shell):
         (root / "bin").mkdir(parents=True)
         shutil.copy(tree / "bin/argo_judge", root / "bin")
-        if what != "alone":
-            put_shell(root)
-        words = in_folder(root, start)
+    put_shell(with_shell)
+    for root, start in ((alone, []), (with_shell, ["/bin/sh", "-c", '"$@"', "sh"])):
+        words = in_folder(root, [*start, "/bin/argo_judge"])
         if words is not None:
-            yield from of_program(f"in an empty system, {what}", words)
+            yield from of_program(f"in an empty system, {root.name}", words)
 
 
 def of_tree(tree, folder):
@@ -134,7 +132,8 @@ def of_last_line(copy, folder):
     yield "with uncommitted changes neither", "uncommitted" in refusal(copy)
     subprocess.run(["git", "-C", copy, "add", "--all"], check=True)
     subprocess.run(["git", *AUTHOR, "-C", copy, "commit", "--quiet", "-m", "a check"], check=True)
-    made = ended([copy / "bin/release", "--to", folder / "released"], env={**os.environ, "SOURCE_DATE_EPOCH": str(TIME)})
+    given = {**os.environ, "SOURCE_DATE_EPOCH": str(TIME)}
+    made = ended([copy / "bin/release", "--to", folder / "released"], env=given)
     yield "a release", made.returncode == 0
     tree = unpacked(archive_in(folder / "released"), folder / "of the release")
     yield "a release has the time that it is given", {path.lstat().st_mtime for path in tree.rglob("*")} == {TIME}

@@ -57,14 +57,14 @@ def folders_to_hide():
 
 
 def hidden(words):
-    """The words of a start for which the folders of this checkout and of the kit are empty; the words as they are, after
-    a line that says so, where the system doesn't allow that."""
+    """The words of a start for which the folders of this checkout and of the kit are empty; the words as they are,
+    after a line that says so, where the system doesn't allow that."""
     if not is_allowed():
         note("no name space is allowed here, so what is installed is tried next to the checkout alone")
         return words
     folders = [str(folder) for folder in folders_to_hide()]
-    hide = f'for folder in "${{@:1:{len(folders)}}}"; do mount -t tmpfs none "$folder" || exit; done; shift {len(folders)}'
-    return [*ALLOWED, "bash", "-c", f'{hide}; exec "$@"', "bash", *folders, *words]
+    script = 'while [ "$1" != -- ]; do mount -t tmpfs none "$1" || exit; shift; done; shift; exec "$@"'
+    return [*ALLOWED, "bash", "-c", script, "bash", *folders, "--", *words]
 
 
 # ---- a folder as the whole system
