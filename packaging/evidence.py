@@ -62,5 +62,6 @@ def check_sources():
 
 def proved(lines):
     """The text of PROVED: these lines, then the checksums of the sources."""
+    lines = {**lines, "sources": "their checksums, as bin/prove --sources argo_judge prints them"}
     text = "".join(f"{name}: {value}\n" for name, value in lines.items())
-    return f"{text}sources: their checksums, as bin/prove --sources argo_judge prints them\n{SOURCES.read_text('utf-8')}"
+    return text + SOURCES.read_text(encoding="utf-8")
