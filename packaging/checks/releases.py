@@ -1,58 +1,18 @@
-"""Tries bin/release: a trial of this checkout and one of a copy of it, what is unpacked and installed of them, a
-release of the copy, and what is refused."""
+"""Tries bin/release: a trial of this checkout and one of a copy of it, and what is unpacked and installed of them."""
 import hashlib
 import os
 import re
 import shutil
-import subprocess
 from itertools import chain
 
-import linking
+from checks.archives import archive_in, copy_of_checkout, unpacked, values_of
 from checks.images import of_images
 from checks.installs import LINT, LINTED, of_prefix, of_program, of_removal
+from checks.refusals import of_last_line, of_refusals, of_stamps
 from checks.starts import ROOT, ended, hidden, in_folder, is_current, note, put_shell, side_by_side
-from evidence import GATE, OBJECT, OUT, PROGRAM
-from stamps import PLACEHOLDER
-
-TIME = 1_000_000_000
-LAST_LINE = "3 passed, 0 failed"
-AUTHOR = ["-c", "user.name=check", "-c", "user.email=check@example.com", "-c", "commit.gpgsign=false"]
-
-
-def copy_of_checkout(copy):
-    """A copy of this checkout with its uncommitted changes, its history, and what is built."""
-    subprocess.run(["git", "clone", "--quiet", "--shared", "--no-checkout", ROOT, copy], check=True)
-    subprocess.run(["git", "-C", copy, "reset", "--quiet"], check=True)
-    listed = subprocess.run(["git", "ls-files", "-z", "--cached", "--others", "--exclude-standard"], cwd=ROOT,
-                            stdout=subprocess.PIPE, text=True, check=True).stdout
-    for name in filter(None, listed.split("\0")):
-        if (ROOT / name).is_file():
-            (copy / name).parent.mkdir(parents=True, exist_ok=True)
-            shutil.copy2(ROOT / name, copy / name)
-    shutil.copytree(OUT, in_copy(copy, OUT), ignore=lambda _, names: [it for it in names if "argo_judge" not in it])
-
-
-def in_copy(copy, path):
-    return copy / path.relative_to(ROOT)
-
-
-def unpacked(archive, folder):
-    folder.mkdir()
-    ended(["tar", "-xzf", archive, "-C", folder])
-    return next(folder.iterdir())
-
-
-def archive_in(folder):
-    return next(folder.glob("*.tar.gz"))
-
+from evidence import OBJECT
 
 # ---- what is in a release
-
-def values_of(tree):
-    """What PROVED says before the sources, by its names, and the sources."""
-    head, _, sources = (tree / "PROVED").read_text(encoding="utf-8").partition("\nsources: ")
-    return dict(line.partition(": ")[::2] for line in head.splitlines()), sources.partition("\n")[2]
-
 
 def of_proved(tree):
     values, sources = values_of(tree)
@@ -110,53 +70,7 @@ def of_tree(tree, folder):
     yield "and nothing is installed", not (folder / "not installed").exists()
 
 
-# ---- what is refused
-
-def refusal(copy, *words):
-    """The line with which the release of a copy is refused."""
-    found = ended([copy / "bin/release", *words, "--to", copy / "dist"])
-    is_one_line = found.stdout.startswith("release: ") and found.stdout.count("\n") == 1
-    return found.stdout if found.returncode == 2 and is_one_line else ""
-
-
-def of_last_line(copy, folder):
-    """A release needs the last line of the gate, of this program, and everything committed."""
-    gate = in_copy(copy, GATE)
-    gate.unlink(missing_ok=True)
-    yield "without the gate's last line there is no release", "argo_judge.gate" in refusal(copy)
-    gate.write_text(f"{'0' * 64} {'0' * 40} {LAST_LINE}\n", encoding="utf-8")
-    yield "with that of another program neither", "another program" in refusal(copy)
-    checksum = hashlib.sha256(PROGRAM.read_bytes()).hexdigest()
-    gate.write_text(f"{checksum} {'0' * 40} {LAST_LINE}\n", encoding="utf-8")
-    (copy / "uncommitted").write_text("", encoding="utf-8")
-    yield "with uncommitted changes neither", "uncommitted" in refusal(copy)
-    subprocess.run(["git", "-C", copy, "add", "--all"], check=True)
-    subprocess.run(["git", *AUTHOR, "-C", copy, "commit", "--quiet", "-m", "a check"], check=True)
-    given = {**os.environ, "SOURCE_DATE_EPOCH": str(TIME)}
-    made = ended([copy / "bin/release", "--to", folder / "released"], env=given)
-    yield "a release", made.returncode == 0
-    tree = unpacked(archive_in(folder / "released"), folder / "of the release")
-    yield "a release has the time that it is given", {path.lstat().st_mtime for path in tree.rglob("*")} == {TIME}
-    values, _ = values_of(tree)
-    yield "PROVED has the gate's last line", values["gate"] == LAST_LINE and "trial" not in values
-
-
-def of_refusals(copy):
-    """A trial, too, is of the sources, and of the object file that the program was linked of."""
-    program, object_file = in_copy(copy, PROGRAM), in_copy(copy, OBJECT)
-    source = copy / "crates/argo_judge/src/main.rt"
-    before = source.read_bytes()
-    source.write_bytes(before + b"// changed\n")
-    yield "changed sources are refused", "sources as they are" in refusal(copy, "--trial")
-    source.write_bytes(before)
-    other = object_file.read_bytes().replace(PLACEHOLDER.encode(), b"!" * len(PLACEHOLDER))
-    object_file.write_bytes(other)
-    yield "another object file is refused", "byte for byte" in refusal(copy, "--trial")
-    linking.link_as_the_kit_does(object_file, program)
-    yield "an object file without the place of the stamp is refused", "0 times" in refusal(copy, "--trial")
-    object_file.unlink()
-    yield "no object file is refused", "--object" in refusal(copy, "--trial")
-
+# ---- all of that
 
 def can_release():
     """Whether a release can be tried; otherwise a line says why not."""
@@ -192,4 +106,4 @@ def of_release(folder):
     yield "the archive's checksum", checked.returncode == 0
     tree = unpacked(archive_in(one), folder / "unpacked")
     yield from side_by_side(of_images(archive_in(one), archive_in(two), tree, folder), of_tree(tree, folder),
-                            chain(of_last_line(copy, folder), of_refusals(copy)))
+                            chain(of_stamps(), of_last_line(copy, folder), of_refusals(copy)))
