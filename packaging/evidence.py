@@ -12,8 +12,8 @@ OUT = ROOT / "crates/argo_judge/out"
 PROGRAM, OBJECT, SOURCES, GATE = (OUT / f"argo_judge{ending}" for ending in ("", ".o", ".sources", ".gate"))
 # The line of GATE: the program's checksum, the commit that the gate ran on, and the gate's last line.
 GATE_LINE = re.compile(r"([0-9a-f]{64}) ([0-9a-f]{40}(?:-dirty)?) (\d+ passed, 0 failed)\n")
-DIFFERENCE = ("the gate proved, built and ran its program; the program here is linked of the same object file, "
-              "statically and with the commit in the text of --version, after the proof")
+DIFFERENCE = ("the gate's program was built by the proof, and linked as the kit does; bin/argo_judge is linked of the "
+              "same object file after the proof, statically and with the commit in the text of --version")
 
 
 class Gate(NamedTuple):
