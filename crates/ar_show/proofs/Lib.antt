@@ -1,3 +1,4 @@
 pub mod Shortened
 pub mod Joined
 pub mod TypedViews
+pub mod Sizes
