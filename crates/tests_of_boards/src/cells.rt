@@ -2,17 +2,16 @@
 
 ghost use Rattle.std.specs.Prelude.{◌≡◌, ◌<◌};
 
+use crate::lines::put_line;
 use ar_board::{LockName, Receipt, RunCell, lock_of_run};
 use ar_bundle::{Bundle, BundleName};
 use ar_document::read_bundle;
-use std::alloc::Global;
+use std::alloc::{AllocError, Global};
 use std::marker::Brand;
 use std::process::Abort;
 use std::sync::ledger::{Blank, Share};
-use std::test::Fail;
 
 /// What a worker does at a cell.
-#[derive(Clone, Copy, Debug)]
 enum Call {
     /// It adds a number.
     Add(usize, u64),
@@ -20,8 +19,8 @@ enum Call {
     Show(usize, usize, &'static [Receipt]),
 }
 
-/// The result of adding a number with its finding.
-fn added<M: BundleName, L: LockName>(
+/// Writes the result of adding a number with its finding, where the bundle has it under the lock.
+fn put_added<M: BundleName, L: LockName>(
     alloc: Global,
     bundle: &Bundle,
     lock: usize,
@@ -29,7 +28,8 @@ fn added<M: BundleName, L: LockName>(
     mine: &mut Share<L>,
     worker: usize,
     number: u64,
-) -> Result<String, Fail>
+    text: &mut String,
+)
     requires bundle { bundle.now ≡ M.bundle }
     requires worker { worker < M.workers }
     requires lock { lock ≡ L.lock }
@@ -37,15 +37,15 @@ fn added<M: BundleName, L: LockName>(
     ensures part { 0 < mine.new.parts }
 {
     if number >= bundle.events() || lock_of_run(bundle.run_of(number)) != lock {
-        return Err(Fail::from("expected a number of the bundle that is under the lock"));
+        return;
     }
-    let finding = bundle.finding(alloc, number)?;
-    let outcome = cell.add(mine, worker, number, finding);
-    Ok(format!(in alloc; "{outcome:?}")?)
+    if let Ok(finding) = bundle.finding(alloc, number) {
+        put_line(text, &cell.add(mine, worker, number, finding));
+    }
 }
 
-/// What a look shows.
-fn shown<M: BundleName, L: LockName>(
+/// Writes what a look shows of a run, where the bundle has it under the lock.
+fn put_shown<M: BundleName, L: LockName>(
     alloc: Global,
     bundle: &Bundle,
     lock: usize,
@@ -53,28 +53,28 @@ fn shown<M: BundleName, L: LockName>(
     worker: usize,
     run: usize,
     receipts: &[Receipt],
-) -> Result<String, Fail>
+    text: &mut String,
+)
     requires bundle { bundle.now ≡ M.bundle }
     requires worker { worker < M.workers }
     requires lock { lock ≡ L.lock }
 {
-    if run >= bundle.runs().len() || lock_of_run(run) != lock {
-        return Err(Fail::from("expected a run of the bundle that is under the lock"));
+    if run < bundle.runs().len() && lock_of_run(run) == lock {
+        put_line(text, &cell.show(alloc, run, worker, receipts));
     }
-    let outcome = cell.show(alloc, run, worker, receipts);
-    Ok(format!(in alloc; "{outcome:?}")?)
 }
 
-/// The result of a call by a worker that is there.
-fn answer<M: BundleName, L: LockName>(
+/// Writes the result of a call, where its worker is there.
+fn put_answer<M: BundleName, L: LockName>(
     alloc: Global,
     bundle: &Bundle,
     workers: usize,
     lock: usize,
     cell: &mut RunCell<'_, M, L>,
     mine: &mut Share<L>,
-    call: Call,
-) -> Result<String, Fail>
+    call: &Call,
+    text: &mut String,
+)
     requires bundle { bundle.now ≡ M.bundle }
     requires workers { workers ≡ M.workers }
     requires lock { lock ≡ L.lock }
@@ -82,69 +82,50 @@ fn answer<M: BundleName, L: LockName>(
     ensures part { 0 < mine.new.parts }
 {
     match call {
-        Call::Add(worker, number) if worker < workers => {
-            added(alloc, bundle, lock, cell, mine, worker, number)
+        Call::Add(worker, number) => {
+            if *worker < workers {
+                put_added(alloc, bundle, lock, cell, mine, *worker, *number, text);
+            }
         }
-        Call::Show(worker, run, receipts) if worker < workers => {
-            shown(alloc, bundle, lock, cell, worker, run, receipts)
+        Call::Show(worker, run, receipts) => {
+            if *worker < workers {
+                put_shown(alloc, bundle, lock, cell, *worker, *run, receipts, text);
+            }
         }
-        Call::Add(..) | Call::Show(..) => Err(Fail::from("expected a worker that is there")),
     }
 }
 
-/// Whether a call has this result.
-fn is_answered<M: BundleName, L: LockName>(
+/// Writes the results of calls.
+fn put_answers<M: BundleName, L: LockName>(
     alloc: Global,
     bundle: &Bundle,
     workers: usize,
     lock: usize,
     cell: &mut RunCell<'_, M, L>,
     mine: &mut Share<L>,
-    call: Call,
-    expected: &str,
-) -> Result<bool, Fail>
-    requires bundle { bundle.now ≡ M.bundle }
-    requires workers { workers ≡ M.workers }
-    requires lock { lock ≡ L.lock }
-    requires part { 0 < mine.old.parts }
-    ensures part { 0 < mine.new.parts }
-{
-    Ok(answer(alloc, bundle, workers, lock, cell, mine, call)?.as_str() == expected)
-}
-
-/// Asserts the result of each call.
-fn assert_answers<M: BundleName, L: LockName>(
-    rt: &impl Abort,
-    alloc: Global,
-    bundle: &Bundle,
-    workers: usize,
-    lock: usize,
-    cell: &mut RunCell<'_, M, L>,
-    mine: &mut Share<L>,
-    calls: &[(Call, &str)],
-) -> Result<(), Fail>
+    calls: &[Call],
+    text: &mut String,
+)
     requires bundle { bundle.now ≡ M.bundle }
     requires workers { workers ≡ M.workers }
     requires lock { lock ≡ L.lock }
     requires part { 0 < mine.old.parts }
 {
-    for (call, expected) in calls {
-        let is_right = is_answered(alloc, bundle, workers, lock, cell, mine, *call, expected)?;
-        assert!(rt; is_right, "{call:?}");
+    for call in calls {
+        put_answer(alloc, bundle, workers, lock, cell, mine, call, text);
     }
-    Ok(())
 }
 
-/// Asserts the result of each call on an empty cell of a lock, of n workers.
-fn assert_calls<M: BundleName, L: LockName>(
-    rt: &impl Abort,
+/// Writes the results of calls on an empty cell of a lock, of n workers.
+fn put_cell<M: BundleName, L: LockName>(
     alloc: Global,
     bundle: &Bundle,
     workers: usize,
     lock: usize,
     blank: Blank,
-    calls: &[(Call, &str)],
-) -> Result<(), Fail>
+    calls: &[Call],
+    text: &mut String,
+) -> Result<(), AllocError>
     requires bundle { bundle.now ≡ M.bundle }
     requires workers { workers ≡ M.workers }
     requires lock { lock ≡ L.lock }
@@ -154,22 +135,40 @@ fn assert_calls<M: BundleName, L: LockName>(
 {
     let (book, mut mine) = blank.open::<L>();
     let mut cell = RunCell::<M, L>::new(alloc, bundle, workers, lock, book)?;
-    assert_answers(
-        rt, alloc, bundle, workers, lock, &mut cell, &mut mine, calls,
-    )
+    put_answers(
+        alloc, bundle, workers, lock, &mut cell, &mut mine, calls, text,
+    );
+    Ok(())
 }
 
 /// The same for the bundle of a document.
-fn assert_document(
+fn put_document(
+    alloc: Global,
+    document: &str,
+    workers: usize,
+    lock: usize,
+    calls: &[Call],
+    text: &mut String,
+) {
+    if let Ok(bundle) = read_bundle(alloc, document.as_bytes()) {
+        let blank = Blank::new(1);
+        let _ = put_cell::<Brand, Brand>(alloc, &bundle, workers, lock, blank, calls, text);
+    }
+}
+
+/// Asserts the results of calls on an empty cell for a document, a line each. What can't be called has no line.
+fn assert_answers(
     rt: &impl Abort,
     alloc: Global,
     document: &str,
     workers: usize,
     lock: usize,
-    calls: &[(Call, &str)],
-) -> Result<(), Fail> {
-    let bundle = read_bundle(alloc, document.as_bytes())?;
-    assert_calls::<Brand, Brand>(rt, alloc, &bundle, workers, lock, Blank::new(1), calls)
+    calls: &[Call],
+    expected: &str,
+) {
+    let mut text = String::new(alloc);
+    put_document(alloc, document, workers, lock, calls, &mut text);
+    assert_eq!(rt; text.as_str(), expected);
 }
 
 /// Two runs, each with one measurement, which holds.
@@ -179,11 +178,9 @@ pub(crate) const TWO_RUNS: &str =
     "shapes":{"m":{"list":"decimal","max":10}},"runs":[{"name":"r0"},{"name":"r1"}],
     "measurements":[{"run":"r0","metric":"m","value":["0.99"]},{"run":"r1","metric":"m","value":["0.96"]}]}"#;
 
-const CLOSING: &str = "Ok(Posted { place: 0, effect: Closed(Successful) })";
-
 /// A run is shown to a worker with its receipts alone, and a number is added once.
 #[test]
-fn one_worker(rt: HostRuntime) -> Result<(), Fail> {
+fn one_worker(rt: HostRuntime) {
     const FIRST: &[Receipt] = &[Receipt {
         run: 0,
         number: 0,
@@ -194,31 +191,37 @@ fn one_worker(rt: HostRuntime) -> Result<(), Fail> {
         number: 0,
         place: 1,
     }];
-    let only = "Ok(Snapshot { phase: Successful, metrics: [Successful], posts: [1] })";
-    let calls = [
-        (Call::Add(0, 0), CLOSING),
-        (Call::Show(0, 0, FIRST), only),
-        (Call::Show(0, 0, &[]), "Err(Stale(1))"),
-        (Call::Show(0, 0, AFTER), "Err(Stale(1))"),
-        (Call::Add(0, 0), "Err(Double)"),
-        (Call::Show(0, 0, FIRST), only),
+    const CALLS: &[Call] = &[
+        Call::Add(0, 0),
+        Call::Show(0, 0, FIRST),
+        Call::Show(0, 0, &[]),
+        Call::Show(0, 0, AFTER),
+        Call::Add(0, 0),
+        Call::Show(0, 0, FIRST),
     ];
-    assert_document(&rt, rt.alloc(), TWO_RUNS, 1, 0, &calls)
+    let expected = "Ok(Posted { place: 0, effect: Closed(Successful) })
+Ok(Snapshot { phase: Successful, metrics: [Successful], posts: [1] })
+Err(Stale(1))
+Err(Stale(1))
+Err(Double)
+Ok(Snapshot { phase: Successful, metrics: [Successful], posts: [1] })
+";
+    assert_answers(&rt, rt.alloc(), TWO_RUNS, 1, 0, CALLS, expected);
 }
 
 /// A look shows the posts of all workers, and requires the receipts of its own.
 #[test]
-fn two_workers(rt: HostRuntime) -> Result<(), Fail> {
-    let others = "Ok(Snapshot { phase: Successful, metrics: [Successful], posts: [1, 0] })";
-    let calls = [
-        (Call::Add(0, 0), CLOSING),
-        (Call::Show(1, 0, &[]), others),
-        (Call::Add(1, 0), "Err(Double)"),
-    ];
-    assert_document(&rt, rt.alloc(), TWO_RUNS, 2, 0, &calls)?;
+fn two_workers(rt: HostRuntime) {
+    const CALLS: &[Call] = &[Call::Add(0, 0), Call::Show(1, 0, &[]), Call::Add(1, 0)];
+    let expected = "Ok(Posted { place: 0, effect: Closed(Successful) })
+Ok(Snapshot { phase: Successful, metrics: [Successful], posts: [1, 0] })
+Err(Double)
+";
+    assert_answers(&rt, rt.alloc(), TWO_RUNS, 2, 0, CALLS, expected);
     // The second run is under the second lock.
-    let second = [(Call::Add(1, 1), CLOSING)];
-    assert_document(&rt, rt.alloc(), TWO_RUNS, 2, 1, &second)
+    const SECOND: &[Call] = &[Call::Add(1, 1)];
+    let closing = "Ok(Posted { place: 0, effect: Closed(Successful) })\n";
+    assert_answers(&rt, rt.alloc(), TWO_RUNS, 2, 1, SECOND, closing);
 }
 
 /// A run with a measurement, a stop, and another measurement.
@@ -231,7 +234,7 @@ const STOPPED: &str =
 
 /// What is added after a stop is late, and is shown among the posts.
 #[test]
-fn stopped(rt: HostRuntime) -> Result<(), Fail> {
+fn stopped(rt: HostRuntime) {
     const IN_ORDER: &[Receipt] = &[
         Receipt {
             run: 0,
@@ -256,14 +259,16 @@ fn stopped(rt: HostRuntime) -> Result<(), Fail> {
             place: 0,
         },
     ];
-    let calls = [
-        (Call::Add(0, 1), CLOSING),
-        (Call::Add(0, 2), "Ok(Posted { place: 1, effect: Late })"),
-        (
-            Call::Show(0, 0, IN_ORDER),
-            "Ok(Snapshot { phase: Successful, metrics: [Successful], posts: [2] })",
-        ),
-        (Call::Show(0, 0, OUT_OF_ORDER), "Err(Stale(2))"),
+    const CALLS: &[Call] = &[
+        Call::Add(0, 1),
+        Call::Add(0, 2),
+        Call::Show(0, 0, IN_ORDER),
+        Call::Show(0, 0, OUT_OF_ORDER),
     ];
-    assert_document(&rt, rt.alloc(), STOPPED, 1, 0, &calls)
+    let expected = "Ok(Posted { place: 0, effect: Closed(Successful) })
+Ok(Posted { place: 1, effect: Late })
+Ok(Snapshot { phase: Successful, metrics: [Successful], posts: [2] })
+Err(Stale(2))
+";
+    assert_answers(&rt, rt.alloc(), STOPPED, 1, 0, CALLS, expected);
 }

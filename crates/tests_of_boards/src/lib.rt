@@ -4,6 +4,7 @@
 //!
 //! - `cells`: what a board keeps under a lock: posts, and looks with receipts
 //! - `boards`: posts and looks by the seats of a board, and what closing it gives
+//! - `lines`: answers as text
 //! - `queues`: how many slots a queue has
 //! - `laws`: laws
 #![tactic(auto)]
@@ -14,5 +15,7 @@ mod boards;
 mod cells;
 #[cfg(test)]
 mod laws;
+#[cfg(test)]
+mod lines;
 #[cfg(test)]
 mod queues;

@@ -1,5 +1,5 @@
 use Rattle.std.specs.Prelude.{◌<◌}
-use Rattle.tests_of_boards.proofs.cells.assert_answers.Given as goal
+use Rattle.tests_of_boards.proofs.cells.put_answers.Given as goal
 
 abbrev pub invariant-loop-call : goal.invariant-loop-call
 invariant-loop-call g l = 0 < l.mine.parts
