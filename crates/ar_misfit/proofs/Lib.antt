@@ -2,3 +2,4 @@ pub mod Viewed
 pub mod Walked
 pub mod Faults
 pub mod Paths
+pub mod Sizes

@@ -2,8 +2,11 @@ use Rattle.std.proofs.Common.{arith, List, ℕ, Some, sym, ◌++◌, ◌∙◌, 
 use Rattle.serde_json.proofs.Views.{view-Array}
 use Rattle.serde_json.specs.View.{view}
 use Rattle.ar_value.specs.View.{shape_view}
+use denote.Param.Weighed.{most}
+use Rattle.ar_value.specs.declared.shape.Shape.{List as ListShape, Object, Optional, size-Shape}
 use Rattle.ar_misfit.specs.Misfit.{misfit_as, named}
 use Rattle.ar_misfit.specs.MisfitText.{step_text, text_from}
+use Rattle.ar_misfit.proofs.Sizes.{before_end, itself, list_deeper, lower, object_deeper, one_of_all, optional_deeper, part_below, parts_below}
 use Rattle.ar_misfit.proofs.Walked.{field_passed, field_said, item_passed, list_short, no_field_left, too_long_list}
 use Rattle.ar_misfit.proofs.walk.+text_under.Goals as goal
 
@@ -42,3 +45,30 @@ pub items_text-loop-index-preserved : goal.items_text-loop-index-preserved
 items_text-loop-index-preserved t c =
     item_passed (λ d. misfit_as (shape_view c.args.item.now) (shape_view c.args.item.now) d) c.args.items.now c.loop-index.index c.index-items-index.result c.loop-index-test.true c.index-items-index.is
     c.loop-index.invariant (sym (ap (option_map string_bytes) c.in_default.is) ∙ c.in_ok-text.ensures)
+
+pub text_under-list_text-requires : goal.text_under-list_text-requires
+text_under-list_text-requires t c = (part_below 2 c.deref.result.now c.in-List.item.value c.args.shape.now (ListShape c.in-List.item c.in-List.max) t (omega arith) c.deref.ensures c.in-List.is (list_deeper c.in-List.item c.in-List.max) c.decreases, tt)
+
+pub text_under-optional_text-requires : goal.text_under-optional_text-requires
+text_under-optional_text-requires t c = (part_below 1 c.deref-in-Optional.result.now c.in-Optional.plain.value c.args.shape.now (Optional c.in-Optional.plain) t (omega arith) c.deref-in-Optional.ensures c.in-Optional.is (optional_deeper c.in-Optional.plain) c.decreases, tt)
+
+pub optional_text-text_under-requires : goal.optional_text-text_under-requires
+optional_text-text_under-requires t c = (itself 1 (size-Shape c.args.plain.now) t (omega arith) c.decreases, tt)
+
+pub list_text-items_text-requires : goal.list_text-items_text-requires
+list_text-items_text-requires t c = (lower 1 2 (size-Shape c.args.item.now) t (omega arith) c.decreases, tt)
+
+pub items_text-text_under-requires : goal.items_text-text_under-requires
+items_text-text_under-requires t c = (itself 1 (size-Shape c.args.item.now) t (omega arith) c.decreases, tt)
+
+pub record_text-fields_text-requires : goal.record_text-fields_text-requires
+record_text-fields_text-requires t c = (lower 2 3 (most size-Shape c.args.of.now) t (omega arith) c.decreases, tt)
+
+pub text_under-record_text-requires : goal.text_under-record_text-requires
+text_under-record_text-requires t c = (parts_below 3 (most size-Shape c.deref-in-Object.result.now) c.args.shape.now (Object c.in-Object.fields) t (omega arith) c.in-Object.is (object_deeper c.in-Object.fields c.deref-in-Object.result.now c.deref-in-Object.ensures.value) c.decreases, tt)
+
+pub fields_text-nth_text-requires : goal.fields_text-nth_text-requires
+fields_text-nth_text-requires t c = (lower 1 2 (most size-Shape c.args.of.now) t (omega arith) c.decreases, before_end _ _ _ _ c.loop-index-test.true c.min-index-end.ensures)
+
+pub nth_text-text_under-requires : goal.nth_text-text_under-requires
+nth_text-text_under-requires t c = (one_of_all c.args.of.now c.args.index c.index-of-index.result t c.requires c.index-of-index.is c.decreases, tt)
