@@ -109,14 +109,6 @@ fn writes(alloc: Global, command: Command, expected: &str) -> bool
     matches!(outcome, Ok(Closing::Good)) && output.as_slice() == expected.as_bytes()
 }
 
-/// An input that comes a byte at a time has the same answer as any other.
-#[test]
-fn a_byte_a_read(rt: HostRuntime) {
-    assert!(rt; writes(rt.alloc(), Command::Plain(Format::Text), PLAIN));
-    assert!(rt; writes(rt.alloc(), Command::Check(Format::Text), CHECK));
-    assert!(rt; writes(rt.alloc(), Command::List, LIST));
-}
-
 /// Whether a command reports that its reader failed after `reads` reads, and writes nothing.
 fn reports_failing(alloc: Global, command: Command, reads: usize) -> bool
     requires { RunsAlone command }
@@ -126,29 +118,15 @@ fn reports_failing(alloc: Global, command: Command, reads: usize) -> bool
     matches!(outcome, Err(ServeError::Read)) && output.is_empty()
 }
 
-/// Asserts that a command does so wherever its reader fails: at once, inside the document, and where the end
-/// would be found.
-fn assert_failing(rt: &impl Abort, alloc: Global, command: Command)
+/// Whether a command writes just this of an input that is kept, all of which has been read then.
+fn writes_of_kept(alloc: Global, command: Command, expected: &str) -> bool
     requires { RunsAlone command }
 {
-    for reads in 0..=DOCUMENT.len() {
-        assert!(rt;
-            reports_failing(alloc, command, reads),
-            "{command:?}, {reads}"
-        );
-    }
+    let mut output = Vec::new(alloc);
+    reads_all(alloc, command, &mut output) && output.as_slice() == expected.as_bytes()
 }
 
-/// A failed read is reported, and nothing is written.
-#[test]
-fn failing_reads(rt: HostRuntime) {
-    assert_fault_is_kept(&rt);
-    assert_failing(&rt, rt.alloc(), Command::Plain(Format::Text));
-    assert_failing(&rt, rt.alloc(), Command::Check(Format::Text));
-    assert_failing(&rt, rt.alloc(), Command::List);
-}
-
-/// Whether a command succeeds on an input that is kept, all of which has been read then.
+/// Whether a command succeeds on an input that is kept, and all of it has been read.
 fn reads_all(alloc: Global, command: Command, output: &mut Vec<u8>) -> bool
     requires { RunsAlone command }
 {
@@ -161,20 +139,32 @@ fn reads_all(alloc: Global, command: Command, output: &mut Vec<u8>) -> bool
         && !reader.wants_memory()
 }
 
-/// Whether a command does so and writes just this.
-fn writes_of_kept(alloc: Global, command: Command, expected: &str) -> bool
+/// Asserts what a command writes where its input comes a byte at a time, and where it is kept; and that a
+/// failed read is reported, and nothing is written, wherever the reader fails: at once, inside the document,
+/// and where the end would be found.
+fn assert_command(rt: &impl Abort, alloc: Global, command: Command, expected: &str)
     requires { RunsAlone command }
 {
-    let mut output = Vec::new(alloc);
-    reads_all(alloc, command, &mut output) && output.as_slice() == expected.as_bytes()
+    assert!(rt; writes(alloc, command, expected));
+    assert!(rt; writes_of_kept(alloc, command, expected));
+    for reads in 0..=DOCUMENT.len() {
+        assert!(rt; reports_failing(alloc, command, reads), "{reads}");
+    }
 }
 
-/// A source that keeps what was read has read it all once a document has an answer.
 #[test]
-fn kept_input(rt: HostRuntime) {
-    assert!(rt; writes_of_kept(rt.alloc(), Command::Plain(Format::Text), PLAIN));
-    assert!(rt; writes_of_kept(rt.alloc(), Command::Check(Format::Text), CHECK));
-    assert!(rt; writes_of_kept(rt.alloc(), Command::List, LIST));
+fn plain_run(rt: HostRuntime) {
+    assert_command(&rt, rt.alloc(), Command::Plain(Format::Text), PLAIN);
+}
+
+#[test]
+fn check(rt: HostRuntime) {
+    assert_command(&rt, rt.alloc(), Command::Check(Format::Text), CHECK);
+}
+
+#[test]
+fn list(rt: HostRuntime) {
+    assert_command(&rt, rt.alloc(), Command::List, LIST);
 }
 
 /// A reader that fails once, and then is at its end.
@@ -193,8 +183,9 @@ impl Read for FailingOnce {
     }
 }
 
-/// Asserts that a device hands on the fault of its reader, and keeps it where a later read succeeds.
-fn assert_fault_is_kept(rt: &impl Abort) {
+/// A device hands on the fault of its reader, and keeps it where a later read succeeds.
+#[test]
+fn fault_is_kept(rt: HostRuntime) {
     let mut device = Device::new(FailingOnce { has_failed: false });
     let mut buf = [0u8; 4];
     assert!(rt; device.read(&mut buf).is_err());

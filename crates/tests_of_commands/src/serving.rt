@@ -6,6 +6,7 @@ use crate::gates::{FAILING, Holding, Meeting, TWO_RUNS};
 use ar_command::{Closing, Command, Device, Format, Kept, serve};
 use ar_workers::Gate;
 use std::alloc::Global;
+use std::process::Abort;
 use std::sync::Wait;
 use std::thread::Threads;
 
@@ -28,6 +29,23 @@ event 1 m Failed applied
 event 2 m Failed closed Failed
 ";
 
+/// Asserts that a document is served with workers, closing so, and what is written then.
+fn assert_served<G: Gate, R: Threads + Wait + Sync + Abort>(
+    rt: &R,
+    alloc: Global,
+    command: Command,
+    document: &str,
+    gate: &G,
+    closing: Closing,
+    report: &str,
+)
+    requires { RunsWith command 16 }
+{
+    let mut output = Vec::new(alloc);
+    assert!(rt; is_served(rt, alloc, command, document, &mut output, gate, closing));
+    assert_eq!(rt; output.as_slice(), report.as_bytes());
+}
+
 /// Whether a document is served with workers, closing so.
 fn is_served<G: Gate, R: Threads + Wait + Sync>(
     rt: &R,
@@ -49,21 +67,17 @@ fn is_served<G: Gate, R: Threads + Wait + Sync>(
 /// Two workers judge at the same time where a document is served: each waits for the other's number.
 #[test]
 fn two_workers_meet_in_a_command(rt: HostRuntime) {
-    let alloc = rt.alloc();
     let meeting = Meeting::new();
-    let mut output = Vec::new(alloc);
-    assert!(rt;
-        is_served(
-            &rt,
-            alloc,
-            Command::Run(2, Format::Text),
-            TWO_RUNS,
-            &mut output,
-            &meeting,
-            Closing::Good
-        )
+    let command = Command::Run(2, Format::Text);
+    assert_served(
+        &rt,
+        rt.alloc(),
+        command,
+        TWO_RUNS,
+        &meeting,
+        Closing::Good,
+        REPORT,
     );
-    assert_eq!(rt; output.as_slice(), REPORT.as_bytes());
     assert!(rt; meeting.is_held());
 }
 
@@ -71,20 +85,16 @@ fn two_workers_meet_in_a_command(rt: HostRuntime) {
 /// report is that of the plain run.
 #[test]
 fn in_order_in_a_command(rt: HostRuntime) {
-    let alloc = rt.alloc();
     let holding = Holding::new();
-    let mut output = Vec::new(alloc);
-    assert!(rt;
-        is_served(
-            &rt,
-            alloc,
-            Command::Ordered(3, Format::Text),
-            FAILING,
-            &mut output,
-            &holding,
-            Closing::Bad
-        )
+    let command = Command::Ordered(3, Format::Text);
+    assert_served(
+        &rt,
+        rt.alloc(),
+        command,
+        FAILING,
+        &holding,
+        Closing::Bad,
+        FAILING_IN_ORDER,
     );
-    assert_eq!(rt; output.as_slice(), FAILING_IN_ORDER.as_bytes());
     assert!(rt; holding.has_held());
 }

@@ -3,15 +3,15 @@
 ghost use Rattle.std.specs.Prelude.{◌≤◌};
 
 use crate::gates::{FAILING, Holding, Meeting, TURNS, TWO_RUNS};
-use ar_bundle::{Histories, History};
+use ar_bundle::Histories;
 use ar_document::read_bundle;
 use ar_workers::{Gate, run_all, run_ordered};
 use std::alloc::Global;
+use std::fmt::Write;
 use std::hint::spin_loop;
 use std::process::Abort;
 use std::sync::Wait;
 use std::sync::atomic::{AtomicUsize, Ordering};
-use std::test::Fail;
 use std::thread::Threads;
 
 /// A run that is measured three times, and stays open.
@@ -22,79 +22,75 @@ const THREE_ENTRIES: &str =
     "measurements":[{"run":"r0","metric":"m","value":2},{"run":"r0","metric":"m","value":3},
     {"run":"r0","metric":"m","value":4}]}"#;
 
-/// The histories of a document's run with n workers.
-fn histories<G: Gate, R: Threads + Wait + Sync>(
+/// The numbers of each run's history, if there are histories.
+fn numbers_of<E: Drop>(alloc: Global, outcome: Result<Histories, E>) -> String {
+    let mut text = String::new(alloc);
+    if let Ok(histories) = outcome {
+        put_numbers(&mut text, &histories);
+    }
+    text
+}
+
+/// Writes numbers run by run. What there is no memory for is left out, so a comparison fails.
+fn put_numbers(text: &mut String, histories: &Histories) {
+    for history in histories.runs() {
+        for entry in history.entries() {
+            let _ = write!(text, "{} ", entry.number);
+        }
+        let _ = text.push_str("/ ");
+    }
+}
+
+/// The numbers in the histories of a document's run by n workers.
+fn numbers<G: Gate, R: Threads + Wait + Sync>(
     rt: &R,
     alloc: Global,
     document: &str,
     workers: usize,
     gate: &G,
-) -> Result<Histories, Fail>
+) -> String
     requires { (1 ≤ workers) × (workers ≤ 16) }
 {
-    let bundle = read_bundle(alloc, document.as_bytes())?;
-    match run_all(rt, alloc, &bundle, workers, gate) {
-        Ok(histories) => Ok(histories),
-        Err(_) => Err(Fail::from("expected histories")),
+    match read_bundle(alloc, document.as_bytes()) {
+        Ok(bundle) => numbers_of(alloc, run_all(rt, alloc, &bundle, workers, gate)),
+        Err(_) => String::new(alloc),
     }
-}
-
-/// Whether a history has just these numbers, in this order.
-fn has_numbers(history: &History, numbers: &[u64]) -> bool {
-    let entries = history.entries();
-    entries.len() == numbers.len()
-        && entries
-            .iter()
-            .zip(numbers)
-            .all(|(entry, number)| entry.number == *number)
 }
 
 /// Two workers judge at the same time: each waits for the other's number before it judges its own.
 #[test]
-fn two_workers_meet(rt: HostRuntime) -> Result<(), Fail> {
+fn two_workers_meet(rt: HostRuntime) {
     let meeting = Meeting::new();
-    let histories = histories(&rt, rt.alloc(), TWO_RUNS, 2, &meeting)?;
-    let [first, second] = histories.runs() else {
-        return Err(Fail::from("expected two runs"));
-    };
-    assert!(rt; has_numbers(first, &[0]) && has_numbers(second, &[1]));
+    let numbers = numbers(&rt, rt.alloc(), TWO_RUNS, 2, &meeting);
+    assert_eq!(rt; numbers.as_str(), "0 / 1 / ");
     assert!(rt; meeting.is_held());
-    Ok(())
 }
 
 /// While one worker holds number 0 the other posts number 1, which the history then shows before it.
 #[test]
-fn posted_before_one_that_is_held(rt: HostRuntime) -> Result<(), Fail> {
+fn posted_before_one_that_is_held(rt: HostRuntime) {
     let holding = Holding::new();
-    let histories = histories(&rt, rt.alloc(), THREE_ENTRIES, 2, &holding)?;
+    let numbers = numbers(&rt, rt.alloc(), THREE_ENTRIES, 2, &holding);
+    let shown = numbers.as_str();
+    assert!(rt; shown == "1 0 2 / " || shown == "1 2 0 / ", "{shown}");
     assert!(rt; holding.has_held());
-    let [history] = histories.runs() else {
-        return Err(Fail::from("expected one run"));
-    };
-    assert!(rt; has_numbers(history, &[1, 0, 2]) || has_numbers(history, &[1, 2, 0]));
-    Ok(())
 }
 
-/// Whether an ordered run of `FAILING` with three workers has the numbers in their order.
-fn is_in_order<G: Gate, R: Threads + Wait + Sync>(
-    rt: &R,
-    alloc: Global,
-    gate: &G,
-) -> Result<bool, Fail> {
-    let bundle = read_bundle(alloc, FAILING.as_bytes())?;
-    let Ok(histories) = run_ordered(rt, alloc, &bundle, 3, gate) else {
-        return Ok(false);
-    };
-    Ok(matches!(histories.runs(), [history] if has_numbers(history, &[0, 1, 2])))
+/// The numbers in the history of an ordered run of `FAILING` by three workers.
+fn ordered_numbers<G: Gate, R: Threads + Wait + Sync>(rt: &R, alloc: Global, gate: &G) -> String {
+    match read_bundle(alloc, FAILING.as_bytes()) {
+        Ok(bundle) => numbers_of(alloc, run_ordered(rt, alloc, &bundle, 3, gate)),
+        Err(_) => String::new(alloc),
+    }
 }
 
 /// Where two workers have judged while a third holds number 0, an ordered run has it first all the same.
 #[test]
-fn in_order_though_one_is_held(rt: HostRuntime) -> Result<(), Fail> {
+fn in_order_though_one_is_held(rt: HostRuntime) {
     let holding = Holding::new();
-    assert!(rt; is_in_order(&rt, rt.alloc(), &holding)?);
+    let numbers = ordered_numbers(&rt, rt.alloc(), &holding);
+    assert_eq!(rt; numbers.as_str(), "0 1 2 / ");
     assert!(rt; holding.has_held());
-    Ok(())
 }
 
 /// A gate at which three workers wait for each other, each with its first number.
@@ -148,18 +144,18 @@ fn assert_crowd(rt: &impl Abort, crowd: &Crowd) {
 
 /// Three workers come that post to a board.
 #[test]
-fn each_worker_comes(rt: HostRuntime) -> Result<(), Fail> {
+fn each_worker_comes(rt: HostRuntime) {
     let crowd = Crowd::new();
-    histories(&rt, rt.alloc(), THREE_ENTRIES, 3, &crowd)?;
+    let numbers = numbers(&rt, rt.alloc(), THREE_ENTRIES, 3, &crowd);
+    assert_eq!(rt; numbers.as_str().len(), "0 1 2 / ".len());
     assert_crowd(&rt, &crowd);
-    Ok(())
 }
 
 /// Three workers come of an ordered run.
 #[test]
-fn each_ordered_worker_comes(rt: HostRuntime) -> Result<(), Fail> {
+fn each_ordered_worker_comes(rt: HostRuntime) {
     let crowd = Crowd::new();
-    assert!(rt; is_in_order(&rt, rt.alloc(), &crowd)?);
+    let numbers = ordered_numbers(&rt, rt.alloc(), &crowd);
+    assert_eq!(rt; numbers.as_str(), "0 1 2 / ");
     assert_crowd(&rt, &crowd);
-    Ok(())
 }
