@@ -19,15 +19,15 @@ abbrev pub json : ℕ
 json = 16
 
 -- a list of code has no JSON
-abbrev pub list_in : Format → Option Command
-list_in formats.Text = Some List
-list_in formats.Json = None
+abbrev pub code_list_in : Format → Option Command
+code_list_in formats.Text = Some List
+code_list_in formats.Json = None
 
 abbrev pub command_in : (number : ℕ) → Format → Option Command
 command_in number format =
     if nat_eq number 0 then Some (Eval format)
     else if nat_eq number 1 then Some (Check format)
-    else if nat_eq number 2 then list_in format
+    else if nat_eq number 2 then code_list_in format
     else if nat_eq number 3 then Some (Plain format)
     else if nat_eq number 4 then Some (Explain All format)
     else None
