@@ -61,7 +61,7 @@ pub extern "C" fn argo_judge_run(
 /// Returns whether it fits; where it doesn't, `output` stays as it is.
 #[unsafe(no_mangle)]
 pub extern "C" fn argo_judge_version(output: &mut [u8], written: &mut usize) -> bool
-    ensures { IsPutOrLeft result VERSION output.old output.new written.new }
+    ensures { IsPutOrLeft result VERSION.now output.old output.new written.new }
 {
     put(VERSION.as_bytes(), output, written)
 }
