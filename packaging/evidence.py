@@ -6,10 +6,12 @@ from typing import NamedTuple
 
 from installing import Refused
 from scripts import checksum
+from tree import LIBRARY_FILES, is_current
 
 ROOT = pathlib.Path(__file__).resolve().parent.parent
 OUT = ROOT / "crates/argo_judge/out"
 PROGRAM, OBJECT, SOURCES, GATE = (OUT / f"argo_judge{ending}" for ending in ("", ".o", ".sources", ".gate"))
+LIBRARY_SOURCES = ROOT / "crates/argo_judge_c/out/argo_judge_c.sources"
 # The line of GATE: the program's checksum, the commit that the gate ran on, and the gate's last line.
 GATE_LINE = re.compile(r"([0-9a-f]{64}) ([0-9a-f]{40}(?:-dirty)?) (\d+ passed, 0 failed)\n")
 DIFFERENCE = ("the gate's program was built by the proof, and linked as the kit does; bin/argo_judge is linked of the "
@@ -56,8 +58,17 @@ def check_files():
 
 def check_sources():
     """Refuses a program that isn't that of the sources as they are."""
-    if subprocess.run([ROOT / "bin/prove", "--unchanged", "argo_judge"]).returncode != 0:
+    if not is_current("argo_judge"):
         raise Refused("the program isn't that of the sources as they are; bin/prove argo_judge proves and builds it")
+
+
+def of_library(tree):
+    """The lines on the C library, where the release has it."""
+    if not (tree / LIBRARY_FILES[0]).is_file():
+        return {"C library": "none"}
+    sources = checksum(LIBRARY_SOURCES.read_bytes())
+    return {**{f"sha256 of {path}": checksum((tree / path).read_bytes()) for path in LIBRARY_FILES},
+            "sha256 of what bin/prove --sources argo_judge_c prints": sources}
 
 
 def proved(lines):

@@ -2,7 +2,6 @@
 
 A tree has the same form as a folder into which it is installed, with the list of its files.
 """
-import importlib.util
 import os
 import pathlib
 import shutil
@@ -10,8 +9,9 @@ import subprocess
 import sys
 
 import completions
+import library
 from helps import helps_of
-from installing import LIBRARY, LIST, Refused
+from installing import LIBRARY, LIST
 from manual import manual
 
 ROOT = pathlib.Path(__file__).resolve().parent.parent
@@ -51,15 +51,17 @@ def copied_files(program):
     return {"bin/argo_judge": program, **found}
 
 
-def add_library(tree):
-    """Adds LIBRARY_FILES, where they can be made; otherwise a line says why not."""
-    if importlib.util.find_spec("library") is None:
-        return
-    import library
-    try:
-        library.made(tree)
-    except Refused as fault:
-        print(f"without the C library: {fault}", file=sys.stderr)
+def is_current(crate):
+    """Whether what is built of a crate is of the sources as they are."""
+    return subprocess.run([ROOT / "bin/prove", "--unchanged", crate]).returncode == 0
+
+
+def add_library(tree, stamp):
+    """Adds LIBRARY_FILES, where they are built of the sources as they are; otherwise a line says that they aren't."""
+    if library.BUILT.is_file() and is_current("argo_judge_c"):
+        library.made(tree, stamp)
+    else:
+        print("without the C library, which bin/prove argo_judge_c builds of the sources as they are", file=sys.stderr)
 
 
 def files_of(folder):
@@ -68,8 +70,8 @@ def files_of(folder):
     return sorted(path.relative_to(folder).as_posix() for path in found)
 
 
-def make(tree, program):
-    """Makes the tree with that program in an empty folder."""
+def make(tree, program, stamp=None):
+    """Makes the tree with that program in an empty folder; the C library gets the stamp that the program has."""
     for path, source in copied_files(program).items():
         (tree / path).parent.mkdir(parents=True, exist_ok=True)
         shutil.copyfile(source, tree / path)
@@ -78,5 +80,5 @@ def make(tree, program):
         (tree / path).parent.mkdir(parents=True, exist_ok=True)
         (tree / path).write_text(text, encoding="utf-8")
     (tree / PLUGIN).symlink_to(os.path.join("..", LIBRARY, "recipes", PLUGIN.name))
-    add_library(tree)
+    add_library(tree, stamp)
     (tree / LIST).write_text("".join(f"{path}\n" for path in [*files_of(tree), LIST]), encoding="utf-8")

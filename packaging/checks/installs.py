@@ -64,7 +64,7 @@ def of_removal(what, install, prefix):
 
 def of_install(folder):
     what, prefix, install = "by bin/install", folder / "prefix", [ROOT / "bin/install"]
-    if not is_current():
+    if not is_current("argo_judge"):
         yield "a program of other sources is refused", ended([*install, prefix]).returncode == 2
         note("the program isn't of the sources as they are, so it isn't installed")
         return

@@ -5,12 +5,14 @@ import re
 import shutil
 from itertools import chain
 
+import library
 from checks.archives import archive_in, copy_of_checkout, unpacked, values_of
 from checks.images import of_images
 from checks.installs import LINT, LINTED, of_prefix, of_program, of_removal
 from checks.refusals import of_last_line, of_refusals, of_stamps
 from checks.starts import ROOT, ended, hidden, in_folder, is_current, note, put_shell, side_by_side
 from evidence import OBJECT
+from tree import LIBRARY_FILES
 
 # ---- what is in a release
 
@@ -26,6 +28,17 @@ def of_proved(tree):
     yield "--version has the commit and the kit", commit[:12] in said and values["kit"].split()[0] in said
     texts = [path.read_bytes() for path in tree.rglob("*") if path.is_file()]
     yield "no file names this folder", not any(os.fsencode(ROOT) + b"/" in text for text in texts)
+
+
+def of_library(tree):
+    """The C library, where it is built, has the stamp of the program."""
+    if not library.BUILT.is_file() or not is_current("argo_judge_c"):
+        note("the C library isn't built of the sources as they are, so it is tried in no release")
+        return
+    stamp = ended([tree / "bin/argo_judge", "--version"]).stdout.partition(" (")[2].strip()
+    yield "the C library is in a release", all((tree / path).is_file() for path in LIBRARY_FILES)
+    for path in LIBRARY_FILES[1:]:
+        yield f"{path} has the commit and the kit", (tree / path).read_bytes().count(stamp.encode()) == 1
 
 
 def of_page(tree):
@@ -52,6 +65,7 @@ def of_small_roots(tree, folder):
 
 def of_tree(tree, folder):
     yield from of_proved(tree)
+    yield from of_library(tree)
     yield from of_page(tree)
     yield from of_program("unpacked", hidden([tree / "bin/argo_judge"]))
     yield "unpacked, a recipe", LINTED in ended(hidden([tree / LINT, folder / "template.json"])).stdout
@@ -78,7 +92,7 @@ def can_release():
         note("the proof left no object file, so no release is tried; bin/prove --object argo_judge makes it")
     elif shutil.which("cc") is None:
         note("cc isn't installed, so no release is tried")
-    elif not is_current():
+    elif not is_current("argo_judge"):
         note("the program isn't of the sources as they are, so no release is tried")
     else:
         return True

@@ -6,6 +6,8 @@ import shutil
 import subprocess
 from concurrent.futures import ThreadPoolExecutor
 
+import tree
+
 ROOT = pathlib.Path(__file__).resolve().parent.parent.parent
 BUILT = ROOT / "crates/argo_judge/out/argo_judge"
 # A start in a name space of its own, in which folders can be hidden; and one for which a folder is the whole system.
@@ -40,9 +42,9 @@ def is_there(program):
 
 
 @functools.lru_cache(maxsize=None)
-def is_current():
-    """Whether the program is that of the sources as they are."""
-    return ended([ROOT / "bin/prove", "--unchanged", "argo_judge"]).returncode == 0
+def is_current(crate):
+    """Whether what is built of a crate is of the sources as they are."""
+    return tree.is_current(crate)
 
 
 @functools.lru_cache(maxsize=None)
