@@ -3,6 +3,7 @@
 The kit's archive needs a few lines of C of the kit's own: both are joined into one archive, and of it a shared object
 is linked that exports the two calls alone.
 """
+import ctypes
 import pathlib
 import shutil
 import subprocess
@@ -21,13 +22,14 @@ LINK = ("-shared", "-s", "-Wl,--build-id=none", "-Wl,--gc-sections", "-Wl,-z,rel
 
 
 def run(words, **more):
-    ended = subprocess.run([str(word) for word in words], stdout=subprocess.PIPE, stderr=subprocess.STDOUT, text=True, **more)
+    words = [str(word) for word in words]
+    ended = subprocess.run(words, stdout=subprocess.PIPE, stderr=subprocess.STDOUT, text=True, **more)
     if ended.returncode != 0:
         raise Refused(f"{words[0]} ended with status {ended.returncode}: {ended.stdout.strip()}")
 
 
 def join(archives, to):
-    """Puts the members of some archives into one, without times and owners, so that the same members give the same bytes."""
+    """Puts the members of some archives into one, without times and owners: the same members give the same bytes."""
     with tempfile.TemporaryDirectory() as scratch:
         members = []
         for number, archive in enumerate(archives):
@@ -47,11 +49,26 @@ def link(archive, to):
         run(["cc", *LINK, f"-Wl,--version-script={exported}", f"-Wl,-soname,{to.name}", *wanted, archive, "-o", to])
 
 
+def version_of(shared, room):
+    """The version that a shared object gives, with that much room; None where it is too little."""
+    call = ctypes.CDLL(str(shared.resolve())).argo_judge_version
+    call.argtypes = [ctypes.c_char_p, ctypes.c_size_t, ctypes.POINTER(ctypes.c_size_t)]
+    call.restype = ctypes.c_bool
+    buffer, written = ctypes.create_string_buffer(room), ctypes.c_size_t()
+    return buffer.raw[:written.value].decode("ascii") if call(buffer, room, written) else None
+
+
+def check_stamp(shared, stamp):
+    """Refuses a library whose version isn't the stamped one, whatever the room for it."""
+    for more in (0, 1, 200):
+        found = version_of(shared, len(version_of(shared, 200)) + more)
+        if found is None or not found.endswith(f" {stamp}"):
+            raise Refused(f"{shared.name} has the version {found}; expected it to end in {stamp}")
+
+
 def made(folder, stamp=None, built=BUILT):
-    """Makes the library in `folder/include` and `folder/lib`, of an archive as the kit builds it, and returns its paths.
-    With a stamp that is what the version says of where it comes from."""
-    if not built.is_file():
-        raise Refused(f"{built.name} isn't there; expected it as bin/prove argo_judge_c builds it")
+    """Makes the library in `folder/include` and `folder/lib`, of an archive as the kit builds it, and returns its
+    paths. With a stamp that is what the version says of where it comes from."""
     include, lib = folder / "include", folder / "lib"
     include.mkdir(parents=True, exist_ok=True)
     lib.mkdir(parents=True, exist_ok=True)
@@ -62,4 +79,6 @@ def made(folder, stamp=None, built=BUILT):
     if stamp is not None:
         archive.write_bytes(stamped(archive.read_bytes(), stamp))
     link(archive, shared)
+    if stamp is not None:
+        check_stamp(shared, stamp)
     return [header, archive, shared]

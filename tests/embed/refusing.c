@@ -1,7 +1,7 @@
 /*
  * Carries a command out on the document on standard input again and again, each time with one more allocation before
  * the first that is refused, until none is. Each call under refusals has to return ARGO_JUDGE_OUT_OF_MEMORY and to
- * leave the buffer as it was, or to return what the call with ample memory returned; and each gives all its memory back.
+ * leave the buffer as it was, or to return what the call with ample memory returned. Each gives all its memory back.
  */
 #include <argo_judge.h>
 #include <stdio.h>
