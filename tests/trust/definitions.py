@@ -154,7 +154,7 @@ class Source:
 
     def contract(self, function):
         """The head and the clauses of a public function."""
-        found = re.search(rf"^pub fn {function}\b.*?^\{{", self.text, re.M | re.S)
+        found = re.search(rf'^pub (?:extern "C" )?fn {function}\b.*?^\{{', self.text, re.M | re.S)
         return re.sub(r"//.*", "", found[0]) if found else None
 
 
