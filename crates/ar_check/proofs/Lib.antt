@@ -19,4 +19,3 @@ pub mod KindTable
 pub mod Conditions
 pub mod Turns
 pub mod Offsets
-pub mod Sizes
