@@ -10,7 +10,9 @@ from checks.archives import archive_in, copy_of_checkout, unpacked, values_of
 from checks.images import of_images
 from checks.installs import LINT, LINTED, of_prefix, of_program, of_removal
 from checks.refusals import of_last_line, of_refusals, of_stamps
-from checks.starts import ROOT, ended, hidden, in_folder, is_current, note, put_shell, side_by_side
+from checks.starts import (
+    ROOT, ended, hidden, in_folder, in_folder_with_python, is_current, note, put_shell, side_by_side,
+)
 from evidence import OBJECT
 from tree import LIBRARY_FILES
 
@@ -63,6 +65,17 @@ def of_small_roots(tree, folder):
             yield from of_program(f"in an empty system, {root.name}", words)
 
 
+def of_python(prefix, folder):
+    """What is installed, moved to a system that has Python, and neither the checkout nor the kit."""
+    root = folder / "with python"
+    shutil.copytree(prefix, root / "installed", symlinks=True)
+    put_shell(root)
+    shutil.copy(folder / "template.json", root)
+    words = in_folder_with_python(root, [f"/installed/{LINT}", "/template.json"])
+    if words is not None:
+        yield "in a system with a shell and Python, a recipe", LINTED in ended(words).stdout
+
+
 def of_tree(tree, folder):
     yield from of_proved(tree)
     yield from of_library(tree)
@@ -76,6 +89,7 @@ def of_tree(tree, folder):
         start = ended(hidden(install), env={**os.environ, "HOME": str(home)})
         yield f"from a release, {turn}", start.returncode == 0
     yield from of_prefix("from a release", prefix, folder)
+    yield from of_python(prefix, folder)
     yield "a release isn't installed over itself", ended([*install, tree]).returncode == 2
     yield from of_removal("from a release", install, prefix)
     (tree / LINT).unlink()

@@ -4,6 +4,7 @@ import pathlib
 import re
 import shutil
 import subprocess
+import sys
 from concurrent.futures import ThreadPoolExecutor
 
 import tree
@@ -84,6 +85,23 @@ def put_shell(root):
     for path in libraries_of(shell):
         (root / path.lstrip("/")).parent.mkdir(parents=True, exist_ok=True)
         shutil.copy(path, root / path.lstrip("/"))
+
+
+def folders_of_python():
+    """The folders that this Python is in, with the system's libraries."""
+    found = {"/lib", "/lib64", "/usr/lib", sys.base_prefix if sys.base_prefix != "/usr" else "/usr/bin"}
+    return sorted(folder for folder in found if pathlib.Path(folder).is_dir())
+
+
+def in_folder_with_python(root, words):
+    """The words by which this Python starts a script in a folder that has nothing else of the system than a shell,
+    Python and libraries; None, after a line, where that isn't allowed."""
+    if in_folder(root, words) is None:
+        return None
+    script = ('root=$1; shift; while [ "$1" != -- ]; do mkdir -p "$root$1" && mount --bind "$1" "$root$1" || exit; '
+              'shift; done; shift; exec chroot "$root" "$@"')
+    python = pathlib.Path(sys.base_prefix) / "bin" / f"python3.{sys.version_info.minor}"
+    return [*ALLOWED, "bash", "-c", script, "bash", root, *folders_of_python(), "--", python, *words]
 
 
 def in_folder(root, words):
