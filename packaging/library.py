@@ -49,13 +49,22 @@ def link(archive, to):
         run(["cc", *LINK, f"-Wl,--version-script={exported}", f"-Wl,-soname,{to.name}", *wanted, archive, "-o", to])
 
 
+def loaded(shared):
+    """The calls of a shared object, with the types that argo_judge.h gives them."""
+    own = ctypes.CDLL(str(shared.resolve()))
+    output = [ctypes.c_char_p, ctypes.c_size_t, ctypes.POINTER(ctypes.c_size_t)]
+    own.argo_judge_run.argtypes = [ctypes.c_uint32, ctypes.c_char_p, ctypes.c_size_t, *output]
+    own.argo_judge_run.restype = ctypes.c_uint8
+    own.argo_judge_version.argtypes = output
+    own.argo_judge_version.restype = ctypes.c_bool
+    return own
+
+
 def version_of(shared, room):
     """The version that a shared object gives, with that much room; None where it is too little."""
-    call = ctypes.CDLL(str(shared.resolve())).argo_judge_version
-    call.argtypes = [ctypes.c_char_p, ctypes.c_size_t, ctypes.POINTER(ctypes.c_size_t)]
-    call.restype = ctypes.c_bool
     buffer, written = ctypes.create_string_buffer(room), ctypes.c_size_t()
-    return buffer.raw[:written.value].decode("ascii") if call(buffer, room, written) else None
+    fits = loaded(shared).argo_judge_version(buffer, room, written)
+    return buffer.raw[:written.value].decode("ascii") if fits else None
 
 
 def check_stamp(shared, stamp):
