@@ -11,9 +11,7 @@ from program import ROOT
 EXAMPLE = ROOT / 'examples/bundles/success-rate'
 EXPLAINED = [ROOT / 'examples/explain' / name for name in ('dry-and-bound', 'fault-in-a-filter', 'misfit')]
 WITH_WORKERS = ('run --workers 2', 'run --ordered --workers 2')
-# A report is made of lists whose first growth is asked for again where it was refused. Nothing else is.
-MAY_CARRY_ON = WITH_WORKERS + ('run --plain',)
-REPORTS = MAY_CARRY_ON + ('explain',)
+OF_RUNS = WITH_WORKERS + ('run --plain',)
 MOST_GROWTHS = 5_000
 # A document of a template takes at least this many growths, and a command line this many.
 OF_TEMPLATE, OF_WORDS = 100, 20
@@ -41,7 +39,7 @@ def jobs(program):
 
 def cases_of_bundles():
     return [Case(f'{words}, {name}', words, document.text, document.answer(words), OF_TEMPLATE)
-            for name, document in BUNDLES.items() for words in MAY_CARRY_ON + ('check', 'list')]
+            for name, document in BUNDLES.items() for words in OF_RUNS + ('check', 'list')]
 
 
 def cases_of_eval():
@@ -79,13 +77,12 @@ def other_cases(program):
 
 
 def has_ended_as_it_may(ended, words, answer):
-    """Whether a run to which something was refused reported that, or answered where it may carry on."""
+    """Whether a run to which something was refused reported that, having written nothing; `check` may leave out its
+    warnings alone."""
     words = words.removesuffix(' --output json')
     if is_out_of_memory(ended) or (words in WITH_WORKERS and is_without_thread(ended)):
         return True
-    if words == 'check' and is_without_warnings(ended, answer):
-        return True
-    return words in REPORTS and is_answer(ended, answer, words)
+    return words == 'check' and is_without_warnings(ended, answer)
 
 
 def refuse_growths(program, case, counts):
@@ -105,8 +102,7 @@ def refuse_growths(program, case, counts):
 def refuse_workers(program, words, counts):
     """Refuses each growth that a worker asks for, where a condition takes memory.
 
-    What is asked for to judge is not asked for again, so at least as many runs are out of memory as there are
-    measurements.
+    Each measurement takes memory, so at least as many runs are out of memory as there are measurements.
     """
     document, answer = repeated(RUNS, MEASUREMENTS)
     name, lasting = f'{words}, growths of workers', 0

@@ -22,6 +22,17 @@ pub(crate) struct Progress {
     pub(crate) phase: Phase,
 }
 
+/// The metrics of a run without events. All places are reserved first.
+fn opening_metrics(alloc: Global, limits: &[Limits]) -> Result<Vec<Metric>, AllocError>
+    ensures { IfOk result (λ metrics. metrics.items ≡ map opening limits.now) }
+{
+    let mut metrics = Vec::with_capacity(alloc, limits.len())?;
+    for own in limits {
+        metrics.push(Metric::new(*own))?;
+    }
+    Ok(metrics)
+}
+
 impl Progress {
     /// A run without events.
     pub(crate) fn new(alloc: Global, limits: &[Limits]) -> Result<Self, AllocError>
@@ -30,7 +41,7 @@ impl Progress {
         ensures phase { IfOk result (λ run. run.phase ≡ Phase.Pending) }
     {
         Ok(Progress {
-            metrics: limits.iter().map(|l| Metric::new(*l)).collect(alloc)?,
+            metrics: opening_metrics(alloc, limits)?,
             incomplete: limits.len(),
             phase: Phase::Pending,
         })
