@@ -9,7 +9,7 @@ use Rattle.ar_queue.proofs.Steps.{times_both}
 
 -- ---- all passes are joined
 
-pub is_done : (view : View) (workers : ℕ) → 1 ≤ workers → IsFeeder view 0 workers → IsDone view
+pub is_done : (view : View) (workers : ℕ) → 1 ≤ workers → IsFeeder view workers 0 workers → IsDone view
 is_done view workers some is =
     let joined = is.has_joined in
     record { feeds = is.feeds; live = is.live; out = is.has_out; ended = omega arith }
@@ -41,11 +41,11 @@ next_split before after out is split = split ∙ ap split_off is
 pub still_feeding : (view : View) (put marks out : ℕ) → view ≡ feeding put marks out → view ≡ feeding put marks view.out
 still_feeding view put marks out is = is ∙ ap (feeding put marks) (sym (ap (λ (view : View). view.out) is))
 
-pub is_feeder : (view : View) (put marks out : ℕ) → view ≡ feeding put marks out → IsFeeder view out 0 × (view.taken ≡ [])
-is_feeder view put marks out is = subst (λ (view : View). IsFeeder view out 0 × (view.taken ≡ [])) (sym is) (record { feeds = refl; live = refl; has_out = refl; has_joined = refl }, refl)
+pub is_feeder : (view : View) (put marks out : ℕ) → view ≡ feeding put marks out → IsFeeder view marks out 0 × (view.taken ≡ [])
+is_feeder view put marks out is = subst (λ (view : View). IsFeeder view marks out 0 × (view.taken ≡ [])) (sym is) (record { feeds = refl; live = refl; has_marks = refl; has_out = refl; has_joined = refl }, refl)
 
-pub feeder_join : (before other after : View) (out joined_before : ℕ) → IsFeeder before (suc out) joined_before → other ≡ at_end other.taken → after ≡ after_join before other → IsFeeder after out (suc joined_before)
-feeder_join before other after out joined_before is ended join =
+pub feeder_join : (before other after : View) (marks out joined_before : ℕ) → IsFeeder before marks (suc out) joined_before → other ≡ at_end other.taken → after ≡ after_join before other → IsFeeder after marks out (suc joined_before)
+feeder_join before other after marks out joined_before is ended join =
     let out_now = ap (λ (view : View). view.out) join in
     let out_was = is.has_out in
     let ended_now = ap (λ (view : View). view.ended) join in
@@ -54,6 +54,7 @@ feeder_join before other after out joined_before is ended join =
     record {
       feeds = ap (λ (view : View). view.feeds) join ∙ is.feeds;
       live = ap (λ (view : View). view.live) join ∙ is.live;
+      has_marks = ap (λ (view : View). view.marks) join ∙ is.has_marks;
       has_out = omega arith;
       has_joined = omega arith;
     }

@@ -6,7 +6,7 @@ use lib.ListN.{get_elem?}
 use Rattle.crossbeam_queue.specs.Fifo.{Forks, Learns, Merges, Pops, Pushes}
 use Rattle.ar_bundle.specs.Lawful.{Rise, times_in}
 use Rattle.ar_queue.specs.Numbers.{once_below}
-use Rattle.ar_queue.specs.Rule.{CanPut, CanTake, HasTakenAll, IsDone, IsQueue, IsTaken, after_put, after_take, fed_by_others, feeder, after_join, numbers_of_items, spent, split_off, times_in_spent, times_of, times_queued, total, worker}
+use Rattle.ar_queue.specs.Rule.{CanPut, CanTake, HasTakenAll, IsDone, IsQueue, IsOfBundle, after_put, after_take, fed_by_others, feeder, after_join, numbers_of_items, spent, split_off, times_in_spent, times_of, times_queued, total, worker}
 use Rattle.ar_queue.specs.declared.queue.Item.{Item}
 use Rattle.ar_queue.specs.declared.queue.Item.TheVariants.{Number, End}
 use Rattle.ar_queue.specs.declared.queue.View.{View}
@@ -142,7 +142,7 @@ puts events n at v End can = put_mark events n at v can.0 can.1
 -- ---- an item is taken
 
 take_number : (events at number : ℕ) (v : View) → CanTake v → (items : List Item) (views : List View) → IsQueue events (Number number ∷ items) views → get_elem? views at ≡ some v
-    → (w : View) × IsQueue events items (set views at w) × ((w ≡ after_take v (Number number)) × IsTaken events (Number number))
+    → (w : View) × IsQueue events items (set views at w) × ((w ≡ after_take v (Number number)) × IsOfBundle events (Number number))
 take_number events at number v can items views is there =
     let w : View = after_take v (Number number) in
     let feeds = can.feeds in
@@ -189,7 +189,7 @@ take_number events at number v can items views is there =
     )
 
 take_mark : (events at : ℕ) (v : View) → CanTake v → (items : List Item) (views : List View) → IsQueue events (End ∷ items) views → get_elem? views at ≡ some v
-    → (w : View) × IsQueue events items (set views at w) × ((w ≡ after_take v End) × IsTaken events End)
+    → (w : View) × IsQueue events items (set views at w) × ((w ≡ after_take v End) × IsOfBundle events End)
 take_mark events at v can items views is there =
     let w : View = after_take v End in
     let feeds = can.feeds in
@@ -232,7 +232,7 @@ take_mark events at v can items views is there =
       (refl, tt),
     )
 
-pub takes : (events at : ℕ) (v : View) → CanTake v → Pops (IsQueue events) at v (λ item w. (w ≡ after_take v item) × IsTaken events item)
+pub takes : (events at : ℕ) (v : View) → CanTake v → Pops (IsQueue events) at v (λ item w. (w ≡ after_take v item) × IsOfBundle events item)
 takes events at v can (Number number) items views is there = take_number events at number v can items views is there
 takes events at v can End items views is there = take_mark events at v can items views is there
 

@@ -95,9 +95,9 @@ abbrev pub after_take : View → Item → View
 after_take view (Number number) = record view { taken = view.taken ++ number ∷ [] }
 after_take view End = record view { ended = 1 }
 
-abbrev pub IsTaken : (events : ℕ) → Item → Type 0
-IsTaken events (Number number) = number < events
-IsTaken events End = Unit {0}
+abbrev pub IsOfBundle : (events : ℕ) → Item → Type 0
+IsOfBundle events (Number number) = number < events
+IsOfBundle events End = Unit {0}
 
 -- the feeder splits off a pass for a worker
 abbrev pub split_off : View → View

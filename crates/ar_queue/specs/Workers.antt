@@ -33,17 +33,18 @@ all_named numbers (desk ∷ desks) = numbers desk ++ all_named numbers desks
 abbrev pub feeding : (put marks out : ℕ) → View
 feeding put marks out = record { feeds = 1; live = 1; put = put; marks = marks; out = out; ended = 0; taken = [] }
 
--- the feeder's pass, with `out` passes out and `joined` joined
-pub record IsFeeder (view : View) (out joined : ℕ) : Type 0 where
+-- the feeder's pass, which has put `marks` end marks, with `out` passes out and `joined` joined
+pub record IsFeeder (view : View) (marks out joined : ℕ) : Type 0 where
   pub feeds : view.feeds ≡ 1
   pub live : view.live ≡ 1
+  pub has_marks : view.marks ≡ marks
   pub has_out : view.out ≡ out
   pub has_joined : view.ended ≡ joined
 
--- what workers brought back: the feeder's pass, with no pass out and one joined for each worker, and a desk from each
--- of them, at which just the numbers that the pass took are named
+-- what workers brought back: the feeder's pass, with an end mark put and a pass joined for each worker, and none out,
+-- and a desk from each of them, at which just the numbers that the pass took are named
 pub record AreGathered {Desk : Type 0} (numbers : Desk → List ℕ) (workers : ℕ) (gathered : Gathered Desk) : Type 0 where
-  pub joined : IsFeeder (view gathered.pass) 0 workers
+  pub joined : IsFeeder (view gathered.pass) workers 0 workers
   pub named : AreNamed (view gathered.pass).taken (all_named numbers gathered.desks.items)
   pub desks : length gathered.desks.items ≡ workers
 

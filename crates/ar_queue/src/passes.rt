@@ -2,7 +2,7 @@
 
 ghost use Rattle.std.specs.Prelude.{◌≡◌, ◌<◌, IfOk, length};
 ghost use Rattle.crossbeam_queue.specs.Passes.{IsPassOf, ruled_capacity, view};
-ghost use Rattle.ar_queue.specs.Rule.{CanPut, CanTake, HasTakenAll, IsDone, IsTaken, after_put, after_take, feeder, after_join, split_off, worker};
+ghost use Rattle.ar_queue.specs.Rule.{CanPut, CanTake, HasTakenAll, IsDone, IsOfBundle, after_put, after_take, feeder, after_join, split_off, worker};
 
 use crate::queue::{Item, Joins, Puts, Queue, SplitsOff, TakenAll, Takes, View};
 use crate::waiting::Waiting;
@@ -56,7 +56,7 @@ pub fn take<M: BundleName, R: Wait>(rt: &R, queue: &Queue<M>, pass: &mut Pass<It
     requires can { CanTake (view pass.old) }
     ensures pass { IsPassOf queue.now pass.new }
     ensures taken { view pass.new ≡ after_take (view pass.old) result }
-    ensures inside { IsTaken (length M.bundle.entries) result }
+    ensures inside { IsOfBundle (length M.bundle.entries) result }
 {
     for _ in rt.forever() {
         match queue.try_pop_as::<Takes<M>>(pass) {

@@ -65,9 +65,9 @@ pub struct Takes<M: BundleName> {
 
 impl<M: BundleName> Outcome<Item, View> for Takes<M> {
     ghost use Rattle.std.specs.Prelude.{length};
-    ghost use Rattle.ar_queue.specs.Rule.{IsTaken, after_take};
+    ghost use Rattle.ar_queue.specs.Rule.{IsOfBundle, after_take};
 
-    ghost then = { λ view item after. (after ≡ after_take view item) × IsTaken (length M.bundle.entries) item };
+    ghost then = { λ view item after. (after ≡ after_take view item) × IsOfBundle (length M.bundle.entries) item };
 }
 
 /// A step that splits a worker's pass off the feeder's.

@@ -1,6 +1,6 @@
 //! Workers side by side.
 
-ghost use Rattle.std.specs.Prelude.{◌≡◌, ◌≤◌, [], IfOk, OnOk, length};
+ghost use Rattle.std.specs.Prelude.{◌≡◌, ◌≤◌, [], IfErr, IfOk, OnOk, length};
 ghost use Rattle.std.specs.List.{AllByRecursion};
 ghost use Rattle.std.specs.Vec.{vec_capacity};
 ghost use Rattle.crossbeam_queue.specs.Passes.{IsPassOf, view};
@@ -76,6 +76,7 @@ where
     ensures fed { view pass.new ≡ feeding 0 0 (view pass.new).out }
     ensures out { OnOk result ((view pass.new).out ≡ length desks.items) }
     ensures handles { OnOk result (length handles.new.items ≡ length desks.items) }
+    ensures early { IfErr result (λ cause. cause ≡ Unfinished.NoThread) }
 {
     for desk in desks {
         let own = split(queue, pass);
@@ -102,9 +103,10 @@ fn join_all<M: BundleName, D: Desk<M>, T: QueueName, R: Threads>(
 ) -> Result<Gathered<D>, Unfinished>
     requires queue { queue.now.table.shared.table_id ≡ T.table }
     requires pass { IsPassOf queue.now pass }
-    requires out { IsFeeder (view pass) (length handles.items) 0 × ((view pass).taken ≡ []) }
+    requires out { IsFeeder (view pass) (length handles.items) (length handles.items) 0 × ((view pass).taken ≡ []) }
     ensures pass { IfOk result (λ all. IsPassOf queue.now all.pass) }
     ensures gathered { IfOk result (AreGathered D.numbers (length handles.items)) }
+    ensures early { IfErr result (λ cause. cause ≡ Unfinished.OutOfMemory) }
 {
     let mut desks = Vec::with_capacity(alloc, handles.len())?;
     for handle in handles {

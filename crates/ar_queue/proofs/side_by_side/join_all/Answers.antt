@@ -17,7 +17,8 @@ loop-handle-preserved g c =
     let pushed = ap length c.push_reserved.ensures.items in
     let desks = length_push at.desks.items c.in-All.done.desk in
     let before = at.invariant.2 in
-    let feeder : IsFeeder (view at.pass) (suc (length (into_iter_items c.next.new.self))) (length at.yielded) = subst (λ (out : ℕ). IsFeeder (view at.pass) out (length at.yielded)) short at.invariant.5 in
+    let marks = length (into_iter_items at.initial.handle-iterator) in
+    let feeder : IsFeeder (view at.pass) marks (suc (length (into_iter_items c.next.new.self))) (length at.yielded) = subst (λ (out : ℕ). IsFeeder (view at.pass) marks out (length at.yielded)) short at.invariant.5 in
     let count : suc (length at.yielded) ≡ length (at.yielded ++ c.in-Some.handle ∷ []) = omega arith in
     let named = named_join g.D.Desk.numbers (view at.pass) (view c.in-All.done.ended.pass) (view c.join-in-All.new.pass) at.desks.items c.in-All.done.desk at.invariant.6 c.in-All.done.named c.join-in-All.ensures.joined in (
       append_assoc at.yielded (c.in-Some.handle ∷ []) _ ∙ rw (← steps) at.invariant.0,
@@ -25,7 +26,7 @@ loop-handle-preserved g c =
       omega arith,
       (let capacity = c.push_reserved.ensures.capacity in let room = at.invariant.3 in omega arith),
       c.join-in-All.ensures.pass,
-      subst (λ (joined : ℕ). IsFeeder (view c.join-in-All.new.pass) (length (into_iter_items c.next.new.self)) joined) count
-          (feeder_join (view at.pass) (view c.in-All.done.ended.pass) (view c.join-in-All.new.pass) (length (into_iter_items c.next.new.self)) (length at.yielded) feeder c.in-All.done.ended.met c.join-in-All.ensures.joined),
+      subst (λ (joined : ℕ). IsFeeder (view c.join-in-All.new.pass) marks (length (into_iter_items c.next.new.self)) joined) count
+          (feeder_join (view at.pass) (view c.in-All.done.ended.pass) (view c.join-in-All.new.pass) marks (length (into_iter_items c.next.new.self)) (length at.yielded) feeder c.in-All.done.ended.met c.join-in-All.ensures.joined),
       subst (λ desks. AreNamed (view c.join-in-All.new.pass).taken (all_named g.D.Desk.numbers desks)) (sym c.push_reserved.ensures.items) named,
     )

@@ -13,5 +13,5 @@ invariant-loop-handle g l =
     × (length l.desks.items ≡ length l.yielded)
     × (length (into_iter_items l.initial.handle-iterator) ≤ vec_capacity l.desks)
     × IsPassOf l.queue l.pass
-    × IsFeeder (view l.pass) (length (into_iter_items l.handle-iterator)) (length l.yielded)
+    × IsFeeder (view l.pass) (length (into_iter_items l.initial.handle-iterator)) (length (into_iter_items l.handle-iterator)) (length l.yielded)
     × AreNamed (view l.pass).taken (all_named g.D.Desk.numbers l.desks.items)
