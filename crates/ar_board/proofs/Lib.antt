@@ -26,3 +26,4 @@ pub mod Marks
 pub mod Stored
 pub mod Given
 pub mod Closed
+pub mod Unposted

@@ -1,10 +1,11 @@
 -- A board, to which several workers post, and their seats: which worker each is for, and the receipts of its posts.
+use Rattle.ar_bundle.specs.declared.finding.Finding.{Finding}
 use Rattle.std.specs.Prelude.{◌≡◌, ◌<◌, ◌++◌, ℕ, List, [], ◌∷◌, length, map, Some, slice_get}
 use Rattle.ar_bundle.specs.Bundle.{Bundle, run_at}
 use Rattle.ar_bundle.specs.Lawful.{AreLawful}
 use Rattle.ar_bundle.specs.declared.history.Entry.{Entry}
 use Rattle.ar_board.specs.Locks.{lock_of}
-use Rattle.ar_board.specs.Cell.{Cell, IsCell, IsFresh, IsSnapshot, authors_at, posts_of}
+use Rattle.ar_board.specs.Cell.{Cell, IsCell, IsFresh, IsPosted, IsSnapshot, IsUnder, authors_at, posts_of}
 use Rattle.ar_board.specs.Receipts.{Hold}
 use Rattle.ar_board.specs.declared.cell.posted.Posted.{Posted}
 use Rattle.ar_board.specs.declared.cell.receipt.Receipt.{Receipt}
@@ -35,6 +36,16 @@ pub record IsReceived (bundle : Bundle) (number : ℕ) (before after : Seat) (an
   pub own : run_at bundle number ≡ Some run
   pub receipts : after.receipts ≡ before.receipts ++ record { run = run; number = number; place = answer.place } ∷ []
   pub worker : after.worker ≡ before.worker
+
+-- what a post answered under a lock: what one entry more says of its place and its effect, at the end of its run's
+-- history in a cell as the lock may keep it, posted by the worker
+pub record IsAnswered (bundle : Bundle) (workers worker number : ℕ) (finding : Finding) (answer : Posted) : Type 0 where
+  pub before : Cell
+  pub after : Cell
+  pub posted : IsPosted bundle worker number finding before after answer
+  pub lock : ℕ
+  pub under : IsUnder bundle lock number
+  pub is : IsCell bundle workers lock after
 
 -- ---- a look
 

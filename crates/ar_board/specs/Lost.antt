@@ -1,7 +1,8 @@
 -- What a board counts as it is closed, and when a number is lost: it is in no history, or a receipt for it isn't
 -- met.
+use Rattle.ar_board.specs.Seats.{receipts_under}
 use Rattle.std.specs.Prelude.{◌≡◌, ◌<◌, ◌+◌, ◌==◌, ◌⊎◌, ℕ, suc, if◌then◌else◌, List, [], ◌∷◌, length, map, Some, slice_get, take}
-use Rattle.std.specs.List.{count_by, sum_by}
+use Rattle.std.specs.List.{sum_by}
 use Rattle.ar_bundle.specs.Bundle.{Bundle}
 use Rattle.ar_bundle.specs.Lawful.{AreHistoriesSoFar, times}
 use Rattle.ar_bundle.specs.declared.history.Entry.{Entry}
@@ -22,7 +23,7 @@ stored_under lock histories = stored_from lock 0 histories
 
 -- how many receipts there are for runs under a lock
 abbrev pub received_under : (lock : ℕ) → List (List Receipt) → ℕ
-received_under lock receipts = sum_by (λ own. count_by (λ receipt. lock_of receipt.run == lock) own) receipts
+received_under lock receipts = sum_by (λ own. receipts_under lock own) receipts
 
 -- under each lock the histories have as many entries as the seats have receipts
 abbrev pub AreAsMany : (receipts : List (List Receipt)) → (histories : List (List Entry)) → Type 0

@@ -3,7 +3,7 @@
 ghost use Rattle.std.specs.Prelude.{◌≡◌, ◌<◌, ◌≤◌, IfErr, IfOk, OnErr, OnOk, Some, length};
 ghost use Rattle.ar_bundle.specs.Bundle.{finding_at, run_at};
 ghost use Rattle.ar_board.specs.Lost.{IsLost};
-ghost use Rattle.ar_board.specs.Board.{AreSeated, IsClosed, IsReceived, IsSeen, IsUnseen, receipts_of};
+ghost use Rattle.ar_board.specs.Board.{AreSeated, IsAnswered, IsClosed, IsReceived, IsSeen, IsUnseen, receipts_of};
 ghost use Rattle.ar_board.specs.Locks.{AreOf, lock_of};
 ghost use Rattle.ar_board.specs.Private.Closing.{IsReady};
 ghost use Rattle.ar_board.specs.Private.Seats.{IsOneMore};
@@ -98,6 +98,7 @@ impl<'b, M: BundleName, L: LockNames> Board<'b, M, L> {
     ) -> Result<Posted, Double>
         requires there { number < length M.bundle.entries }
         requires finding { finding_at M.bundle number ≡ Some finding }
+        ensures answered { IfOk result (IsAnswered M.bundle M.workers seat.old.worker number finding) }
         ensures received { IfOk result (IsReceived M.bundle number seat.old seat.new) }
         ensures refused { OnErr result (seat.new ≡ seat.old) }
     {
@@ -127,6 +128,7 @@ impl<'b, M: BundleName, L: LockNames> Board<'b, M, L> {
         requires worker { worker < M.workers }
         requires finding { finding_at M.bundle number ≡ Some finding }
         requires part { 0 < held.old.parts }
+        ensures answered { IfOk result (IsAnswered M.bundle M.workers worker number finding) }
         ensures more { OnOk result (IsOneMore M.bundle (lock_of run) held.old held.new) }
         ensures refused { OnErr result (held.new ≡ held.old) }
     {

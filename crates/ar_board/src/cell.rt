@@ -135,8 +135,8 @@ impl<'b, M: BundleName, L: LockName> RunCell<'b, M, L> {
     #[tactic(auto, using(crate::proofs::FewEntries::few_there))]
     pub fn audit(&mut self, share: &mut Share<L>)
         ensures same { self.new ≡ self.old }
-        ensures amount { share.new.amount ≡ share.old.amount }
-        ensures parts { share.new.parts ≡ share.old.parts }
+        ensures share { (share.new.amount ≡ share.old.amount) × (share.new.parts ≡ share.old.parts) }
+        ensures cell { IsCell M.bundle M.workers L.lock self.old }
         ensures few { share.old.amount ≤ entries_under M.bundle L.lock }
         ensures bundle { IsBundle M.bundle }
         ensures whole { share.old.parts ≡ L.parts → share.old.amount ≡ self.old.total }

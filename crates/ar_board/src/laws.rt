@@ -1,8 +1,10 @@
 //! Laws of receipts, and of the core: what holds in each state that a list of steps leads to, whoever makes
 //! them and in whatever order. A law is the contract of a function that does nothing.
 
-ghost use Rattle.std.specs.Prelude.{◌≡◌, ◌⊎◌, ℕ, Bool, List, ◌∷◌, true, false};
+ghost use Rattle.std.specs.Prelude.{◌≡◌, ◌⊎◌, ℕ, Bool, List, [], ◌∷◌, true, false};
 ghost use Rattle.ar_bundle.specs.declared.history.Entry.{Entry};
+ghost use Rattle.std.specs.List.{AllByRecursion};
+ghost use Rattle.ar_board.specs.Lost.{AreAsMany};
 ghost use Rattle.ar_board.specs.Receipts.{IsElsewhere, IsMet, IsMissing, IsOutOfOrder};
 ghost use Rattle.ar_board.specs.declared.cell.receipt.Receipt.{Receipt};
 ghost use Rattle.ar_bundle.specs.Sound.{IsBundle};
@@ -20,6 +22,15 @@ pub fn receipts_are_met_or_not()
     ensures not_both { (histories : List (List Entry)) (earlier : List Receipt) (receipt : Receipt)
         → IsMet histories earlier receipt
         → IsMissing histories receipt ⊎ (IsElsewhere histories receipt ⊎ IsOutOfOrder earlier receipt) → ⊥ }
+{}
+
+/// Where no seat has a receipt, no history has an entry. A new board's seats have none, and closing gives as
+/// many entries as there are receipts, so a board that is closed as it was made has empty histories.
+#[tactic(auto, using(crate::proofs::Unposted::nothing_stored))]
+pub fn new_boards_are_empty()
+    ensures { (histories : List (List Entry)) (receipts : List (List Receipt))
+        → AllByRecursion (λ own. own ≡ []) receipts → AreAsMany receipts histories
+        → AllByRecursion (λ history. history ≡ []) histories }
 {}
 
 /// Each number of the bundle is just once in what is still to put, the queue, the hands, the

@@ -3,7 +3,7 @@
 ghost use Rattle.std.specs.Prelude.{◌≡◌, ◌+◌, ◌<◌, ◌≤◌, IfErr, IfOk, OnErr, OnOk, Some, length};
 ghost use Rattle.ar_bundle.specs.Sound.{IsBundle};
 ghost use Rattle.ar_bundle.specs.Bundle.{finding_at};
-ghost use Rattle.ar_board.specs.Board.{IsSeen, IsUnseen, seat_of};
+ghost use Rattle.ar_board.specs.Board.{IsAnswered, IsSeen, IsUnseen, seat_of};
 ghost use Rattle.ar_board.specs.Private.Closing.{IsCellClosed};
 ghost use Rattle.ar_board.specs.Locks.{lock_of};
 ghost use Rattle.ar_board.specs.Cell.{IsUnder, entries_under};
@@ -30,6 +30,7 @@ pub(crate) fn post<M: BundleName, L: LockName, R: Wait>(
     requires worker { worker < M.workers }
     requires finding { finding_at M.bundle number ≡ Some finding }
     requires part { 0 < share.old.parts }
+    ensures answered { IfOk result (IsAnswered M.bundle M.workers worker number finding) }
     ensures more { OnOk result (share.new.amount ≡ share.old.amount + 1) }
     ensures few { share.new.amount ≤ entries_under M.bundle L.lock }
     ensures refused { OnErr result (share.new.amount ≡ share.old.amount) }
