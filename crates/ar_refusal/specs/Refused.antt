@@ -58,10 +58,22 @@ refusal_words (commands.Explain selection format) document refusals.NotThere own
     lacking_words (selected selection) document own
 refusal_words command document refusals.NotThere own = own
 
--- the text, after which it may be said where the input ceases to be JSON
+-- where an input ceases to be JSON, as far as the reader of JSON says: at its end, or at a line and a column
+pub data Place : Type 0 where
+  not_said : Place
+  at_the_end : Place
+  at_line : (line column : ℕ) → Place
+
+abbrev pub place_words : Place → Text
+place_words not_said = []
+place_words at_the_end = codes "; the text ends too early"
+place_words (at_line line column) =
+    codes "; the fault is at line " ++ (decimal line ++ (codes ", column " ++ decimal column))
+
+-- the text, and after it where the input ceases to be JSON
 pub record IsWithPlace (own text : Text) : Type 0 where
-  pub place : Text
-  pub is : text ≡ own ++ place
+  pub place : Place
+  pub is : text ≡ own ++ place_words place
 
 abbrev pub IsNamed : Command → Option Data → Refusal → (own text : Text) → Type 0
 IsNamed command (Some document) refusal own text = text ≡ refusal_words command document refusal own

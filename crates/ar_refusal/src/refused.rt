@@ -1,8 +1,8 @@
 //! The line of a refusal.
 
-ghost use Rattle.std.specs.Prelude.{◌≡◌, IfOk, string_bytes};
+ghost use Rattle.std.specs.Prelude.{◌≡◌, ◌++◌, IfOk, string_bytes};
 ghost use Rattle.serde_json.specs.View.{view};
-ghost use Rattle.ar_refusal.specs.Refused.{IsLine, IsWithPlace, is_too_large, refusal_words};
+ghost use Rattle.ar_refusal.specs.Refused.{IsLine, IsWithPlace, at_line, at_the_end, is_too_large, place_words, refusal_words};
 
 use crate::lacking::lacking_text;
 use ar_command::{Command, EvalError, Refusal};
@@ -61,16 +61,34 @@ fn named_text(
 }
 
 /// The text of a refusal of what is no JSON, with the place where it ceases to be.
+#[tactic(auto, using(crate::proofs::Lines::is_with, crate::proofs::Lines::without))]
 fn with_place(own: String, error: &serde_json::Error) -> Result<String, AllocError>
     ensures { IfOk result (λ text. IsWithPlace (string_bytes own) (string_bytes text)) }
 {
-    let mut text = own;
-    let (line, column) = (error.line(), error.column());
     if error.is_eof() {
-        text.push_str("; the text ends too early")?;
-    } else if line != 0 {
-        write!(text, "; the fault is at line {line}, column {column}")?;
+        return with_end(own);
     }
+    match error.line() {
+        0 => Ok(own),
+        line => with_line(own, line, error.column()),
+    }
+}
+
+/// A text, and that the input ends too early.
+fn with_end(own: String) -> Result<String, AllocError>
+    ensures { IfOk result (λ text. string_bytes text ≡ string_bytes own ++ place_words at_the_end) }
+{
+    let mut text = own;
+    text.push_str("; the text ends too early")?;
+    Ok(text)
+}
+
+/// A text, and the line and the column of a fault.
+fn with_line(own: String, line: usize, column: usize) -> Result<String, AllocError>
+    ensures { IfOk result (λ text. string_bytes text ≡ string_bytes own ++ place_words (at_line line column)) }
+{
+    let mut text = own;
+    write!(text, "; the fault is at line {line}, column {column}")?;
     Ok(text)
 }
 
