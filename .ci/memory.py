@@ -1,12 +1,17 @@
 """Where code answers out of memory by itself.
 
 A contract lets a body answer out of memory for any input, since no clause can say when memory runs out. So the code has
-to show that it never makes it up: `OutOfMemory` and `AllocError` may be an expression only in an arm of a `match`
-whose pattern or guard says that a call answered so, and in an `impl From` of one of the two.
+to show that it never makes it up: `OutOfMemory`, `AllocError`, the status `OUT_OF_MEMORY` and calls of `out_of_memory`,
+which answers it, may be an expression only in an arm of a `match` whose pattern or guard says that a call answered so,
+and in an `impl From` of one of the first two. No call may ask for a growth that no memory suffices for.
 """
 import re
 
-NAMES = ("OutOfMemory", "AllocError")
+NAMES = ("OutOfMemory", "AllocError", "OUT_OF_MEMORY", "out_of_memory")
+# Calls that ask for memory, and what makes a number of places too large for any.
+GROWTHS = ("reserve", "reserve_exact", "with_capacity", "vec")
+TOO_LARGE = ("MAX", "pow", "checked_pow", "saturating_pow", "wrapping_sub", "wrapping_neg")
+MOST_PLACES = 2**32
 # What a pattern has that says so, or a guard: `is_memory` is the question to an error of a library, `wants_memory` to a
 # reader.
 ANSWERS = {*NAMES, "is_memory", "wants_memory"}
@@ -15,6 +20,7 @@ SOURCES = {*NAMES, "AllocFailed"}
 TOKEN = re.compile(r"""//[^\n]*|b?"(?:\\.|[^"\\])*"|b?'(?:\\.[^']*|[^'\\])'|'\w+|\w+|=>|->|::|\S""", re.S)
 OPEN, CLOSE = "([{", ")]}"
 CLAUSES = ("ensures", "requires", "invariant", "ghost")
+DECLARATIONS = ("use", "enum", "const")
 
 
 class Group:
@@ -88,7 +94,9 @@ def block_after(items, place):
 def skipped(items, place):
     """Where a declaration, an import, a clause or an `impl From` ends that begins at a place, or the same place."""
     item = items[place][0]
-    if item == "use" or item in CLAUSES or item == "enum":
+    if item in DECLARATIONS or item in CLAUSES:
+        return block_after(items, place) + 1
+    if item == "fn" and items[place + 1][0] == "out_of_memory":
         return block_after(items, place) + 1
     if item == "impl":
         block = block_after(items, place)
@@ -96,6 +104,23 @@ def skipped(items, place):
         if head.count("for") and SOURCES & set(head[:head.index("for")]) and "From" in head:
             return block + 1
     return place
+
+
+def is_too_large(tokens):
+    """Whether the arguments of a call ask for more places than any memory has."""
+    tokens = [token.replace("_", "") if token[:1].isdigit() else token for token in tokens]
+    numbers = [re.match(r"0x[0-9a-fA-F]+|[0-9]+", token) for token in tokens]
+    shifts = any(pair == ("<", "<") for pair in zip(tokens, tokens[1:]))
+    return shifts or not set(TOO_LARGE).isdisjoint(tokens) or any(it and int(it[0], 0) > MOST_PLACES for it in numbers)
+
+
+def asks_for_too_much(items, place):
+    """Whether a call that asks for memory is at a place, for more than there can be."""
+    if items[place][0] not in GROWTHS:
+        return False
+    following = [item for item, _ in items[place + 1:place + 3]]
+    group = next((item for item in following if isinstance(item, Group)), None)
+    return group is not None and is_too_large(list(words(group.items)))
 
 
 def made_up(group, allowed=False, pattern=False):
@@ -117,6 +142,8 @@ def made_up(group, allowed=False, pattern=False):
         if isinstance(item, Group):
             yield from made_up(item, good, in_pattern or is_let_pattern(items, place))
         elif item in NAMES and not (in_pattern or good or is_type(items, place)):
+            yield line
+        elif asks_for_too_much(items, place):
             yield line
         place += 1
 

@@ -23,7 +23,7 @@ use answers::answer_of;
 use ar_command::status;
 use ar_command_line::VERSION;
 use buffers::put;
-use std::alloc::Global;
+use std::alloc::{AllocError, Global};
 
 /// The status where the buffer is too small for the answer.
 pub const TOO_SMALL: u8 = 4;
@@ -44,9 +44,12 @@ pub extern "C" fn argo_judge_run(
     ensures run { HasRun command input.now output.old output.new written.new result }
     ensures known { result ≤ 4 }
 {
-    let Ok(answer) = answer_of(alloc, command, input) else {
-        *written = 0;
-        return status::OUT_OF_MEMORY;
+    let answer = match answer_of(alloc, command, input) {
+        Ok(answer) => answer,
+        Err(AllocError) => {
+            *written = 0;
+            return status::OUT_OF_MEMORY;
+        }
     };
     if put(&answer.text, output, written) {
         answer.status
