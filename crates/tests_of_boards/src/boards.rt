@@ -8,8 +8,9 @@ use crate::cells::TWO_RUNS;
 use crate::lines::put_line;
 use ar_board::locks::First;
 use ar_board::{Blanks, Board, LockNames, Lost, Receipt, RunCell, Seat};
-use ar_bundle::{Bundle, BundleName, Histories};
+use ar_bundle::{Bundle, BundleName, Finding, Histories};
 use ar_document::read_bundle;
+use ar_judge::Verdict;
 use std::alloc::{AllocError, Global};
 use std::fmt::Write;
 use std::marker::Brand;
@@ -149,11 +150,23 @@ fn put_answers<M: BundleName, L: LockNames>(
     }
 }
 
-/// Writes the numbers of histories, run by run.
+/// A finding in a word.
+fn word_of(finding: Finding) -> &'static str {
+    match finding {
+        Finding::Stop => "stop",
+        Finding::Judged(Verdict::Successful) => "Successful",
+        Finding::Judged(Verdict::Failed) => "Failed",
+        Finding::Judged(Verdict::Inconclusive) => "Inconclusive",
+        Finding::Judged(Verdict::Error(_)) => "Error",
+    }
+}
+
+/// Writes histories run by run: of each entry its number, its finding and its effect.
 fn put_histories(text: &mut String, histories: &Histories) {
     for history in histories.runs() {
         for entry in history.entries() {
-            let _ = write!(text, "{} ", entry.number);
+            let word = word_of(entry.finding);
+            let _ = write!(text, "{} {word} {:?}, ", entry.number, entry.effect);
         }
         let _ = text.push_str("/ ");
     }
@@ -240,13 +253,22 @@ fn one_seat(rt: HostRuntime) {
 Ok(Snapshot { phase: Successful, metrics: [Successful], posts: [1] })
 Err(Double)
 Ok(Snapshot { phase: Successful, metrics: [Successful], posts: [1] })
-lost 1: 0 / / [[Receipt { run: 0, number: 0, place: 0 }]]
+lost 1: 0 Successful Closed(Successful), / / [[Receipt { run: 0, number: 0, place: 0 }]]
 ";
     assert_board(&rt, rt.alloc(), TWO_RUNS, 1, CALLS, expected);
-    const BOTH: &[(usize, Call)] = &[(0, Call::Post(0)), (0, Call::Post(1))];
+    const BOTH: &[(usize, Call)] = &[
+        (0, Call::Post(0)),
+        (0, Call::Look(0)),
+        (0, Call::Post(0)),
+        (0, Call::Look(0)),
+        (0, Call::Post(1)),
+    ];
     let expected = "Ok(Posted { place: 0, effect: Closed(Successful) })
+Ok(Snapshot { phase: Successful, metrics: [Successful], posts: [1] })
+Err(Double)
+Ok(Snapshot { phase: Successful, metrics: [Successful], posts: [1] })
 Ok(Posted { place: 0, effect: Closed(Successful) })
-0 / 1 / ";
+0 Successful Closed(Successful), / 1 Successful Closed(Successful), / ";
     assert_board(&rt, rt.alloc(), TWO_RUNS, 1, BOTH, expected);
 }
 
@@ -263,7 +285,7 @@ fn two_seats(rt: HostRuntime) {
 Ok(Snapshot { phase: Successful, metrics: [Successful], posts: [1, 0] })
 Err(Double)
 Ok(Posted { place: 0, effect: Closed(Successful) })
-0 / 1 / ";
+0 Successful Closed(Successful), / 1 Successful Closed(Successful), / ";
     assert_board(&rt, rt.alloc(), TWO_RUNS, 2, CALLS, expected);
 }
 
@@ -279,7 +301,7 @@ Err(Stale(1))
 Err(Stale(1))
 Ok(Posted { place: 0, effect: Closed(Successful) })
 Ok(Snapshot { phase: Successful, metrics: [Successful], posts: [1] })
-0 / 1 / ";
+0 Successful Closed(Successful), / 1 Successful Closed(Successful), / ";
     assert_board(&rt, rt.alloc(), TWO_RUNS, 1, CALLS, expected);
 }
 
@@ -324,6 +346,7 @@ Ok(Snapshot { phase: Failed, metrics: [Failed], posts: [1, 1] })
 Ok(Posted { place: 2, effect: Late })
 Ok(Snapshot { phase: Failed, metrics: [Failed], posts: [1, 2] })
 Ok(Snapshot { phase: Failed, metrics: [Failed], posts: [1, 2] })
-0 2 3 / 1 4 5 / ";
+0 Successful Applied, 2 Successful Closed(Successful), 3 Failed Late, \
+    / 1 Successful Applied, 4 Failed Closed(Failed), 5 Successful Late, / ";
     assert_board(&rt, rt.alloc(), THREE_EACH, 2, CALLS, expected);
 }

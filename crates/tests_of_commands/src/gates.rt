@@ -10,9 +10,9 @@ pub(crate) const TURNS: u32 = 10_000_000;
 /// Two runs, each with one measurement, which holds.
 pub(crate) const TWO_RUNS: &str =
     r#"{"manifest":{"apiVersion":"argoproj.io/v1alpha1","kind":"AnalysisTemplate","metadata":{"name":"t"},
-    "spec":{"metrics":[{"name":"m","successCondition":"result > 1"}]}},
-    "shapes":{"m":"whole"},"runs":[{"name":"r0"},{"name":"r1"}],
-    "measurements":[{"run":"r0","metric":"m","value":2},{"run":"r1","metric":"m","value":3}]}"#;
+    "spec":{"metrics":[{"name":"m","successCondition":"result[0] >= 0.95"}]}},
+    "shapes":{"m":{"list":"decimal","max":10}},"runs":[{"name":"r0"},{"name":"r1"}],
+    "measurements":[{"run":"r0","metric":"m","value":["0.99"]},{"run":"r1","metric":"m","value":["0.96"]}]}"#;
 
 /// A run that is measured three times and fails at the last.
 pub(crate) const FAILING: &str =
