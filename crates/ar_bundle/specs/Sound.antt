@@ -1,5 +1,6 @@
 -- What holds of every bundle, which of its numbers are judged whatever memory is left, and how many entries each run
 -- has.
+use Rattle.ar_judge.specs.Condition.{Condition}
 use Rattle.std.specs.Prelude.{◌≡◌, ◌≢◌, ◌<◌, ◌≤◌, ◌==◌, ℕ, suc, true, List, [], ◌∷◌, length, slice_get, Option, Some, IfSome, count_by}
 use Rattle.std.specs.List.{AllByRecursion}
 use Rattle.ar_value.specs.Fits.{fits}
@@ -8,8 +9,7 @@ use Rattle.ar_value.specs.View.{shape_view}
 use Rattle.ar_value.specs.Limits.{most_metrics, most_runs}
 use Rattle.ar_json.specs.declared.value_reading.ShapeFault.TheVariants as shape_fault
 use Rattle.ar_limits.specs.Replay.{most_events}
-use Rattle.ar_judge.specs.Headline.{Condition}
-use Rattle.ar_judge.specs.Judging.{TakesNoMemory}
+use Rattle.ar_judge.specs.Judging.{TakesNoMemory, SampleFits}
 use Rattle.ar_judge.specs.Verdict.{Judge, Sample, measured, misfit, provider, sample_view}
 use Rattle.ar_limits.specs.Metric.{HasPositiveCounts}
 use Rattle.ar_bundle.specs.declared.bundle.EventPart.{EventPart}
@@ -42,11 +42,9 @@ pub record IsRun (metrics : List MetricPart) (run : RunPart) : Type 0 where
   pub limits : length run.limits ≡ length metrics
   pub counts : HasPositiveCounts run.limits
 
--- a measured value fits a shape, and a misfit is never out of memory
+-- a measured value fits a shape
 abbrev pub SampleSuits : Shape → Sample → Type 0
-SampleSuits shape provider = Unit {0}
-SampleSuits shape (misfit fault) = fault ≢ shape_fault.OutOfMemory
-SampleSuits shape (measured value) = fits value shape ≡ true
+SampleSuits shape sample = SampleFits (λ value. fits value shape ≡ true) sample
 
 -- a sample of a metric that is there
 pub record SuitsMetric (metrics : List MetricPart) (metric : ℕ) (sample : Sample) : Type 0 where

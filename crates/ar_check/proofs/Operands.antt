@@ -3,6 +3,7 @@ use Rattle.std.proofs.Common.{◌≡◌, ℕ, ℤ, Bool, true, false, nat_le, Li
 use Rattle.std.specs.Prelude.{◌&&◌, if◌then◌else◌, option_and_then}
 use Rattle.std.specs.Str.{bytes_eq}
 use Rattle.std.proofs.lemmas.Slice.Eq.{bytes_eq-Decides}
+use Rattle.ar_value.specs.Answer.{there_or}
 use Rattle.ar_value.specs.Fits.{all_items, fields_fit, fits}
 use Rattle.ar_value.specs.Kind.{Kind, common, nil, shaped, plain, scalar_shape, boolean_kind}
 use Rattle.ar_value.specs.Shape.{Shape, FieldShapes}
@@ -129,7 +130,7 @@ named_fits name (values.field n v given) (shapes.field of shape others) h =
     rw same (field_fits (bytes_eq of name) (shape_named name others) (value_named name given) shape v front.1 (named_fits name given others parts.1))
 
 -- what is there, else a failure
-pub there_fits : (shape : Shape) (failure : Failure) (v : Option Value) → IsThere (Some shape) v → MeansKind (shaped shape) (operators.there failure v)
+pub there_fits : (shape : Shape) (failure : Failure) (v : Option Value) → IsThere (Some shape) v → MeansKind (shaped shape) (there_or failure v)
 there_fits shape failure (Some v) h = h
 there_fits shape failure None h = absurd h
 

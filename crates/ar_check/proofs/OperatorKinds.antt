@@ -14,8 +14,8 @@ use Rattle.ar_tree.specs.declared.tree.Binary.{Binary}
 use Rattle.ar_tree.specs.declared.tree.Binary.TheVariants as binaries
 use Rattle.ar_tree.specs.declared.tree.Unary.{Unary}
 use Rattle.ar_tree.specs.declared.tree.Unary.TheVariants as unaries
-use Rattle.ar_check.specs.Check.{Answer, binary_of, comparison_of, equal_of, equality_of, in_of, negated, same_family, text_test_of, unary_of}
-use Rattle.ar_value.specs.Operators.{Failure, Meaning}
+use Rattle.ar_check.specs.Check.{Answer, binary_of, comparison_of, equal_of, equality_of, in_of, negated, text_test_of, unary_of}
+use Rattle.ar_value.specs.Operators.{Failure, Meaning, same_family}
 use Rattle.ar_tree.specs.Meaning.{mean}
 use Rattle.ar_value.specs.Operators as operators
 use Rattle.ar_check.specs.Operand.{Operand, scalar_family, is_text_operand, is_boolean, unwrapped, numbers, scalar}

@@ -1,4 +1,5 @@
 -- Operators, as the table of kinds says of them.
+use Rattle.ar_value.specs.Operators.{same_family}
 use Rattle.std.proofs.Common.{◌≡◌, ℕ, Bool, true, false, Option, Some, None, Ok, refl, ◌∙◌, ap, sym, subst, inl, inr, is_some}
 use Rattle.std.specs.Prelude.{◌&&◌, ◌⊎◌}
 use Rattle.ar_value.specs.declared.operator.BinaryOperator.{BinaryOperator}
@@ -11,7 +12,7 @@ use Rattle.ar_value.specs.Shape as shapes
 use Rattle.ar_tree.specs.declared.tree.Comparison.TheVariants as comparisons
 use Rattle.ar_tree.specs.declared.tree.Binary.{Binary}
 use Rattle.ar_tree.specs.declared.tree.Binary.TheVariants as binaries
-use Rattle.ar_check.specs.Check.{Answer, arithmetic_kind, arithmetic_on, binary_of, equal_of, equality_of, in_of, item_shape, member_of, negated, ordering_of, ordered_of, same_family, calculation_of, arithmetic_in, compared_of, where_there, text_test_of, where_wanted, widened}
+use Rattle.ar_check.specs.Check.{Answer, arithmetic_kind, arithmetic_on, binary_of, equal_of, equality_of, in_of, item_shape, member_of, negated, ordering_of, ordered_of, calculation_of, arithmetic_in, compared_of, where_there, text_test_of, where_wanted, widened}
 use Rattle.ar_check.specs.Operand.{Operand, operand, scalar_family, is_text_operand, is_boolean, unwrapped, numbers, plain_of, scalar, scalar_of}
 use Rattle.ar_tree.specs.Typed.{Typed}
 use Rattle.ar_tree.specs.Typed as typed

@@ -6,7 +6,7 @@ use Rattle.ar_value.specs.declared.operator.Family.TheVariants as families
 use Rattle.ar_value.specs.declared.operator.Family.{Family}
 use Rattle.ar_value.specs.declared.operator.BinaryOperator.TheVariants as binary
 use Rattle.ar_value.specs.declared.operator.UnaryOperator.TheVariants as unary
-use Rattle.ar_value.specs.Answer.{◌>>=◌}
+use Rattle.ar_value.specs.Answer.{◌>>=◌, there_or}
 use Rattle.ar_value.specs.Fits.{all_items, fits}
 use Rattle.ar_value.specs.Kind.{Kind, nil, shaped, plain, fits_kind, boolean_kind}
 use Rattle.ar_value.specs.Shape.{Shape, FieldShapes}
@@ -14,9 +14,9 @@ use Rattle.ar_value.specs.Shape as shapes
 use Rattle.ar_value.specs.Value.{Value, Items, Fields, count, value_named}
 use Rattle.ar_value.specs.Value as values
 use Rattle.ar_value.specs.declared.fault.Fault.TheVariants.{IndexOutOfRange}
-use Rattle.ar_check.specs.Check.{field_of, field_shape, found_field, given, in_of, index_of, is_whole_number, item_shape, len_of, member_of, plain_kind, same_family}
+use Rattle.ar_check.specs.Check.{field_of, field_shape, found_field, given, in_of, index_of, is_whole_number, item_shape, len_of, member_of, plain_kind}
 use Rattle.ar_value.specs.Shape.{shape_named}
-use Rattle.ar_value.specs.Operators.{Failure, Meaning}
+use Rattle.ar_value.specs.Operators.{Failure, Meaning, same_family}
 use Rattle.ar_tree.specs.Meaning.{mean}
 use Rattle.ar_value.specs.Operators as operators
 use Rattle.ar_check.specs.Operand.{Operand, scalar_family, unwrapped, plain_of, scalar, scalar_of}
@@ -48,20 +48,20 @@ is_list at nil = tt
 is_list at (shaped shape) = items_of_shape at (plain shape)
 
 -- an item by its number fits, where there is one
-nth_fits : (shape : Shape) (items : Items) (n : ℕ) → all_items (λ v. fits v shape) items ≡ true → MeansKind (shaped shape) (operators.there (operators.faulted IndexOutOfRange) (operators.nth_item items n))
+nth_fits : (shape : Shape) (items : Items) (n : ℕ) → all_items (λ v. fits v shape) items ≡ true → MeansKind (shaped shape) (there_or (operators.faulted IndexOutOfRange) (operators.nth_item items n))
 nth_fits shape values.no_items n h = tt
 nth_fits shape (values.item v items) zero h = (both_hold (fits v shape) (all_items (λ v. fits v shape) items) h).0
 nth_fits shape (values.item v items) (suc n) h = nth_fits shape items n (both_hold (fits v shape) (all_items (λ v. fits v shape) items) h).1
 
 -- likewise counted from the end
 from_end : (shape : Shape) (items : Items) (n : ℕ) (within : Bool) → all_items (λ v. fits v shape) items ≡ true
-    → MeansKind (shaped shape) (operators.there (operators.faulted IndexOutOfRange) (if within then operators.nth_item items (count items - suc n) else None))
+    → MeansKind (shaped shape) (there_or (operators.faulted IndexOutOfRange) (if within then operators.nth_item items (count items - suc n) else None))
 from_end shape items n true h = nth_fits shape items (count items - suc n) h
 from_end shape items n false h = tt
 
 -- an item at an index fits, where there is one
 item_fits : (shape : Shape) (items : Items) (index : ℤ) → all_items (λ v. fits v shape) items ≡ true
-    → MeansKind (shaped shape) (operators.there (operators.faulted IndexOutOfRange) (operators.item_at items index))
+    → MeansKind (shaped shape) (there_or (operators.faulted IndexOutOfRange) (operators.item_at items index))
 item_fits shape items (pos n) h = nth_fits shape items n h
 item_fits shape items (negsuc n) h = from_end shape items n (nat_lt n (count items)) h
 

@@ -1,4 +1,5 @@
 -- The typed tree of a condition and its kind, or its first type fault. Children come first, from left to right.
+use Rattle.ar_value.specs.Operators.{same_family}
 use Rattle.std.specs.Prelude.{ℕ, suc, is_some, Bool, true, false, ◌&&◌, if◌then◌else◌, nat_lt, List, [], ◌∷◌, length, map, Option, Some, None, Result, Ok, Err, ◌≡◌, pos, refl}
 use Rattle.ar_value.specs.Terms.{Offset, Text}
 use Rattle.ar_value.specs.declared.operator.BinaryOperator.TheVariants as binary
@@ -153,12 +154,6 @@ ordered_of at order (Some m) (Some n) left right =
 ordered_of at order m n left right = Err (WrongOperand at)
 
 -- ---- equality and membership
-
-abbrev pub same_family : Family → Family → Bool
-same_family families.Boolean families.Boolean = true
-same_family families.Number families.Number = true
-same_family families.Text families.Text = true
-same_family left right = false
 
 -- two scalars of one family, each of which may be nil
 abbrev pub equal_of : Offset → Option Scalar → Option Scalar → Typed → Typed → Answer

@@ -1,5 +1,5 @@
 -- The image of code: the bytes that represent it, each code having one.
-use Rattle.std.specs.Prelude.{ℕ, zero, suc, ◌+◌, ◌*◌, ◌/◌, ◌%◌, nat_lt, ℤ, pos, negsuc, Bool, true, false, if◌then◌else◌, List, [], ◌∷◌, ◌++◌, length}
+use Rattle.std.specs.Prelude.{ℕ, codes, zero, suc, ◌+◌, ◌*◌, ◌/◌, ◌%◌, nat_lt, ℤ, pos, negsuc, Bool, true, false, if◌then◌else◌, List, [], ◌∷◌, ◌++◌, length}
 use Rattle.std.specs.List.{flat_map, list_any}
 use Rattle.ar_value.specs.Terms.{Text}
 use Rattle.ar_value.specs.declared.operator.Scalar.{Scalar}
@@ -54,7 +54,9 @@ source_fields (sources.Bool holds) = bit holds ∷ []
 source_fields (sources.Whole value) = number (zigzag value)
 source_fields (sources.Decimal millionths) = number (zigzag millionths)
 source_fields (sources.Text text) = number text
-source_fields source = []
+source_fields sources.Nil = []
+source_fields sources.Result = []
+source_fields sources.Item = []
 
 -- what comes after an operation's code
 abbrev pub fields_of : Op → List ℕ
@@ -64,16 +66,18 @@ fields_of (ops.Field name) = number name
 fields_of (ops.Jump jump index) = number index
 fields_of (ops.Enter predicate step) = number step
 fields_of (ops.Step predicate enter) = number enter
-fields_of op = []
+fields_of (ops.Unary operator) = []
+fields_of (ops.Binary operator) = []
+fields_of ops.Return = []
 
 abbrev pub op_bytes : Op → List ℕ
 op_bytes op = code_of op ∷ fields_of op
 
 -- ---- images
 
--- "ARCV"
+-- the bytes with which each image begins
 abbrev pub magic : List ℕ
-magic = 65 ∷ 82 ∷ 67 ∷ 86 ∷ []
+magic = codes "ARCV"
 
 -- the greatest code of an operation of a version
 abbrev pub last_code : Version → ℕ

@@ -38,7 +38,9 @@ source_text code (sources.Bool holds) = space ∷ boolean_name holds
 source_text code (sources.Whole value) = space ∷ signed_decimal value
 source_text code (sources.Decimal millionths) = space ∷ signed_decimal millionths
 source_text code (sources.Text number) = numbered code.texts number
-source_text code source = []
+source_text code sources.Nil = []
+source_text code sources.Result = []
+source_text code sources.Item = []
 
 -- what comes after an operation's name
 abbrev pub fields_text : Code → Op → Text
@@ -48,7 +50,9 @@ fields_text code (ops.Field number) = numbered code.names number
 fields_text code (ops.Jump jump index) = space ∷ decimal index
 fields_text code (ops.Enter predicate step) = space ∷ decimal step
 fields_text code (ops.Step predicate enter) = space ∷ decimal enter
-fields_text code op = []
+fields_text code (ops.Unary operator) = []
+fields_text code (ops.Binary operator) = []
+fields_text code ops.Return = []
 
 abbrev pub line : Code → (index : Index) → Op → Text
 line code index op = decimal index ++ (space ∷ (name_of op ++ (fields_text code op ++ line_feed ∷ [])))

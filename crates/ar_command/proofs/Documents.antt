@@ -5,7 +5,7 @@ use Rattle.std.proofs.lemmas.Bool.Decides.{nat_tests}
 use Rattle.ar_value.specs.Answer.{◌>>=◌}
 use Rattle.ar_value.specs.declared.fault.Fault.{Fault}
 use Rattle.ar_bundle.specs.Bundle.{Bundle}
-use Rattle.ar_judge.specs.Condition.{refused_as}
+use Rattle.ar_judge.specs.Saying.{refused_as}
 use Rattle.ar_document.specs.Document as bundles
 use Rattle.ar_json.specs.Document.{json_in, most_bytes}
 use Rattle.ar_document.specs.declared.error.BundleError.{BundleError}

@@ -1,5 +1,6 @@
 -- That what is explained of an input is one text: histories of bundles that are the same but for where they lie in memory
 -- are the same, and so is what led to their events.
+use Rattle.ar_judge.specs.Condition.{Condition}
 use Rattle.std.proofs.Common.{◌≡◌, ◌≢◌, ℕ, zero, suc, List, [], ◌∷◌, ◌++◌, codes, length, map, Option, Some, None, Ok, refl, sym, ◌∙◌, ap}
 use Rattle.std.specs.Prelude.{option_and_then, slice_get}
 use Rattle.std.specs.List.{AllByRecursion}
@@ -9,7 +10,6 @@ use Rattle.ar_value.specs.Value.{Value}
 use Rattle.ar_value.specs.View.{shape_view}
 use Rattle.ar_limits.specs.Run.{effects, metric_counts, metric_phases}
 use Rattle.ar_limits.specs.declared.limits.Limits.{Limits}
-use Rattle.ar_judge.specs.Headline.{Condition}
 use Rattle.ar_judge.specs.Verdict.{Judge, Sample, measured, misfit, provider, sample_view}
 use Rattle.ar_bundle.specs.Bundle.{Bundle, events_of, finding_at, found_of, judge_at}
 use Rattle.ar_bundle.specs.Lawful.{AreHistories, IsFound, IsHistory, numbers_of}

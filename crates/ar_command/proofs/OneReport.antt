@@ -1,5 +1,6 @@
 -- That a command for one thread says one text of an input. Reports of bundles that are the same but for where they lie in
 -- memory, by the same numbers, are one text.
+use Rattle.ar_judge.specs.Condition.{Condition}
 use Rattle.std.proofs.Common.{◌≡◌, ℕ, zero, suc, List, [], ◌∷◌, length, map, Option, Some, None, refl, sym, ◌∙◌, ap}
 use Rattle.std.specs.Prelude.{option_and_then, option_map, slice_get, unwrap_or}
 use Rattle.std.specs.List.{filter_map}
@@ -10,7 +11,6 @@ use Rattle.ar_limits.specs.declared.counts.Counts.{Counts}
 use Rattle.ar_limits.specs.declared.event.Effect.{Effect}
 use Rattle.ar_limits.specs.declared.limits.Limits.{Limits}
 use Rattle.ar_limits.specs.declared.phase.Phase.{Phase}
-use Rattle.ar_judge.specs.Headline.{Condition}
 use Rattle.ar_judge.specs.Verdict.{Judge, Sample, measured, misfit, provider, said_of, said_where, sample_view, verdict}
 use Rattle.ar_bundle.specs.Bundle.{Bundle, event_of, events_of, found_of, happened, happened_as, judge_at, run_at}
 use Rattle.ar_bundle.specs.Lawful.{numbers_of}

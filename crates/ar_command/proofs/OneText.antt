@@ -1,4 +1,5 @@
 -- That an input is one bundle, and that commands which judge nothing but one condition write one text for it.
+use Rattle.ar_judge.specs.Condition.{Condition}
 use Rattle.std.proofs.Common.{◌≡◌, ℕ, Bool, List, [], ◌∷◌, ◌++◌, Option, Some, None, Result, Ok, Err, map, refl, sym, subst, ◌∙◌, ap}
 use Rattle.std.specs.Prelude.{codes}
 use Rattle.ar_value.specs.Shape.{Shape}
@@ -9,7 +10,6 @@ use Rattle.ar_safety.specs.Verdict.{IsVerified}
 use Rattle.ar_safety.proofs.OneVerdict.{same_bounds}
 use Rattle.ar_judge.proofs.Trees.{tree_by_parser}
 use Rattle.ar_judge.specs.Built.{IsBuilt}
-use Rattle.ar_judge.specs.Headline.{Condition}
 use Rattle.ar_judge.specs.Verdict.{AreBuilt, Judge}
 use Rattle.ar_bundle.specs.Bundle.{Bundle}
 use Rattle.ar_bundle.specs.declared.bundle.MetricPart.{MetricPart}

@@ -1,8 +1,8 @@
 -- Bundles that are the same but for where their parts are in memory, and reports that are of the same runs.
+use Rattle.ar_judge.specs.Condition.{Condition}
 use Rattle.std.specs.Prelude.{◌≡◌, List, [], ◌∷◌, Option, map}
 use Rattle.ar_value.specs.Answer.{BothOrNeither}
 use Rattle.ar_value.specs.View.{shape_view}
-use Rattle.ar_judge.specs.Headline.{Condition}
 use Rattle.ar_judge.specs.Verdict.{Judge}
 use Rattle.ar_bundle.specs.Bundle.{Bundle}
 use Rattle.ar_bundle.specs.declared.bundle.RunPart.{RunPart}

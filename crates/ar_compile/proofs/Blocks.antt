@@ -1,13 +1,12 @@
 -- Blocks of code: the operations between two indexes, which a run enters at the first one and leaves at the last. The
 -- code of a tree is one, and the verifier's passes 1 to 4 find nothing in it.
 use Rattle.std.proofs.Common.{◌≡◌, ◌<◌, ◌≤◌, ℕ, suc, ◌-◌, true, nat_le, List, [], ◌∷◌, length, Some, None, Ok, refl, sym, ap, subst, inl, inr, ◌∙◌, arith}
-use Rattle.std.specs.Prelude.{◌==◌, nat_lt}
+use Rattle.std.specs.Prelude.{◌==◌, nat_lt, slice_get}
 use Rattle.std.proofs.lemmas.Bool.{le-leb}
 use Rattle.std.proofs.lemmas.Bool.Decides.{leb_tells, nat_tests}
 use Rattle.ar_value.specs.declared.operator.Predicate.{Predicate}
 use Rattle.ar_value.proofs.Predicates.{itself as same_predicate}
 use Rattle.ar_value.specs.Limits.{most_loops}
-use Rattle.ar_op.specs.Machine.{nth}
 use Rattle.ar_op.specs.declared.op.Op.{Op}
 use Rattle.ar_op.specs.declared.op.Jump.TheVariants as jumps
 use Rattle.ar_op.specs.declared.op.Op.TheVariants.{Jump, Enter, Step, Return}
@@ -34,7 +33,7 @@ there_are (op ∷ ops) long = refl
 
 module _ (ops : List Op) where
   abbrev pub At : (index : ℕ) → Op → Type 0
-  At index op = nth ops index ≡ Some op
+  At index op = slice_get ops index ≡ Some op
 
   -- inside n loops, from an index up to another one
   pub data Block : ℕ → (begin end : ℕ) → Type 0 where
@@ -187,7 +186,7 @@ module _ (ops : List Op) where
 
     reach_less : (enters : List ℕ) (before index : ℕ) → before ≤ index → in_innermost ops enters index ≡ true → in_innermost ops enters before ≡ true
     reach_less [] before index less h = refl
-    reach_less (enter ∷ outer) before index less h = reaches_less (nth ops enter) index before less h
+    reach_less (enter ∷ outer) before index less h = reaches_less (slice_get ops enter) index before less h
 
     at_first : (begin index : ℕ) → begin ≤ index → index < suc begin → NestsWell begin → NestsWell index
     at_first begin index from below well = let same : begin ≡ index = omega arith in subst NestsWell same well

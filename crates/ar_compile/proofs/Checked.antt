@@ -1,4 +1,5 @@
 -- What is checked is within limits where the tree as written is: kinds add no items and lengthen no text or name.
+use Rattle.ar_value.specs.Operators.{same_family}
 use Rattle.std.proofs.Common.{◌≡◌, ℕ, suc, Bool, true, false, List, [], ◌∷◌, length, map, Option, Some, None, Result, Ok, Err, IfOk, refl, sym, ap, subst}
 use Rattle.std.specs.Prelude.{◌&&◌, ◌≤◌, if◌then◌else◌}
 use Rattle.ar_value.specs.declared.operator.BinaryOperator.TheVariants as binary
@@ -29,7 +30,7 @@ use Rattle.ar_tree.specs.declared.tree.Unary.{Unary}
 use Rattle.ar_tree.specs.declared.tree.Unary.TheVariants as unaries
 use Rattle.ar_tree.specs.Typed.{Typed, Typeds, how_many, typeds}
 use Rattle.ar_tree.specs.Typed as typed
-use Rattle.ar_check.specs.Check.{Answer, Item, arithmetic_kind, arithmetic_on, binary_of, body_of, calculation_of, checked, choice_in, choice_of, choice_tree, common_of, comparison_of, condition_of, common_default, default_of, default_tree, predicate_entered, equal_of, equality_of, field_of, field_shape, given, in_common, in_of, index_of, innermost, is_nil_literal, is_whole_number, item_of, item_shape, items_typed, len_of, list_in_common, list_literal_of, member_of, negated, negation_of, no_scalar, ordered_of, ordering_of, over_items, plain_kind, plus_of, predicate_kind, predicate_of, same_family, arithmetic_in, where_there, converted_item, typed_of, unary_of, where_wanted, widened}
+use Rattle.ar_check.specs.Check.{Answer, Item, arithmetic_kind, arithmetic_on, binary_of, body_of, calculation_of, checked, choice_in, choice_of, choice_tree, common_of, comparison_of, condition_of, common_default, default_of, default_tree, predicate_entered, equal_of, equality_of, field_of, field_shape, given, in_common, in_of, index_of, innermost, is_nil_literal, is_whole_number, item_of, item_shape, items_typed, len_of, list_in_common, list_literal_of, member_of, negated, negation_of, no_scalar, ordered_of, ordering_of, over_items, plain_kind, plus_of, predicate_kind, predicate_of, arithmetic_in, where_there, converted_item, typed_of, unary_of, where_wanted, widened}
 use Rattle.ar_check.specs.Operand.{Operand, among, scalar_family, is_text_operand, is_boolean, is_whole, unwrapped, numbers, plain_of, plain_tree, scalar, scalar_of, converted}
 use Rattle.ar_check.specs.declared.error.TypeError.{TypeError}
 use Rattle.ar_check.specs.declared.error.TypeError.TheVariants.{NotTruth}

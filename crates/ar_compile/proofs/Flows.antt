@@ -1,7 +1,7 @@
 -- Blocks of code that give operands of one kind more or other kinds: what the verifier's pass 5 sends through them arrives after
 -- them, unless the operands are too many.
 use Rattle.std.proofs.Common.{◌≡◌, ◌<◌, ◌≤◌, ℕ, zero, suc, Bool, true, false, nat_le, List, [], ◌∷◌, ◌++◌, length, drop, Some, Result, Ok, Err, refl, sym, ap, subst, inl, inr, ◌∙◌, arith}
-use Rattle.std.specs.Prelude.{◌⊎◌, ◌==◌, if◌then◌else◌, nat_lt}
+use Rattle.std.specs.Prelude.{◌⊎◌, ◌==◌, if◌then◌else◌, nat_lt, slice_get}
 use Rattle.std.specs.List.{AllByRecursion}
 use Rattle.std.proofs.lemmas.Bool.Decides.{nat_tests}
 use Rattle.std.proofs.lemmas.List.{append-nil, append_assoc}
@@ -12,7 +12,6 @@ use Rattle.ar_value.specs.declared.operator.Predicate.{Predicate}
 use Rattle.ar_value.proofs.Merges.{merge_with_itself}
 use Rattle.ar_value.specs.Limits.{most_loops, most_operands}
 use Rattle.ar_op.specs.Code.{Code}
-use Rattle.ar_op.specs.Machine.{nth}
 use Rattle.ar_op.specs.declared.op.Op.{Op}
 use Rattle.ar_op.specs.declared.op.Jump.TheVariants as jumps
 use Rattle.ar_op.specs.declared.op.Op.TheVariants.{Jump, Enter, Step, Return}
@@ -42,7 +41,7 @@ some_op x y h = cc
 
 module _ (code : Code) (shape : Shape) where
   abbrev pub At : (index : ℕ) → Op → Type 0
-  At index op = nth code.ops index ≡ Some op
+  At index op = slice_get code.ops index ≡ Some op
 
   -- in these loops, from an index with operands of these kinds above the floor to one with operands of those kinds
   pub data Flows : List Around → (begin : ℕ) → List Kind → (end : ℕ) → List Kind → Type 0 where
@@ -75,7 +74,7 @@ module _ (code : Code) (shape : Shape) where
   abbrev flow : (index : ℕ) → List Sent → Result (List Sent) Cause
   flow index before = sent_on code shape index (drop index code.ops) before
 
-  dropped : (ops : List Op) (index : ℕ) (op : Op) → nth ops index ≡ Some op → drop index ops ≡ op ∷ drop (suc index) ops
+  dropped : (ops : List Op) (index : ℕ) (op : Op) → slice_get ops index ≡ Some op → drop index ops ≡ op ∷ drop (suc index) ops
   dropped [] index op there = absurd cc
   dropped (first ∷ ops) zero op there = ap (λ op. op ∷ ops) (some_op first op there)
   dropped (first ∷ ops) (suc index) op there = dropped ops index op there

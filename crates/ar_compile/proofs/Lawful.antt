@@ -1,4 +1,5 @@
 -- The code of a tree within limits is code.
+use Rattle.std.specs.Prelude.{slice_get}
 use Rattle.std.proofs.Common.{◌≡◌, ℕ, zero, suc, ◌+◌, ◌<◌, ◌≤◌, Bool, true, false, cond, List, [], ◌∷◌, ◌++◌, length, Some, ap, ◌∙◌, arith}
 use Rattle.std.specs.List.{AllByRecursion}
 use Rattle.std.specs.Str.{bytes_eq}
@@ -10,7 +11,6 @@ use Rattle.ar_tree.specs.Typed as typed
 use Rattle.ar_tree.specs.declared.tree.Literal.{Literal}
 use Rattle.ar_tree.specs.declared.tree.Literal.TheVariants as literals
 use Rattle.ar_op.specs.Code.{Inside, IsCode, IsEntry}
-use Rattle.ar_op.specs.Machine.{nth}
 use Rattle.ar_op.specs.declared.op.Op.{Op}
 use Rattle.ar_op.specs.declared.op.Jump.TheVariants as jumps
 use Rattle.ar_op.specs.declared.op.Op.TheVariants.{MakeList, Field, Jump, Enter, Step, Return, Unary, Binary}
@@ -23,7 +23,7 @@ all_after : {A : Type 0} (P : A → Type 0) (xs ys : List A) → AllByRecursion 
 all_after P [] ys h k = k
 all_after P (x ∷ xs) ys h k = (h.0, all_after P xs ys h.1 k)
 
-below : (texts : List (List ℕ)) (n : ℕ) (text : List ℕ) → nth texts n ≡ Some text → n < length texts
+below : (texts : List (List ℕ)) (n : ℕ) (text : List ℕ) → slice_get texts n ≡ Some text → n < length texts
 below [] n text is = absurd cc
 below (first ∷ texts) zero text is = omega arith
 below (first ∷ texts) (suc n) text is = let others = below texts n text is in omega (arith, others)

@@ -1,6 +1,6 @@
 -- Loops over the items of a list: an induction on the items to come.
 use Rattle.std.proofs.Common.{◌≡◌, ℕ, suc, ◌≤◌, pos, Bool, true, false, List, [], ◌∷◌, ◌++◌, length, Option, Some, None, Result, Ok, Err, refl, sym, ap, subst, ◌∙◌, arith}
-use Rattle.std.specs.Prelude.{◌==◌, if◌then◌else◌}
+use Rattle.std.specs.Prelude.{◌==◌, if◌then◌else◌, slice_get}
 use Rattle.std.proofs.lemmas.Bool.{eq-eqb}
 use Rattle.ar_value.proofs.Predicates.{itself}
 use Rattle.ar_value.specs.Answer.{◌>>=◌}
@@ -18,7 +18,7 @@ use Rattle.ar_value.specs.Kind.{boolean_kind}
 use Rattle.ar_check.proofs.Means.{MeansKind, both_hold}
 use Rattle.ar_check.proofs.Operands.{on_bool}
 use Rattle.ar_op.specs.Code.{Code}
-use Rattle.ar_op.specs.Machine.{Loop, loop_answer, begins_loop, decided, entered, floor, found_by, looked_at, next_item, nth, performed}
+use Rattle.ar_op.specs.Machine.{Loop, loop_answer, begins_loop, decided, entered, floor, found_by, looked_at, next_item, performed}
 use Rattle.ar_op.specs.declared.op.Op.TheVariants.{Enter, Step}
 use Rattle.ar_compile.specs.Private.Standing.{At}
 use Rattle.ar_compile.proofs.Nodes.{LeadsTo, Reached, leads_fit, room_for_one}
@@ -185,7 +185,7 @@ module _ (code : Code) (result : Value) (answer : Result Bool Fault) (body : Typ
     looked first rest found b None held around cost after h = after (loop_at first rest found) (found_by b (loop_at first rest found)) held around cost refl refl h
 
     -- the Step is that of the loop
-    is_step : begins_loop predicate step (nth code.ops enter) ≡ true
+    is_step : begins_loop predicate step (slice_get code.ops enter) ≡ true
     is_step = rw (begins, itself predicate) (same_place step)
 
     at_step : (first : Value) (rest : Items) (found : List Value) (b : Bool) (cost : ℕ) → After rest → Then predicate (found_by b (loop_at first rest found)) rest (decided predicate b)

@@ -4,7 +4,7 @@ use Rattle.ar_value.specs.Answer.{◌>>=◌}
 use Rattle.ar_value.specs.Fits.{fits}
 use Rattle.ar_value.specs.Kind.{Kind, shaped, scalar_shape, boolean_kind}
 use Rattle.ar_value.specs.Operators.{Failure, Meaning, field_in, ill_kinded, items_in, unary_meaning, scalar_item, boolean}
-use Rattle.ar_value.specs.Operators.{there as there_or}
+use Rattle.ar_value.specs.Answer.{there_or}
 use Rattle.ar_value.specs.Shape.{Shape}
 use Rattle.ar_value.specs.Shape as shapes
 use Rattle.ar_value.specs.Value.{Value, Items, count, item}

@@ -1,4 +1,5 @@
 -- The code of a tree is where it was put.
+use Rattle.std.specs.Prelude.{slice_get}
 use Rattle.std.proofs.Common.{◌≡◌, ℕ, zero, suc, ◌+◌, Bool, true, false, cond, List, [], ◌∷◌, ◌++◌, length, Some, refl, sym, ap, subst, ◌∙◌, append_assoc, arith}
 use Rattle.std.specs.Str.{bytes_eq}
 use Rattle.std.proofs.lemmas.List.{length-append}
@@ -8,7 +9,6 @@ use Rattle.ar_tree.specs.Typed as typed
 use Rattle.ar_tree.specs.declared.tree.Literal.{Literal}
 use Rattle.ar_tree.specs.declared.tree.Literal.TheVariants as literals
 use Rattle.ar_op.specs.Code.{Code, code_of_parts}
-use Rattle.ar_op.specs.Machine.{nth}
 use Rattle.ar_op.specs.declared.op.Op.{Op}
 use Rattle.ar_op.specs.declared.op.Jump.TheVariants as jumps
 use Rattle.ar_op.specs.declared.op.Op.TheVariants.{MakeList, Field, Jump, Enter, Step, Return, Unary, Binary}
@@ -81,7 +81,7 @@ mutual
 
 -- what is in a table is there in one that has grown
 abbrev pub Grows : List (List ℕ) → List (List ℕ) → Type 0
-Grows texts grown = (n : ℕ) (text : List ℕ) → nth texts n ≡ Some text → nth grown n ≡ Some text
+Grows texts grown = (n : ℕ) (text : List ℕ) → slice_get texts n ≡ Some text → slice_get grown n ≡ Some text
 
 abbrev pub GrowTables : Tables → Tables → Type 0
 GrowTables tables grown = Grows tables.texts grown.texts × Grows tables.names grown.names
@@ -105,12 +105,12 @@ same_text : (first text : List ℕ) → bytes_eq first text ≡ true → first �
 same_text first text h = (bytes_eq-Decides first text).0 h
 
 -- a text is at its number, once it is among the others
-there_by : (b : Bool) (first text : List ℕ) (others : List (List ℕ)) → bytes_eq first text ≡ b → nth (with_text text others) (index_among text others) ≡ Some text
-    → nth (first ∷ cond b others (with_text text others)) (cond b 0 (suc (index_among text others))) ≡ Some text
+there_by : (b : Bool) (first text : List ℕ) (others : List (List ℕ)) → bytes_eq first text ≡ b → slice_get (with_text text others) (index_among text others) ≡ Some text
+    → slice_get (first ∷ cond b others (with_text text others)) (cond b 0 (suc (index_among text others))) ≡ Some text
 there_by true first text others is h = ap (λ t. Some t) (same_text first text is)
 there_by false first text others is h = h
 
-pub is_there : (text : List ℕ) (texts : List (List ℕ)) → nth (with_text text texts) (index_among text texts) ≡ Some text
+pub is_there : (text : List ℕ) (texts : List (List ℕ)) → slice_get (with_text text texts) (index_among text texts) ≡ Some text
 is_there text [] = refl
 is_there text (first ∷ others) = there_by (bytes_eq first text) first text others refl (is_there text others)
 
@@ -154,7 +154,7 @@ mutual
 -- operations are one after the other from an index
 abbrev pub Hold : List Op → (index : ℕ) → List Op → Type 0
 Hold ops index [] = Unit {0}
-Hold ops index (op ∷ others) = (nth ops index ≡ Some op) × Hold ops (index + 1) others
+Hold ops index (op ∷ others) = (slice_get ops index ≡ Some op) × Hold ops (index + 1) others
 
 next_index : (index n : ℕ) → index + 1 + n ≡ index + suc n
 next_index index n = omega arith
@@ -173,7 +173,7 @@ hold_parts : (ops : List Op) (index n : ℕ) (xs ys : List Op) → length xs ≡
 hold_parts ops index n xs ys is h =
     let parts = hold_split ops index xs ys h in (parts.0, subst (λ (m : ℕ). Hold ops (index + m) ys) is parts.1)
 
-later : (before : List Op) (op : Op) (others : List Op) → nth (before ++ (op ∷ others)) (length before) ≡ Some op
+later : (before : List Op) (op : Op) (others : List Op) → slice_get (before ++ (op ∷ others)) (length before) ≡ Some op
 later [] op others = refl
 later (first ∷ before) op others = later before op others
 

@@ -1,4 +1,5 @@
 -- What the machine evaluates to from a state, by where its next step leads.
+use Rattle.std.specs.Prelude.{slice_get}
 use Rattle.std.proofs.Common.{◌≡◌, ℕ, suc, ◌+◌, ◌≤◌, Bool, true, nat_le, List, ◌∷◌, length, Some, Result, Ok, Err, refl, sym, ap, ◌∙◌, arith}
 use Rattle.std.proofs.lemmas.Bool.Decides.{nat_tests}
 use Rattle.ar_value.specs.Answer.{◌>>=◌}
@@ -6,7 +7,7 @@ use Rattle.ar_value.specs.Operators.{Failure, Meaning, faulted, ill_kinded}
 use Rattle.ar_value.specs.Value.{Value}
 use Rattle.ar_value.specs.declared.fault.Fault.{Fault}
 use Rattle.ar_op.specs.Code.{Code}
-use Rattle.ar_op.specs.Machine.{Loop, Next, State, after, cost_of, effect, ends, falls, floor, follow, proceeds, here, nth, paid, performed, step, stuck, takes}
+use Rattle.ar_op.specs.Machine.{Loop, Next, State, after, cost_of, effect, ends, falls, floor, follow, proceeds, here, paid, performed, step, stuck, takes}
 use Rattle.ar_op.specs.declared.op.Op.{Op}
 
 abbrev pub at : (index : ℕ) → List Value → List Loop → (cost : ℕ) → State
@@ -53,12 +54,12 @@ module _ (code : Code) (result : Value) (answer : Result Bool Fault) where
   by_next s (ends found total) is e = (1, total, ap (follow (after code result 0)) is ∙ ap (λ a. ends a total) e)
   by_next s (stuck index) is e = absurd e
 
-  pub step_is : (op : Op) (s : State) → nth code.ops s.index ≡ Some op → nat_le (floor s.loops + takes op) (length s.operands) ≡ true → step code result s ≡ performed code result op (paid op s)
+  pub step_is : (op : Op) (s : State) → slice_get code.ops s.index ≡ Some op → nat_le (floor s.loops + takes op) (length s.operands) ≡ true → step code result s ≡ performed code result op (paid op s)
   unfolding step
   step_is op s there room = rw (there, room) refl
 
   -- what an operation leads to
-  pub by_op : (op : Op) (index : ℕ) (operands : List Value) (loops : List Loop) → nth code.ops index ≡ Some op → floor loops + takes op ≤ length operands
+  pub by_op : (op : Op) (index : ℕ) (operands : List Value) (loops : List Loop) → slice_get code.ops index ≡ Some op → floor loops + takes op ≤ length operands
       → ((cost : ℕ) → EndsNext (performed code result op (at index operands loops cost))) → Good index operands loops
   by_op op index operands loops there room each cost =
       by_next (at index operands loops cost) (performed code result op (paid op (at index operands loops cost)))
@@ -71,7 +72,7 @@ module _ (code : Code) (result : Value) (answer : Result Bool Fault) where
   by_effect (Err (faulted fault)) index operands others loops cost is = sym is
   by_effect (Err ill_kinded) index operands others loops cost none = none
 
-  pub by_value : (op : Op) (index : ℕ) (operands others : List Value) (loops : List Loop) (m : Meaning) → nth code.ops index ≡ Some op → floor loops + takes op ≤ length operands
+  pub by_value : (op : Op) (index : ℕ) (operands others : List Value) (loops : List Loop) (m : Meaning) → slice_get code.ops index ≡ Some op → floor loops + takes op ≤ length operands
       → ((s : State) → performed code result op s ≡ falls s (effect code result (here s.loops) op s.operands)) → effect code result (here loops) op operands ≡ (m >>= λ v. Ok (v ∷ others))
       → Leads m (λ v. Good (suc index) (v ∷ others) loops) → Good index operands loops
   by_value op index operands others loops m there room falling is leads =

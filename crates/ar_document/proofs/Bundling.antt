@@ -1,4 +1,5 @@
 -- The parts of a document are a bundle.
+use Rattle.ar_judge.specs.Condition.{Condition}
 use Rattle.std.proofs.Common.{◌≡◌, ◌≤◌, ℕ, suc, List, [], ◌∷◌, length, map, Option, Some, None, refl, ◌∙◌, ap}
 use Rattle.std.specs.List.{AllByRecursion}
 use Rattle.std.specs.Prelude.{IfSome}
@@ -8,7 +9,6 @@ use Rattle.ar_manifest.specs.declared.bound.BoundMetric.{BoundMetric}
 use Rattle.ar_value.specs.Shape.{Shape}
 use Rattle.ar_value.specs.View.{shape_view}
 use Rattle.ar_limits.specs.declared.limits.Limits.{Limits}
-use Rattle.ar_judge.specs.Headline.{Condition}
 use Rattle.ar_judge.specs.Verdict.{AreBuilt, IsJudge, Judge}
 use Rattle.ar_bundle.specs.Sound.{IsOfShape, IsRun, JudgesEach, JudgesShape}
 use Rattle.ar_bundle.specs.declared.bundle.MetricPart.{MetricPart}

@@ -1,4 +1,5 @@
 -- Conditions of earlier runs are built of their texts.
+use Rattle.ar_judge.specs.Condition.{Condition}
 use Rattle.std.proofs.Common.{◌≡◌, ℕ, zero, suc, List, [], ◌∷◌, map, Option, Some, None, sym, ap, subst, ◌∙◌}
 use Rattle.std.specs.Prelude.{IfSome, slice_get, option_map}
 use Rattle.std.proofs.lemmas.Option.{slice_get-map}
@@ -6,7 +7,6 @@ use Rattle.ar_value.specs.Shape.{Shape}
 use Rattle.ar_value.specs.View.{shape_view}
 use Rattle.ar_manifest.specs.declared.bound.BoundMetric.{BoundMetric}
 use Rattle.ar_judge.specs.Built.{IsBuilt}
-use Rattle.ar_judge.specs.Headline.{Condition}
 use Rattle.ar_judge.specs.Judging.{condition_as}
 use Rattle.ar_judge.specs.Verdict.{AreBuilt, IsJudge, Judge}
 use Rattle.ar_judge.specs.declared.judge.Which.{Which}

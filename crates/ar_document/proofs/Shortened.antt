@@ -11,7 +11,7 @@ use Rattle.ar_manifest.specs.Shortened.{shortened_metric, shortened_of}
 use Rattle.ar_manifest.specs.declared.bound.BoundMetric.{BoundMetric}
 use Rattle.ar_manifest.specs.declared.error.ManifestError.{ManifestError}
 use Rattle.ar_manifest.specs.declared.template.Template.{Template}
-use Rattle.ar_judge.specs.Condition.{refused_as}
+use Rattle.ar_judge.specs.Saying.{refused_as}
 use Rattle.ar_judge.specs.Verdict.{Judge}
 use Rattle.ar_judge.proofs.Shortened.{judges_whole, refuses_whole}
 use Rattle.ar_limits.specs.declared.limits.Limits.{Limits}

@@ -8,7 +8,7 @@ use Rattle.serde_json.specs.Data.{Data}
 use Rattle.std.specs.Prelude.{codes, unwrap_or}
 use Rattle.serde_json.specs.Data.{null}
 use Rattle.serde_json.specs.Find.{get}
-use Rattle.ar_judge.specs.Condition.{refused_as}
+use Rattle.ar_judge.specs.Saying.{refused_as}
 use Rattle.ar_document.specs.Opening.{template_in}
 use Rattle.ar_document.specs.declared.error.BundleError.TheVariants.{Manifest}
 use Rattle.ar_manifest.specs.Binding.{RunArguments}

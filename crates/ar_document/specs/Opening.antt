@@ -16,7 +16,7 @@ use Rattle.ar_json.specs.Members.{list_of}
 use Rattle.ar_manifest.specs.Template.{template_of}
 use Rattle.ar_manifest.specs.declared.template.Template.{Template}
 use Rattle.ar_manifest.specs.declared.template.Metric as templates
-use Rattle.ar_judge.specs.Condition.{refused_as}
+use Rattle.ar_judge.specs.Saying.{refused_as}
 use Rattle.ar_bundle.specs.declared.bundle.MetricPart.{MetricPart}
 use Rattle.ar_document.specs.declared.error.BundleError.{BundleError}
 use Rattle.ar_document.specs.declared.error.BundleError.TheVariants.{Manifest, ShapeMissing, Shapes, Runs, DoubleRun}

@@ -6,7 +6,7 @@ ghost use Rattle.serde_json.specs.View.{view};
 ghost use Rattle.ar_value.specs.Answer.{Gives};
 ghost use Rattle.ar_json.specs.Declaration.{shape_of as declared_shape};
 ghost use Rattle.ar_value.specs.View.{shape_view};
-ghost use Rattle.ar_judge.specs.Condition.{refused_as};
+ghost use Rattle.ar_judge.specs.Saying.{refused_as};
 ghost use Rattle.ar_document.specs.Document.{is_bundle_memory};
 ghost use Rattle.ar_document.specs.Opening.{Metric as Named, metric_view, metrics_in, opened_of, template_in, with_shape};
 ghost use Rattle.ar_document.specs.declared.error.BundleError.TheVariants.{Shapes};

@@ -8,7 +8,7 @@ ghost use Rattle.ar_manifest.specs.Shortened.{shortened_of};
 ghost use Rattle.ar_bundle.specs.Sound.{IsRun, JudgesEach};
 ghost use Rattle.ar_value.specs.Answer.{Gives, IfRefused};
 ghost use Rattle.ar_value.specs.View.{shape_view};
-ghost use Rattle.ar_judge.specs.Condition.{refused_as};
+ghost use Rattle.ar_judge.specs.Saying.{refused_as};
 ghost use Rattle.ar_document.specs.Document.{is_bundle_memory};
 ghost use Rattle.ar_document.specs.Opening.{metric_view};
 ghost use Rattle.ar_document.specs.Parts.{AreJudges, HaveParts, IsPart, RefusesRun, RefusesRuns, limits_of};

@@ -21,7 +21,7 @@ use Rattle.ar_value.specs.Answer.{◌>>=◌}
 use Rattle.ar_value.specs.declared.fault.Fault.{Fault}
 use Rattle.ar_eval.specs.declared.eval.EvalError.{EvalError}
 use Rattle.ar_eval.specs.declared.eval.EvalError.TheVariants.{BadDocument, Shape, Misfit}
-use Rattle.ar_judge.specs.Condition.{typed_text}
+use Rattle.ar_judge.specs.Saying.{typed_text}
 use Rattle.ar_judge.specs.declared.error.BuildCause.{BuildCause}
 use Rattle.ar_judge.specs.declared.error.BuildCause.TheVariants.{Grammar, Kinds}
 

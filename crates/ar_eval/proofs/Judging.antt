@@ -1,4 +1,5 @@
 -- What a condition evaluates to on what was read.
+use Rattle.ar_judge.specs.Condition.{Condition}
 use Rattle.std.proofs.Common.{◌≡◌, ℕ, Bool, List, Some, Result, Ok, Err, refl, subst}
 use Rattle.serde_json.specs.Data.{Data}
 use Rattle.ar_value.specs.Answer.{Unless, UnlessMemory}
@@ -12,8 +13,7 @@ use Rattle.ar_json.proofs.ReadLemmas.{under_is_memory}
 use Rattle.ar_json.specs.declared.value_reading.ShapeFault.{ShapeFault}
 use Rattle.ar_json.specs.declared.value_reading.ShapeFault.TheVariants as shape_fault
 use Rattle.ar_judge.specs.Built.{IsBuilt}
-use Rattle.ar_judge.specs.Headline.{Condition}
-use Rattle.ar_judge.specs.Condition.{IsRefused, said}
+use Rattle.ar_judge.specs.Saying.{IsRefused, said}
 use Rattle.ar_judge.specs.declared.error.BuildCause.{BuildCause}
 use Rattle.ar_judge.specs.declared.error.BuildCause.TheVariants as causes
 use Rattle.ar_json.specs.Document.{is_document_memory as is_json_memory, json_in}

@@ -1,4 +1,5 @@
 -- What is returned for an input: a relation, since which verified code a text has is one.
+use Rattle.ar_judge.specs.Condition.{Condition}
 use Rattle.std.specs.Prelude.{◌≡◌, Bool, true, false, codes, Option, Some, option_and_then, Result, Ok, Err}
 use Rattle.ar_value.specs.Terms.{Bytes, Text}
 use Rattle.serde_json.specs.Data.{Data}
@@ -12,8 +13,7 @@ use Rattle.ar_json.specs.declared.value_reading.ShapeFault.{ShapeFault}
 use Rattle.ar_json.specs.declared.value_reading.ShapeFault.TheVariants as shape_fault
 use Rattle.ar_value.specs.Shape.{Shape}
 use Rattle.ar_judge.specs.Built.{IsBuilt}
-use Rattle.ar_judge.specs.Headline.{Condition}
-use Rattle.ar_judge.specs.Condition.{IsRefused, refused_as, said}
+use Rattle.ar_judge.specs.Saying.{IsRefused, refused_as, said}
 use Rattle.ar_judge.specs.declared.error.BuildCause.{BuildCause}
 use Rattle.ar_judge.specs.declared.error.BuildCause.TheVariants as causes
 use Rattle.ar_value.specs.declared.fault.Fault.{Fault}

@@ -2,8 +2,8 @@
 use Rattle.std.specs.Prelude.{◌≡◌, refl, ℕ, zero, suc, pos, Bool, List, [], ◌∷◌, Option, Some, None, option_and_then, Result, Ok, Err}
 use Rattle.std.specs.List.{list_any}
 use Rattle.std.specs.Str.{bytes_eq}
-use Rattle.ar_value.specs.Answer.{◌>>=◌}
-use Rattle.ar_value.specs.Operators.{Failure, faulted, ill_kinded, items_in, nth_item, there}
+use Rattle.ar_value.specs.Answer.{◌>>=◌, there_or}
+use Rattle.ar_value.specs.Operators.{Failure, faulted, ill_kinded, items_in, nth_item}
 use Rattle.ar_value.specs.Value.{Value, nil}
 use Rattle.ar_value.specs.declared.fault.Fault.TheVariants.{DivisionByZero}
 use Rattle.ar_value.specs.declared.operator.Arithmetic.TheVariants.{Divide}
@@ -82,10 +82,10 @@ here_at result here (typed.predicate predicate many body) (suc zero ∷ path) []
 here_at result here (typed.predicate predicate many body) (suc zero ∷ path) (number ∷ items) = do
   among ← mean result here many
   values ← items_in among
-  value ← there ill_kinded (nth_item values number)
+  value ← there_or ill_kinded (nth_item values number)
   here_at result (Some value) body path items
 here_at result here tree (number ∷ path) items =
-    there ill_kinded (child tree number) >>= λ part. here_at result here part path items
+    there_or ill_kinded (child tree number) >>= λ part. here_at result here part path items
 
 -- an entry is of a part of the tree, and has its meaning
 pub record IsEntryOf (result : Value) (here : Option Value) (tree : Typed) (entry : TraceEntry) : Type 0 where

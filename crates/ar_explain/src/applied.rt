@@ -73,9 +73,12 @@ pub(crate) fn scalar_on<'v>(
         (refused_or (scalar_item (operand_view operand.now)) (operand_view operand.now) None)) }
 {
     match operand {
-        Operand::Value(ValueRef::List(_) | ValueRef::Object(_)) | Operand::Made(_) => Ok(Err(
-            Failed::on_operand(alloc, Failure::IllKinded, operand_ref(operand))?,
-        )),
+        Operand::Value(ValueRef::Nil | ValueRef::List(_) | ValueRef::Object(_))
+        | Operand::Made(_) => Ok(Err(Failed::on_operand(
+            alloc,
+            Failure::IllKinded,
+            operand_ref(operand),
+        )?)),
         Operand::Value(value) => Ok(Ok(*value)),
     }
 }

@@ -27,7 +27,10 @@ abbrev mutual
   ShapeNamesRise (shapes.list shape max) = ShapeNamesRise shape
   ShapeNamesRise (shapes.object fields) = Rise (shape_names fields) × FieldShapeNamesRise fields
   ShapeNamesRise (shapes.optional shape) = ShapeNamesRise shape
-  ShapeNamesRise scalar = Unit {0}
+  ShapeNamesRise shapes.bool = Unit {0}
+  ShapeNamesRise shapes.whole = Unit {0}
+  ShapeNamesRise shapes.decimal = Unit {0}
+  ShapeNamesRise shapes.text = Unit {0}
 
   pub FieldShapeNamesRise : FieldShapes → Type 0
   FieldShapeNamesRise shapes.no_fields = Unit {0}
@@ -38,7 +41,11 @@ abbrev mutual
   pub ValueNamesRise : Value → Type 0
   ValueNamesRise (values.list items) = ItemNamesRise items
   ValueNamesRise (values.object fields) = Rise (field_names fields) × FieldNamesRise fields
-  ValueNamesRise scalar = Unit {0}
+  ValueNamesRise values.nil = Unit {0}
+  ValueNamesRise (values.bool holds) = Unit {0}
+  ValueNamesRise (values.whole value) = Unit {0}
+  ValueNamesRise (values.decimal millionths) = Unit {0}
+  ValueNamesRise (values.text letters) = Unit {0}
 
   pub ItemNamesRise : Items → Type 0
   ItemNamesRise values.no_items = Unit {0}

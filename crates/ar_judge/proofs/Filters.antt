@@ -1,11 +1,11 @@
 -- Code of conditions without `filter` has none.
+use Rattle.ar_judge.specs.Condition.{Condition}
 use Rattle.std.proofs.Common.{◌≡◌, ℕ, ◌+◌, Bool, true, false, ◌||◌, List, [], ◌∷◌, ◌++◌, Result, Ok, refl, sym, ap, subst, ◌∙◌}
 use Rattle.std.specs.List.{list_any}
 use Rattle.std.proofs.lemmas.List.Folds.{list_any-append}
 use Rattle.ar_value.specs.Shape.{Shape}
 use Rattle.ar_value.specs.declared.operator.Predicate.{Predicate}
-use Rattle.ar_value.specs.Predicates.{gathers}
-use Rattle.ar_machine.specs.Memory.{keeps_items}
+use Rattle.ar_value.specs.Predicates.{gathers, keeps_items}
 use Rattle.ar_tree.specs.Typed.{Typed, Typeds}
 use Rattle.ar_tree.specs.Typed as typed
 use Rattle.ar_tree.specs.declared.tree.Literal.{Literal}
@@ -16,11 +16,10 @@ use Rattle.ar_compile.specs.Compiled.{Tables, code_at, compiled, items_at, liter
 use Rattle.ar_compile.specs.Length.{operations}
 use Rattle.ar_machine.proofs.NoFilter.{HasNoFilter, is_of_filter, none_begun}
 use Rattle.ar_judge.specs.Built.{IsBuilt}
-use Rattle.ar_judge.specs.Headline.{Condition}
-use Rattle.ar_judge.specs.Condition.{typed_text}
+use Rattle.ar_judge.specs.Saying.{typed_text}
 use Rattle.ar_judge.specs.declared.error.BuildCause.{BuildCause}
 use Rattle.ar_judge.proofs.Trees.{tree_by_parser}
-use Rattle.ar_judge.specs.Filters.{FiltersAsWritten, has_filter, have_filter}
+use Rattle.ar_judge.specs.Filters.{BeginsOnlyWrittenFilters, has_filter, have_filter}
 
 abbrev NoneOf : List Op → Type 0
 NoneOf ops = list_any is_of_filter ops ≡ false
@@ -92,7 +91,7 @@ compiled_none tree e = none_of_both (code_at 0 no_tables tree) (Return ∷ []) (
 same_tree : (found : Result Typed BuildCause) (one other : Typed) → found ≡ Ok one → found ≡ Ok other → one ≡ other
 same_tree found one other is same = cc
 
-pub filters_as_written : (shape : Shape) (text : List ℕ) (condition : Condition) → IsBuilt shape text condition → FiltersAsWritten shape text condition
+pub filters_as_written : (shape : Shape) (text : List ℕ) (condition : Condition) → IsBuilt shape text condition → BeginsOnlyWrittenFilters shape text condition
 filters_as_written shape text condition built tree typed e =
     let same : tree ≡ built.tree = same_tree (typed_text shape text) tree built.tree typed (tree_by_parser shape text built.tree built.has_tree) in
     λ value. none_begun condition.verified.code value (subst HasNoFilter (ap compiled same ∙ sym built.code_is) (compiled_none tree e))

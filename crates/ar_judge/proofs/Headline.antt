@@ -1,4 +1,5 @@
 -- The first half of the headline.
+use Rattle.ar_judge.specs.Condition.{Condition}
 use Rattle.std.proofs.Common.{◌≡◌, ℕ, true, List, Option, Some, None, Ok, refl, sym, ap, subst, ◌∙◌}
 use Rattle.ar_value.specs.Fits.{fits}
 use Rattle.ar_value.specs.Shape.{Shape}
@@ -14,9 +15,9 @@ use Rattle.ar_compile.specs.Ends.{EndsAsMeant}
 use Rattle.ar_safety.proofs.Safe.{few_operands, verified_is_safe}
 use Rattle.ar_safety.specs.Safety.{IsSafe}
 use Rattle.ar_judge.specs.Built.{IsBuilt}
-use Rattle.ar_judge.specs.Condition.{said, typed_text}
+use Rattle.ar_judge.specs.Saying.{said, typed_text}
 use Rattle.ar_judge.specs.JudgeHeadline.{BuildsJudge, HoldsWhereThere, JudgeHeadlineHolds, JudgesAsMeant, run_answer}
-use Rattle.ar_judge.specs.Headline.{HeadlineHolds, RunsAsMeant, Condition}
+use Rattle.ar_judge.specs.Headline.{HeadlineHolds, RunsAsMeant}
 use Rattle.ar_judge.specs.Verdict.{AreBuilt, IsJudge, Judge, Said, said_of, said_where, spoken, verdict_by}
 use Rattle.ar_judge.proofs.Running.{in_limits, one_answer}
 use Rattle.ar_judge.proofs.Trees.{expression_parsed, tree_by_parser}

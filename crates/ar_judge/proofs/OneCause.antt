@@ -1,4 +1,5 @@
 -- That a text has one result: it is built, or refused for one cause; and so do the texts of a metric.
+use Rattle.ar_judge.specs.Condition.{Condition}
 use Rattle.std.proofs.Common.{◌≡◌, ◌≢◌, ℕ, List, Option, Some, None, refl, sym, subst, ◌∙◌, ap, arith}
 use Rattle.std.specs.Prelude.{◌<◌, ◌≤◌}
 use Rattle.ar_value.specs.Shape.{Shape}
@@ -9,8 +10,7 @@ use Rattle.ar_safety.specs.Verdict.{IsFault}
 use Rattle.ar_safety.specs.declared.error.Reason.{Reason}
 use Rattle.ar_safety.proofs.OneVerdict.{one_verdict, same_fault}
 use Rattle.ar_judge.specs.Built.{IsBuilt}
-use Rattle.ar_judge.specs.Headline.{Condition}
-use Rattle.ar_judge.specs.Condition.{IsRefused, IsTooLong, IsUnsafe}
+use Rattle.ar_judge.specs.Saying.{IsRefused, IsTooLong, IsUnsafe}
 use Rattle.ar_judge.proofs.Trees.{tree_by_parser}
 use Rattle.ar_judge.specs.Verdict.{AreBuilt, IsJudge, Judge, RefusesText, RefusesTexts}
 use Rattle.ar_judge.specs.declared.error.BuildCause.{BuildCause}

@@ -1,12 +1,13 @@
 -- Conditions that are ready to be run, and that the headline holds of them.
+use Rattle.ar_judge.specs.Condition.{condition_with}
 use Rattle.std.proofs.Common.{◌≡◌, ℕ, List, Ok, sym, subst}
 use Rattle.ar_value.specs.View.{shape_view}
 use Rattle.ar_value.specs.declared.shape.Shape.{Shape as Declared}
 use Rattle.ar_op.specs.Code.{Code}
 use Rattle.ar_safety.specs.Bounds.{Verified}
 use Rattle.ar_safety.specs.Verdict.{IsVerified}
-use Rattle.ar_judge.specs.Condition.{typed_text}
-use Rattle.ar_judge.specs.Headline.{HeadlineHolds, condition_with}
+use Rattle.ar_judge.specs.Saying.{typed_text}
+use Rattle.ar_judge.specs.Headline.{HeadlineHolds}
 use Rattle.ar_judge.specs.Private.Readiness.{IsCodeOf, IsReady, Means}
 use Rattle.ar_judge.proofs.Headline.{condition_holds}
 use Rattle.ar_judge.proofs.Running.{built}

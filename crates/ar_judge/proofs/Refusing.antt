@@ -1,7 +1,7 @@
 -- Metrics without a judge.
+use Rattle.ar_judge.specs.Condition.{Condition}
 use Rattle.std.proofs.Common.{ℕ, List, Option, Ok, Err}
 use Rattle.ar_value.specs.Shape.{Shape}
-use Rattle.ar_judge.specs.Headline.{Condition}
 use Rattle.ar_judge.specs.Verdict.{RefusesTexts}
 use Rattle.ar_judge.specs.Private.Building.{BuildsEach, failure_refused, success_refused}
 use Rattle.ar_judge.specs.declared.error.BuildCause.{BuildCause}

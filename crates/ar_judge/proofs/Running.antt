@@ -1,4 +1,5 @@
 -- Conditions that are built of texts, and what they say when they are run.
+use Rattle.ar_judge.specs.Condition.{condition_with}
 use Rattle.std.proofs.Common.{◌≡◌, ◌<◌, ℕ, ◌+◌, List, Bool, true, Some, Result, Ok, Err, refl, ap, ◌∙◌, subst, arith}
 use Rattle.ar_value.specs.Fits.{fits}
 use Rattle.ar_value.specs.Shape.{Shape}
@@ -26,9 +27,8 @@ use Rattle.ar_safety.specs.Bounds.{Verified}
 use Rattle.ar_safety.specs.declared.error.Cause.{Cause}
 use Rattle.ar_safety.specs.declared.error.Cause.TheVariants as causes
 use Rattle.ar_judge.specs.Built.{IsBuilt}
-use Rattle.ar_judge.specs.Headline.{condition_with}
 use Rattle.ar_judge.specs.Building.{of_compiler, of_verifier}
-use Rattle.ar_judge.specs.Condition.{IsRefused, said, typed_text}
+use Rattle.ar_judge.specs.Saying.{IsRefused, said, typed_text}
 use Rattle.ar_judge.proofs.Trees.{tree_by_grammar}
 use Rattle.ar_judge.specs.Private.Readiness.{IsCodeOf, IsReady, Means}
 

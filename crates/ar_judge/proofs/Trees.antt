@@ -10,7 +10,7 @@ use Rattle.ar_syntax.specs.Parse.{parse_of}
 use Rattle.ar_syntax.specs.declared.error.SyntaxError.{SyntaxError}
 use Rattle.ar_check.specs.Check.{checked}
 use Rattle.ar_check.specs.declared.error.TypeError.{TypeError}
-use Rattle.ar_judge.specs.Condition.{refused_as, said, said_by, typed_text}
+use Rattle.ar_judge.specs.Saying.{refused_as, said, said_by, typed_text}
 use Rattle.ar_judge.specs.Text.{HasTree, TextSays}
 use Rattle.ar_judge.specs.declared.error.BuildCause.{BuildCause}
 use Rattle.ar_judge.specs.declared.error.BuildCause.TheVariants.{Kinds}

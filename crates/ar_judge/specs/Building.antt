@@ -1,4 +1,5 @@
 -- What building a condition returns, and the causes of its parts as it returns them.
+use Rattle.ar_judge.specs.Condition.{Condition}
 use Rattle.std.specs.Prelude.{Result, Ok, Err}
 use Rattle.ar_value.specs.Terms.{Text}
 use Rattle.ar_value.specs.Shape.{Shape}
@@ -13,8 +14,7 @@ use Rattle.ar_safety.specs.declared.error.Cause.TheVariants as causes
 use Rattle.ar_judge.specs.declared.error.BuildCause.{BuildCause}
 use Rattle.ar_judge.specs.declared.error.BuildCause.TheVariants.{Grammar, Kinds, Compiler, Verifier, OutOfMemory}
 use Rattle.ar_judge.specs.Built.{IsBuilt}
-use Rattle.ar_judge.specs.Headline.{Condition}
-use Rattle.ar_judge.specs.Condition.{IsRefused}
+use Rattle.ar_judge.specs.Saying.{IsRefused}
 
 -- what a text is built to, or why it isn't
 abbrev pub BuildsTo : Shape → Text → Result Condition BuildCause → Type 0

@@ -1,4 +1,5 @@
 -- What a text is built to under the shape of the measured value.
+use Rattle.ar_judge.specs.Condition.{Condition}
 use Rattle.std.specs.Prelude.{◌≡◌, ◌≤◌}
 use Rattle.ar_value.specs.Terms.{Text}
 use Rattle.ar_value.specs.Shape.{Shape}
@@ -8,7 +9,6 @@ use Rattle.ar_tree.specs.Typed.{Typed}
 use Rattle.ar_compile.specs.Compiled.{compiled}
 use Rattle.ar_compile.specs.Length.{length_of}
 use Rattle.ar_safety.specs.Verdict.{IsVerified}
-use Rattle.ar_judge.specs.Headline.{Condition}
 use Rattle.ar_judge.specs.Text.{HasTree}
 
 -- this is the condition of a text where `result` has a shape: the verifier accepts the code of its typed tree

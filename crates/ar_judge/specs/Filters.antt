@@ -1,15 +1,14 @@
 -- Which conditions have a `filter`: a call that gathers items.
+use Rattle.ar_judge.specs.Condition.{Condition}
 use Rattle.std.specs.Prelude.{◌≡◌, Bool, false, ◌||◌, Ok}
 use Rattle.ar_value.specs.Terms.{Text}
 use Rattle.ar_value.specs.Shape.{Shape}
 use Rattle.ar_value.specs.Value.{Value}
-use Rattle.ar_value.specs.Predicates.{gathers}
-use Rattle.ar_machine.specs.Memory.{keeps_items}
+use Rattle.ar_value.specs.Predicates.{gathers, keeps_items}
 use Rattle.ar_tree.specs.Typed.{Typed, Typeds}
 use Rattle.ar_tree.specs.Typed as typed
 use Rattle.ar_machine.specs.Filter.{BeginsNoFilter}
-use Rattle.ar_judge.specs.Headline.{Condition}
-use Rattle.ar_judge.specs.Condition.{typed_text}
+use Rattle.ar_judge.specs.Saying.{typed_text}
 
 abbrev mutual
   pub has_filter : Typed → Bool
@@ -32,6 +31,7 @@ abbrev mutual
   have_filter (typed.more first others) = has_filter first || have_filter others
 
 -- where a text's typed tree has no `filter`, no run of its condition's code begins one
-abbrev pub FiltersAsWritten : Shape → (text : Text) → Condition → Type 0
-FiltersAsWritten shape text condition = (tree : Typed) → typed_text shape text ≡ Ok tree → has_filter tree ≡ false
+abbrev pub BeginsOnlyWrittenFilters : Shape → (text : Text) → Condition → Type 0
+BeginsOnlyWrittenFilters shape text condition = (tree : Typed)
+    → typed_text shape text ≡ Ok tree → has_filter tree ≡ false
     → (value : Value) → BeginsNoFilter condition.verified.code value

@@ -9,15 +9,8 @@ use Rattle.ar_value.specs.Value.{Value}
 use Rattle.ar_value.specs.Limits.{most_operands}
 use Rattle.ar_safety.specs.Bounds.{Verified, greatest_budget}
 use Rattle.ar_safety.specs.Safety.{IsSafe}
+use Rattle.ar_judge.specs.Condition.{Condition}
 use Rattle.ar_judge.specs.Text.{TextSays}
-
--- a condition that can be run: its text, and its verified code
-pub record Condition : Type 0 where
-  pub text : Text
-  pub verified : Verified
-
-abbrev pub condition_with : Text → Verified → Condition
-condition_with text verified = record { text = text; verified = verified }
 
 -- how the stack machine runs verified code on a value, where the code is that of a text under a shape
 pub record RunsAsMeant (shape : Shape) (text : Text) (verified : Verified) (value : Value) : Type 0 where

@@ -1,5 +1,6 @@
 -- The headline of a metric's judge: its verdict on a measured value is by what the machine returns on the code of its
 -- conditions, which is what their texts say.
+use Rattle.ar_judge.specs.Condition.{Condition}
 use Rattle.std.specs.Prelude.{◌≡◌, Bool, true, Option, Some, None, Result, IfOk, IfErr, IsOk}
 use Rattle.ar_value.specs.Terms.{Text}
 use Rattle.ar_value.specs.Answer.{BothOrNeither}
@@ -8,8 +9,8 @@ use Rattle.ar_value.specs.Shape.{Shape}
 use Rattle.ar_value.specs.Value.{Value}
 use Rattle.ar_value.specs.declared.fault.Fault.{Fault}
 use Rattle.ar_op.specs.Machine.{Next, after, begin, ends}
-use Rattle.ar_judge.specs.Condition.{said}
-use Rattle.ar_judge.specs.Headline.{HeadlineHolds, Condition}
+use Rattle.ar_judge.specs.Saying.{said}
+use Rattle.ar_judge.specs.Headline.{HeadlineHolds}
 use Rattle.ar_judge.specs.Verdict.{HasNoText, IsJudge, Judge, RefusesTexts, measured, said_where, verdict, verdict_by}
 use Rattle.ar_judge.specs.declared.error.BuildError.{BuildError}
 

@@ -1,4 +1,5 @@
 -- Which samples a judge takes, and which it judges whatever memory is left.
+use Rattle.ar_judge.specs.Condition.{Condition}
 use Rattle.std.specs.Prelude.{◌≡◌, ◌≢◌, Bool, true, Option, Some, IfSome, option_and_then, Result, Err}
 use Rattle.ar_value.specs.Fits.{fits}
 use Rattle.ar_value.specs.Value.{Value}
@@ -6,7 +7,6 @@ use Rattle.ar_value.specs.View.{shape_view}
 use Rattle.ar_value.specs.declared.fault.Fault.{Fault}
 use Rattle.ar_json.specs.declared.value_reading.ShapeFault.TheVariants as shape_fault
 use Rattle.ar_machine.specs.Filter.{BeginsNoFilter}
-use Rattle.ar_judge.specs.Headline.{Condition}
 use Rattle.ar_judge.specs.declared.judge.Which.{Which}
 use Rattle.ar_judge.specs.declared.judge.Which.TheVariants.{Success, Failure}
 use Rattle.ar_judge.specs.Verdict.{Judge, Sample, measured, misfit, provider, said_of}
@@ -19,11 +19,15 @@ condition_as Failure judge = judge.failure
 abbrev pub FitsEach : Value → Option Condition → Type 0
 FitsEach value condition = IfSome condition (λ condition. fits value (shape_view condition.verified.shape) ≡ true)
 
--- a measured value fits the shape that the conditions are for, and a misfit is never out of memory
+-- a value that was measured fits, and a misfit is never out of memory
+abbrev pub SampleFits : (Value → Type 0) → Sample → Type 0
+SampleFits Fits provider = Unit {0}
+SampleFits Fits (misfit fault) = fault ≢ shape_fault.OutOfMemory
+SampleFits Fits (measured value) = Fits value
+
+-- a measured value fits the shape that the conditions are for
 abbrev pub Suits : Judge → Sample → Type 0
-Suits judge provider = Unit {0}
-Suits judge (misfit fault) = fault ≢ shape_fault.OutOfMemory
-Suits judge (measured value) = FitsEach value judge.success × FitsEach value judge.failure
+Suits judge sample = SampleFits (λ value. FitsEach value judge.success × FitsEach value judge.failure) sample
 
 -- the run of a condition that is there begins no loop of a `filter` over items
 abbrev pub BeginsNoFilterIfThere : Value → Option Condition → Type 0

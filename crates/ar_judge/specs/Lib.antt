@@ -3,6 +3,7 @@ pub mod Text
 pub mod Headline
 pub mod Built
 pub mod Condition
+pub mod Saying
 pub mod Building
 pub mod Verdict
 pub mod JudgeHeadline

@@ -1,4 +1,5 @@
 -- The result of a sample under a metric's conditions.
+use Rattle.ar_judge.specs.Condition.{Condition}
 use Rattle.std.specs.Prelude.{◌≡◌, ◌≢◌, Bool, if◌then◌else◌, Option, Some, None, Result, Ok, Err, true, false, refl}
 use Rattle.ar_value.specs.Terms.{Text}
 use Rattle.ar_value.specs.Answer.{BothOrNeither}
@@ -8,8 +9,7 @@ use Rattle.ar_value.specs.View.{shape_view, value_view}
 use Rattle.ar_value.specs.declared.fault.Fault.{Fault}
 use Rattle.ar_json.specs.declared.value_reading.ShapeFault.{ShapeFault}
 use Rattle.ar_judge.specs.Built.{IsBuilt}
-use Rattle.ar_judge.specs.Headline.{Condition}
-use Rattle.ar_judge.specs.Condition.{IsRefused, said}
+use Rattle.ar_judge.specs.Saying.{IsRefused, said}
 use Rattle.ar_judge.specs.declared.error.BuildCause.{BuildCause}
 use Rattle.ar_judge.specs.declared.error.BuildCause.TheVariants as causes
 use Rattle.ar_judge.specs.declared.error.BuildError.{BuildError}

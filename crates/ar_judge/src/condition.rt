@@ -5,7 +5,7 @@ ghost use Rattle.ar_value.specs.Fits.{fits};
 ghost use Rattle.ar_value.specs.View.{shape_view, value_view};
 ghost use Rattle.ar_machine.specs.Filter.{BeginsNoFilter};
 ghost use Rattle.ar_judge.specs.Building.{BuildsTo};
-ghost use Rattle.ar_judge.specs.Condition.{said};
+ghost use Rattle.ar_judge.specs.Saying.{said};
 ghost use Rattle.ar_judge.specs.Headline.{HeadlineHolds};
 ghost use Rattle.ar_judge.specs.Private.Readiness.{HasCode};
 
@@ -36,7 +36,7 @@ pub struct Condition {
 impl Model for Condition {
     ghost use Rattle.std.specs.Coded.{codes};
     ghost use Rattle.ar_value.specs.contracts.shape.Shape as shape_row;
-    ghost use Rattle.ar_judge.specs.Headline.{Condition as Parts, condition_with};
+    ghost use Rattle.ar_judge.specs.Condition.{Condition as Parts, condition_with};
     ghost use Rattle.ar_judge.specs.Private.Readiness.{IsReady};
 
     ghost Value = { Parts };

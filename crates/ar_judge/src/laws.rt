@@ -7,10 +7,11 @@ ghost use Rattle.ar_value.specs.Value.{Value};
 ghost use Rattle.ar_value.specs.View.{shape_view};
 ghost use Rattle.ar_value.specs.declared.fault.Fault.{Fault};
 ghost use Rattle.ar_judge.specs.Built.{IsBuilt};
-ghost use Rattle.ar_judge.specs.Condition.{said};
-ghost use Rattle.ar_judge.specs.Filters.{FiltersAsWritten};
-ghost use Rattle.ar_judge.specs.Headline.{Condition, HeadlineHolds};
+ghost use Rattle.ar_judge.specs.Condition.{Condition};
+ghost use Rattle.ar_judge.specs.Filters.{BeginsOnlyWrittenFilters};
+ghost use Rattle.ar_judge.specs.Headline.{HeadlineHolds};
 ghost use Rattle.ar_judge.specs.JudgeHeadline.{JudgeHeadlineHolds};
+ghost use Rattle.ar_judge.specs.Saying.{said};
 ghost use Rattle.ar_judge.specs.Text.{TextSays};
 ghost use Rattle.ar_judge.specs.Verdict.{IsJudge, Judge};
 
@@ -48,5 +49,5 @@ pub fn said_is_by_grammar()
 #[tactic(auto, using(crate::proofs::Filters::filters_as_written))]
 pub fn filters_as_written()
     ensures { (shape : Shape) (text : List ℕ) (condition : Condition)
-        → IsBuilt shape text condition → FiltersAsWritten shape text condition }
+        → IsBuilt shape text condition → BeginsOnlyWrittenFilters shape text condition }
 {}

@@ -19,7 +19,7 @@ impl Model for SharedCondition {
     ghost use Rattle.std.specs.Arc.{arc_value};
     ghost use Rattle.std.specs.Coded.{codes};
     ghost use Rattle.ar_value.specs.contracts.shape.Shape as shape_row;
-    ghost use Rattle.ar_judge.specs.Headline.{Condition as Parts};
+    ghost use Rattle.ar_judge.specs.Condition.{Condition as Parts};
 
     ghost Value = { Parts };
 

@@ -80,14 +80,19 @@ phase_of_marks limits marks = phase_by (decision limits) marks
 abbrev pub is_complete : Phase → Bool
 is_complete phase.Pending = false
 is_complete phase.Running = false
-is_complete _ = true
+is_complete phase.Successful = true
+is_complete phase.Failed = true
+is_complete phase.Error = true
+is_complete phase.Inconclusive = true
 
 -- whether a phase is complete without success: Failed, Error or Inconclusive
 abbrev pub is_unsuccessful : Phase → Bool
 is_unsuccessful phase.Failed = true
 is_unsuccessful phase.Error = true
 is_unsuccessful phase.Inconclusive = true
-is_unsuccessful _ = false
+is_unsuccessful phase.Pending = false
+is_unsuccessful phase.Running = false
+is_unsuccessful phase.Successful = false
 
 -- whether a phase is complete with success
 abbrev pub succeeded : Phase → Bool

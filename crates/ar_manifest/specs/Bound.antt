@@ -87,8 +87,10 @@ bound_of template own = each_after (next_bound template.arguments own) [] templa
 
 -- a limit that is missing or a number, which takes no memory to bind
 abbrev pub IsNumber : Option Limit → Type 0
+IsNumber None = Unit {0}
+IsNumber (Some (limits.Whole value)) = Unit {0}
+IsNumber (Some limits.OtherNumber) = Unit {0}
 IsNumber (Some (limits.Text text)) = ⊥
-IsNumber limit = Unit {0}
 
 -- metric i, if no text is bound before it is refused: it has no condition, and a limit is a text only after one that is
 -- refused

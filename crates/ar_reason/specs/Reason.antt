@@ -1,4 +1,5 @@
 -- What led to the verdict and the effect of each event of runs that is asked for.
+use Rattle.ar_judge.specs.Condition.{Condition}
 use Rattle.std.specs.Prelude.{ℕ, suc, Bool, true, false, if◌then◌else◌, List, [], ◌∷◌, ◌++◌, codes, map, slice_get, Option, Some, None, option_and_then, Result, Ok, Err}
 use Rattle.std.specs.List.{list_any}
 use Rattle.serde_json.specs.Data.{Data}
@@ -8,8 +9,7 @@ use Rattle.ar_value.specs.Value.{Value}
 use Rattle.ar_value.specs.View.{shape_view}
 use Rattle.ar_tree.specs.Meaning.{mean}
 use Rattle.ar_tree.specs.Typed.{Typed}
-use Rattle.ar_judge.specs.Condition.{typed_text}
-use Rattle.ar_judge.specs.Headline.{Condition}
+use Rattle.ar_judge.specs.Saying.{typed_text}
 use Rattle.ar_judge.specs.Verdict.{Judge, Sample, measured, misfit as unfit, provider, sample_view}
 use Rattle.ar_judge.specs.declared.error.BuildCause.{BuildCause}
 use Rattle.ar_limits.specs.Run.{metric_counts, metric_phases, run_phase}

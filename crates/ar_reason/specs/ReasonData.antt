@@ -30,7 +30,8 @@ operands_if_there said = None
 
 abbrev pub was_needed : Outcome → Bool
 was_needed unneeded = false
-was_needed said = true
+was_needed (valued text) = true
+was_needed (failed failure on) = true
 
 abbrev pub part_data : Line → Data
 part_data line = object

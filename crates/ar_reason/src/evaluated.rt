@@ -1,7 +1,7 @@
 //! The trees of conditions, by which they are evaluated part by part.
 
 ghost use Rattle.std.specs.Prelude.{◌≡◌, IfOk, option_map};
-ghost use Rattle.ar_judge.specs.Condition.{typed_text};
+ghost use Rattle.ar_judge.specs.Saying.{typed_text};
 ghost use Rattle.ar_tree.specs.Views.{typed_view};
 ghost use Rattle.ar_value.specs.View.{shape_view};
 ghost use Rattle.ar_reason.specs.Private.Trees.{tree_in};

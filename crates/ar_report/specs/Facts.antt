@@ -1,9 +1,9 @@
 -- What reports say: facts of a bundle's runs, by one list of its numbers for each run, and of its conditions. Phases,
 -- counts and effects are those of the list of events that the numbers are.
+use Rattle.ar_judge.specs.Condition.{Condition}
 use Rattle.std.specs.Prelude.{ℕ, List, [], ◌∷◌, ◌++◌, codes, flat_map, map, slice_get, Option, Some, None, option_and_then, option_map, unwrap_or}
 use Rattle.ar_value.specs.Terms.{Text}
 use Rattle.ar_op.specs.Code.{Code}
-use Rattle.ar_judge.specs.Headline.{Condition}
 use Rattle.ar_judge.specs.Verdict.{Judge}
 use Rattle.ar_judge.specs.declared.verdict.Verdict.{Verdict}
 use Rattle.ar_safety.specs.Bounds.{Verified}

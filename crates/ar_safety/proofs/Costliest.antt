@@ -1,12 +1,11 @@
 -- From each index of code in which the verifier found nothing there is a most expensive way forward.
 use Rattle.std.proofs.Common.{◌≡◌, ◌<◌, ◌≤◌, ℕ, zero, suc, ◌+◌, ◌*◌, List, length, Some, refl, sym, subst, inl, inr, arith}
-use Rattle.std.specs.Prelude.{◌⊎◌}
+use Rattle.std.specs.Prelude.{◌⊎◌, slice_get}
 use Rattle.std.proofs.lemmas.Bool.Decides.{leb_tells}
 use Rattle.std.proofs.Math.Nat.{mul-le-mul_left}
 use Rattle.ar_value.specs.Shape.{Shape}
 use Rattle.ar_value.specs.declared.operator.Predicate.{Predicate}
 use Rattle.ar_op.specs.Code.{Code}
-use Rattle.ar_op.specs.Machine.{nth}
 use Rattle.ar_op.specs.declared.op.Op.{Op}
 use Rattle.ar_op.specs.declared.op.Jump.TheVariants.{And, Or, Branch, Always}
 use Rattle.ar_op.specs.declared.op.Op.TheVariants.{Binary, Jump, Enter, Step, Return}
@@ -19,7 +18,7 @@ use Rattle.ar_safety.proofs.Sound.{Prices}
 
 module _ (code : Code) (shape : Shape) (sents : List Sent) (is : Clean code shape sents) where
   abbrev pub At : (index : ℕ) → Op → Type 0
-  At index op = nth code.ops index ≡ Some op
+  At index op = slice_get code.ops index ≡ Some op
 
   abbrev pub Forward : (index cost : ℕ) → Type 0
   Forward index cost = Way code.ops sents index cost

@@ -1,9 +1,9 @@
 -- Operations that continue at the next index do with operands of the kinds that they take what is said of kinds: they
 -- leave operands of the kinds that they give, or meet a fault, and never touch what is below.
 use Rattle.std.proofs.Common.{◌≡◌, ◌<◌, ◌≤◌, ℕ, zero, suc, ◌+◌, ℤ, Bool, true, false, nat_le, List, [], ◌∷◌, ◌++◌, length, Option, Some, None, option_map, IfSome, Result, Ok, Err, refl, ap, arith}
-use Rattle.std.specs.Prelude.{◌&&◌, ◌||◌, if◌then◌else◌, option_and_then}
+use Rattle.std.specs.Prelude.{◌&&◌, ◌||◌, if◌then◌else◌, option_and_then, slice_get}
 use Rattle.std.proofs.lemmas.Bool.Decides.{nat_tests}
-use Rattle.ar_value.specs.Answer.{◌>>=◌}
+use Rattle.ar_value.specs.Answer.{◌>>=◌, there_or}
 use Rattle.ar_value.specs.Arithmetic.{decimal_of_whole, decimal_product, difference, negation, product, quotient, remainder, sum}
 use Rattle.ar_value.specs.Fits.{all_items, fits}
 use Rattle.ar_value.specs.Kind.{Kind, nil, shaped, fits_kind, merge, plain, scalar_shape, boolean_kind}
@@ -34,7 +34,6 @@ use Rattle.ar_value.specs.declared.operator.UnaryOperator.TheVariants as unary
 use Rattle.ar_value.proofs.Merges.{merge_has_both}
 use Rattle.ar_op.specs.Code.{Code, Inside}
 use Rattle.ar_op.specs.Machine as machine
-use Rattle.ar_op.specs.Machine.{nth}
 use Rattle.ar_op.specs.declared.op.Op.{Op}
 use Rattle.ar_op.specs.declared.op.Op.TheVariants.{Push, MakeList, Field, Unary, Binary}
 use Rattle.ar_op.specs.declared.op.Source.{Source}
@@ -417,18 +416,18 @@ module _ (base : List Value) where
 
   -- ---- all operations
 
-  text_pushed : (texts : List (List ℕ)) (n : ℕ) → n < length texts → MeansKind (shaped shapes.text) (operators.there ill_kinded (nth texts n) >>= λ letters. Ok (values.text letters))
+  text_pushed : (texts : List (List ℕ)) (n : ℕ) → n < length texts → MeansKind (shaped shapes.text) (there_or ill_kinded (slice_get texts n) >>= λ letters. Ok (values.text letters))
   text_pushed (text ∷ texts) zero inside = refl
   text_pushed (text ∷ texts) (suc n) inside = text_pushed texts n (omega arith)
   text_pushed [] n inside = absurd (omega arith)
 
-  item_pushed : (shape : Option Shape) (v : Option Value) → IsThere shape v → IfSome (option_map shaped shape) (λ kind. MeansKind kind (operators.there ill_kinded v))
+  item_pushed : (shape : Option Shape) (v : Option Value) → IsThere shape v → IfSome (option_map shaped shape) (λ kind. MeansKind kind (there_or ill_kinded v))
   item_pushed (Some shape) (Some v) there = there
   item_pushed (Some shape) None there = absurd there
   item_pushed None v there = tt
 
   field_taken : (name : Option (List ℕ)) (top : List Value) (kinds : List Kind) → Fit top kinds
-      → IfSome (option_and_then (λ name. on_one_kind (field_kind name) kinds) name) (λ kinds. Leaves kinds (operators.there ill_kinded name >>= λ name. machine.on_one (operators.field_in name) (top ++ base)))
+      → IfSome (option_and_then (λ name. on_one_kind (field_kind name) kinds) name) (λ kinds. Leaves kinds (there_or ill_kinded name >>= λ name. machine.on_one (operators.field_in name) (top ++ base)))
   field_taken (Some name) top kinds fit = of_one (field_kind name) (operators.field_in name) top kinds (field_sound name) fit
   field_taken None top kinds fit = tt
 
@@ -446,7 +445,7 @@ module _ (base : List Value) where
         → (top : List Value) (kinds : List Kind) → Fit top kinds → IfSome (kinds_left code shape of op kinds) (λ kinds. Leaves kinds (machine.effect code result item op (top ++ base)))
     effect_sound (Push source) inside top kinds fit = given (pushed_kind shape of source) (machine.pushed code result item source) top kinds (source_sound source inside) fit
     effect_sound (MakeList scalar count) inside top kinds fit = made scalar count count values.no_items top kinds (omega arith) refl fit
-    effect_sound (Field number) inside top kinds fit = field_taken (nth code.names number) top kinds fit
+    effect_sound (Field number) inside top kinds fit = field_taken (slice_get code.names number) top kinds fit
     effect_sound (Unary operator) inside top kinds fit = of_one (unary_kind operator) (operators.unary_meaning operator) top kinds (unary_sound operator) fit
     effect_sound (Binary operator) inside top kinds fit = of_two (binary_kind operator) (operators.binary_meaning operator) top kinds (binary_sound operator) fit
     effect_sound op inside top kinds fit = tt

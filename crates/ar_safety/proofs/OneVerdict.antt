@@ -1,11 +1,10 @@
 -- That code has one verdict for a shape.
 use Rattle.std.proofs.Common.{◌≡◌, ℕ, suc, ◌-◌, Bool, true, false, List, [], ◌∷◌, ◌++◌, length, Option, Some, None, Result, Ok, Err, refl, sym, subst, inl, inr, ◌∙◌, arith}
-use Rattle.std.specs.Prelude.{◌⊎◌, if◌then◌else◌}
+use Rattle.std.specs.Prelude.{◌⊎◌, if◌then◌else◌, slice_get}
 use Rattle.std.proofs.lemmas.Bool.Decides.{leb_tells}
 use Rattle.ar_value.specs.Answer.{◌>>=◌}
 use Rattle.ar_value.specs.Shape.{Shape}
 use Rattle.ar_op.specs.Code.{Code}
-use Rattle.ar_op.specs.Machine.{nth}
 use Rattle.ar_op.specs.declared.op.Op.{Op}
 use Rattle.ar_safety.specs.Arrivals.{Sent, arrived, at_index, deepest, sends, sent, sent_on, sent_to}
 use Rattle.ar_safety.specs.Budget.{IsBudget, Way}
@@ -50,7 +49,7 @@ test_free false index reason = λ same. cc
 indices_free : (ops : List Op) → IsFree (indices_pass ops)
 indices_free ops =
     both_free (has_ops ops) _ (ops_free ops) (λ _. both_free (all_pass (names_well ops) 0 ops) _ (pass_free (names_well ops) 0 ops) (λ _. both_free (all_pass (nests_well ops) 0 ops) _ (pass_free (nests_well ops) 0 ops)
-    (λ _. test_free (is_return (nth ops (length ops - 1))) (length ops - 1) NoReturn)))
+    (λ _. test_free (is_return (slice_get ops (length ops - 1))) (length ops - 1) NoReturn)))
 
 placed_free : {A : Type 0} (index : ℕ) (answer : Result A Reason) → IsFree (at_index index answer)
 placed_free index (Ok x) = λ same. cc

@@ -1,6 +1,6 @@
 -- What the verifier's passes say of each operation, by the index where it is.
 use Rattle.std.proofs.Common.{◌≡◌, ◌<◌, ◌≤◌, ℕ, zero, suc, ◌+◌, Bool, true, false, nat_le, List, [], ◌∷◌, ◌++◌, Option, Some, None, Result, Ok, Err, refl, sym, ap, ◌∙◌, arith}
-use Rattle.std.specs.Prelude.{if◌then◌else◌}
+use Rattle.std.specs.Prelude.{if◌then◌else◌, slice_get}
 use Rattle.std.specs.List.{AllByRecursion}
 use Rattle.std.proofs.lemmas.Bool.Decides.{nat_tests}
 use Rattle.std.proofs.lemmas.List.{append_assoc, append-nil}
@@ -11,7 +11,6 @@ use Rattle.ar_value.specs.Shape as shapes
 use Rattle.ar_value.specs.declared.operator.Predicate.{Predicate}
 use Rattle.ar_value.specs.Limits.{most_operands}
 use Rattle.ar_op.specs.Code.{Code}
-use Rattle.ar_op.specs.Machine.{nth}
 use Rattle.ar_op.specs.declared.op.Op.{Op}
 use Rattle.ar_op.specs.declared.op.Jump.TheVariants as jumps
 use Rattle.ar_op.specs.declared.op.Op.TheVariants.{Jump, Enter, Step, Return}
@@ -135,7 +134,7 @@ module _ (code : Code) (shape : Shape) where
     passed_ahead index (Jump jumps.Always target) kinds loops more well h =
         let same : (sent target kinds loops ∷ []) ≡ more = cc in rw (sym same) ((is_ahead ops index target well).0, tt)
     passed_ahead index (Enter predicate step) kinds loops more well h =
-        let each = none_of_both (forward ops index step) (unless (ends_loop predicate index (nth ops step)) UnpairedLoop) well in
+        let each = none_of_both (forward ops index step) (unless (ends_loop predicate index (slice_get ops step)) UnpairedLoop) well in
         let ahead = (is_ahead ops index step each.0).0 in
         let enter = enters predicate index step kinds loops more h in
         rw enter.sent (omega arith, (omega arith, tt))
@@ -199,7 +198,7 @@ module _ (code : Code) (shape : Shape) where
 
     -- each operation, by how many are between
     pub passed_at : (index : ℕ) (rest : List Op) (before final : List Sent) → all_pass (names_well ops) index rest ≡ Ok tt → sent_on code shape index rest before ≡ Ok final
-        → (n : ℕ) (op : Op) → nth rest n ≡ Some op → Passed final (n + index) op
+        → (n : ℕ) (op : Op) → slice_get rest n ≡ Some op → Passed final (n + index) op
     passed_at index [] before final well h n op there = absurd cc
     passed_at index (first ∷ rest) before final well h zero op there =
         let step = once index first rest before final h in
@@ -228,9 +227,9 @@ module _ (code : Code) (shape : Shape) where
 
     -- what holds of all that is sent, where each operation sends on what it holds of, if it holds of what was sent before
     pub all_hold : (P : Sent → Type 0) (final : List Sent)
-        → ((index : ℕ) (op : Op) (had : Operands) (more before : List Sent) → nth ops index ≡ Some op → arrival index final ≡ Ok had → arrived (sent_to index before) ≡ Ok had → Sends index op had more
+        → ((index : ℕ) (op : Op) (had : Operands) (more before : List Sent) → slice_get ops index ≡ Some op → arrival index final ≡ Ok had → arrived (sent_to index before) ≡ Ok had → Sends index op had more
         → AllByRecursion P before → AllByRecursion P more)
-        → (index : ℕ) (rest : List Op) (before : List Sent) → ((n : ℕ) (op : Op) → nth rest n ≡ Some op → nth ops (n + index) ≡ Some op) → all_pass (names_well ops) index rest ≡ Ok tt
+        → (index : ℕ) (rest : List Op) (before : List Sent) → ((n : ℕ) (op : Op) → slice_get rest n ≡ Some op → slice_get ops (n + index) ≡ Some op) → all_pass (names_well ops) index rest ≡ Ok tt
         → sent_on code shape index rest before ≡ Ok final → AllByRecursion P before → AllByRecursion P final
     all_hold P final each index [] before aligned well h all = let same : before ≡ final = cc in rw (sym same) all
     all_hold P final each index (op ∷ rest) before aligned well h all =
@@ -239,7 +238,7 @@ module _ (code : Code) (shape : Shape) where
         let others = later_is (suc index) rest (before ++ step.more) final names.1 step.others in
         let ahead = all_append (Ahead index) step.more others.later (passed_ahead index op step.had.kinds step.had.loops step.more names.0 step.sends.passed)
         (all_more (Ahead (suc index)) (Ahead index) others.later (λ one h. omega arith) others.ahead) in
-        let here : nth ops (0 + index) ≡ Some op = aligned 0 op refl in
+        let here : slice_get ops (0 + index) ≡ Some op = aligned 0 op refl in
         let start : 0 + index ≡ index = omega arith in
         let arrives = arrives_still index before (step.more ++ others.later) final step.had step.arrives ahead (others.are ∙ append_assoc before step.more others.later) in
         let more : AllByRecursion P step.more = each index op step.had step.more before (rw start at here) arrives step.arrives step.sends all in

@@ -1,6 +1,6 @@
 -- Code in which the passes 1 to 5 found nothing, index by index: what arrives there, and that what is sent on arrives.
 use Rattle.std.proofs.Common.{◌≡◌, ◌<◌, ◌≤◌, ℕ, zero, suc, ◌+◌, ◌-◌, Bool, true, false, List, [], ◌∷◌, ◌++◌, length, map, Option, Some, None, Result, Ok, Err, refl, sym, ap, subst, inl, inr, ◌∙◌, arith}
-use Rattle.std.specs.Prelude.{if◌then◌else◌}
+use Rattle.std.specs.Prelude.{if◌then◌else◌, slice_get}
 use Rattle.std.specs.List.{AllByRecursion}
 use Rattle.std.proofs.lemmas.Bool.Decides.{leb_tells}
 use Rattle.ar_value.specs.Kind.{Kind, shaped}
@@ -8,7 +8,6 @@ use Rattle.ar_value.specs.Shape.{Shape, list}
 use Rattle.ar_value.specs.Shape as shapes
 use Rattle.ar_value.specs.declared.operator.Predicate.{Predicate}
 use Rattle.ar_op.specs.Code.{Code}
-use Rattle.ar_op.specs.Machine.{nth}
 use Rattle.ar_op.specs.declared.op.Op.{Op}
 use Rattle.ar_op.specs.declared.op.Jump.TheVariants.{And, Or, Branch, Always}
 use Rattle.ar_op.specs.declared.op.Op.TheVariants.{Jump, Enter, Step, Return}
@@ -29,7 +28,7 @@ use Rattle.ar_safety.proofs.Passing.{Answers, Passed, all_hold, Sends, bound, en
 pub record Clean (code : Code) (shape : Shape) (sents : List Sent) : Type 0 where
   pub paired : all_pass (names_well code.ops) 0 code.ops ≡ Ok tt
   pub nested : all_pass (nests_well code.ops) 0 code.ops ≡ Ok tt
-  pub returns : is_return (nth code.ops (length code.ops - 1)) ≡ true
+  pub returns : is_return (slice_get code.ops (length code.ops - 1)) ≡ true
   pub all : all_sent code shape ≡ Ok sents
 
 abbrev found_or : Bool → Cause → Result (Unit {0}) Cause
@@ -45,7 +44,7 @@ clean code shape sents h =
     let first = bound (has_ops code.ops) _ all.0 all.1 in
     let second = bound (all_pass (names_well code.ops) 0 code.ops) _ all.0 first.2 in
     let third = bound (all_pass (nests_well code.ops) 0 code.ops) _ all.0 second.2 in
-    record { paired = second.1; nested = third.1; returns = ends_well (is_return (nth code.ops (length code.ops - 1))) _ third.2; all = all.2 }
+    record { paired = second.1; nested = third.1; returns = ends_well (is_return (slice_get code.ops (length code.ops - 1))) _ third.2; all = all.2 }
 
 -- ---- loops around an index
 
@@ -70,7 +69,7 @@ no_return : (op : Op) → is_return (Some op) ≡ true → ProceedsFurther op �
 no_return Return h further = further
 no_return op h further = absurd cc
 
-pub nth_there : {A : Type 0} (xs : List A) (n : ℕ) → n < length xs → (x : A) × (nth xs n ≡ Some x)
+pub nth_there : {A : Type 0} (xs : List A) (n : ℕ) → n < length xs → (x : A) × (slice_get xs n ≡ Some x)
 nth_there [] n below = absurd (omega arith)
 nth_there (x ∷ xs) zero below = (x, refl)
 nth_there (x ∷ xs) (suc n) below = nth_there xs n (omega arith)
@@ -85,7 +84,7 @@ all_each P (x ∷ xs) each = (λ a. (each a).0, all_each P xs (λ a. (each a).1)
 
 module _ (code : Code) (shape : Shape) (sents : List Sent) (is : Clean code shape sents) where
   abbrev pub At : (index : ℕ) → Op → Type 0
-  At index op = nth code.ops index ≡ Some op
+  At index op = slice_get code.ops index ≡ Some op
 
   pub pairs : (index : ℕ) (op : Op) → At index op → names_well code.ops index op ≡ None
   pairs index op there = passes_each (names_well code.ops) code.ops is.paired index op there
@@ -109,7 +108,7 @@ module _ (code : Code) (shape : Shape) (sents : List Sent) (is : Clean code shap
   no_end index op there further past =
       let below = is_below code.ops index op there in
       let same : length code.ops - 1 ≡ index = omega arith in
-      let returns : is_return (nth code.ops index) ≡ true = rw same at is.returns in
+      let returns : is_return (slice_get code.ops index) ≡ true = rw same at is.returns in
       let return_there : is_return (Some op) ≡ true = rw there at returns in
       no_return op return_there further
 
@@ -135,7 +134,7 @@ module _ (code : Code) (shape : Shape) (sents : List Sent) (is : Clean code shap
 
   no_first : length code.ops ≤ 0 → ⊥
   no_first past =
-      let none : nth code.ops (length code.ops - 1) ≡ None = nth_past code.ops (length code.ops - 1) (omega arith) in
+      let none : slice_get code.ops (length code.ops - 1) ≡ None = nth_past code.ops (length code.ops - 1) (omega arith) in
       let nothing : is_return None ≡ true = rw none at is.returns in
       absurd cc
 

@@ -1,5 +1,6 @@
 -- Runs of code in which the verifier found nothing: they end within what is due at their begin, and never have more operands
 -- than arrive anywhere.
+use Rattle.std.specs.Prelude.{slice_get}
 use Rattle.std.proofs.Common.{◌≡◌, ◌≤◌, ℕ, zero, suc, ◌+◌, max, Bool, true, List, [], ◌∷◌, length, map, Some, Result, refl, ap, subst, arith}
 use Rattle.std.specs.List.{AllByRecursion}
 use Rattle.ar_value.specs.Fits.{fits}
@@ -8,7 +9,7 @@ use Rattle.ar_value.specs.Value.{Value}
 use Rattle.ar_value.specs.declared.fault.Fault.{Fault}
 use Rattle.ar_value.specs.Limits.{most_loops}
 use Rattle.ar_op.specs.Code.{Code, Inside}
-use Rattle.ar_op.specs.Machine.{Loop, Next, State, after, begin, ends, follow, proceeds, nth, step, stuck}
+use Rattle.ar_op.specs.Machine.{Loop, Next, State, after, begin, ends, follow, proceeds, step, stuck}
 use Rattle.ar_op.specs.declared.op.Op.{Op}
 use Rattle.ar_safety.specs.Arrivals.{Around, Operands, Sent, deepest, height, sent, sent_to}
 use Rattle.ar_safety.specs.Arrivals as arrivals
@@ -29,7 +30,7 @@ pub all_below : (sents : List Sent) → AllByRecursion (λ one. height one.opera
 all_below [] = tt
 all_below (one ∷ others) = (omega arith, all_more (λ other. height other.operands ≤ deepest others) (λ other. height other.operands ≤ max (height one.operands) (deepest others)) others (λ other h. omega arith) (all_below others))
 
-module _ (code : Code) (shape : Shape) (sents : List Sent) (is : Clean code shape sents) (tables : (index : ℕ) (op : Op) → nth code.ops index ≡ Some op → Inside (length code.texts) (length code.names) op)
+module _ (code : Code) (shape : Shape) (sents : List Sent) (is : Clean code shape sents) (tables : (index : ℕ) (op : Op) → slice_get code.ops index ≡ Some op → Inside (length code.texts) (length code.names) op)
     (value : Value) (fit_value : fits value shape ≡ true) (due : ℕ → ℕ) (prices : Prices code.ops sents due) where
   abbrev Good : State → Type 0
   Good s = sound.Good code shape sents is tables value fit_value due prices s
@@ -85,7 +86,7 @@ module _ (code : Code) (shape : Shape) (sents : List Sent) (is : Clean code shap
   base_length (loop ∷ outer) [] base h = absurd h
 
   -- what arrives at `index` is no more than what is sent
-  arrival_below : (index : ℕ) (op : Op) (there : nth code.ops index ≡ Some op) → height (reached.here code shape sents is index op there).had ≤ deepest sents
+  arrival_below : (index : ℕ) (op : Op) (there : slice_get code.ops index ≡ Some op) → height (reached.here code shape sents is index op there).had ≤ deepest sents
   arrival_below index op there =
       let h = reached.here code shape sents is index op there in
       let came = arrives (sent_to index sents) h.had h.arrives in

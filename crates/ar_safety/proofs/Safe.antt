@@ -1,4 +1,5 @@
 -- Code that the verifier accepts runs safely, within its budget.
+use Rattle.std.specs.Prelude.{slice_get}
 use Rattle.std.proofs.Common.{◌≡◌, ◌≤◌, ℕ, zero, suc, ◌+◌, true, List, [], ◌∷◌, length, Some, sym, subst, arith}
 use Rattle.std.specs.List.{AllByRecursion}
 use Rattle.std.proofs.lemmas.List.Elements.{recursion_from_All}
@@ -7,7 +8,6 @@ use Rattle.ar_value.specs.Shape.{Shape}
 use Rattle.ar_value.specs.Value.{Value}
 use Rattle.ar_value.specs.Limits.{most_operands}
 use Rattle.ar_op.specs.Code.{Code, Inside, IsCode}
-use Rattle.ar_op.specs.Machine.{nth}
 use Rattle.ar_safety.specs.Arrivals.{Sent, deepest, height, sent}
 use Rattle.ar_safety.specs.Safety.{IsSafe}
 use Rattle.ar_safety.specs.Verdict.{IsVerified}
@@ -17,7 +17,7 @@ use Rattle.ar_safety.proofs.Reached.{clean, first_inside}
 use Rattle.ar_safety.proofs.Passing.{all_hold}
 use Rattle.ar_safety.proofs.Runs.{all_below, runs_safely}
 
-all_nth : {A : Type 0} (P : A → Type 0) (xs : List A) (n : ℕ) (x : A) → AllByRecursion P xs → nth xs n ≡ Some x → P x
+all_nth : {A : Type 0} (P : A → Type 0) (xs : List A) (n : ℕ) (x : A) → AllByRecursion P xs → slice_get xs n ≡ Some x → P x
 all_nth P [] n x all there = absurd cc
 all_nth P (first ∷ xs) zero x all there = let same : first ≡ x = cc in subst P same all.0
 all_nth P (first ∷ xs) (suc n) x all there = all_nth P xs n x all.1 there

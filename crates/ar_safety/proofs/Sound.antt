@@ -1,7 +1,7 @@
 -- Code in which the verifier found nothing runs safely: each step leads to operands of the kinds that arrive where it leads,
 -- and what was paid, with the most that is still to pay, never grows.
 use Rattle.std.proofs.Common.{◌≡◌, ◌≤◌, ℕ, suc, ◌+◌, ◌*◌, Bool, true, false, nat_le, List, [], ◌∷◌, ◌++◌, length, map, Option, Some, None, option_map, IfSome, Result, Ok, Err, refl, sym, ap, subst, ◌∙◌, arith}
-use Rattle.std.specs.Prelude.{◌&&◌, ◌==◌, if◌then◌else◌}
+use Rattle.std.specs.Prelude.{◌&&◌, ◌==◌, if◌then◌else◌, slice_get}
 use Rattle.std.specs.List.{AllByRecursion}
 use Rattle.std.proofs.lemmas.Bool.{leb-true}
 use Rattle.std.proofs.lemmas.Bool.Decides.{nat_tests}
@@ -18,7 +18,7 @@ use Rattle.ar_value.specs.Value as values
 use Rattle.ar_value.specs.declared.operator.Predicate.{Predicate}
 use Rattle.ar_value.specs.declared.operator.Predicate.TheVariants as predicates
 use Rattle.ar_op.specs.Code.{Code, Inside}
-use Rattle.ar_op.specs.Machine.{Loop, Next, State, loop_answer, begins_loop, cost_of, decided, ends, entered, falls, found_by, proceeds, here, left, looked_at, next_item, nth, paid, performed, step, stepped, stuck, takes, to}
+use Rattle.ar_op.specs.Machine.{Loop, Next, State, loop_answer, begins_loop, cost_of, decided, ends, entered, falls, found_by, proceeds, here, after_loop, looked_at, next_item, paid, performed, step, stepped, stuck, takes, to}
 use Rattle.ar_op.specs.Machine as machine
 use Rattle.ar_op.specs.declared.op.Op.{Op}
 use Rattle.ar_op.specs.declared.op.Jump.TheVariants.{And, Or, Branch, Always}
@@ -118,20 +118,20 @@ has_operands op had h = grind (arith, nat_tests)
 
 -- for each index what is to pay from there at most, by what is to pay from the indexes that a run may reach
 pub record Prices (ops : List Op) (sents : List Sent) (due : ℕ → ℕ) : Type 0 where
-  pub some : (index : ℕ) (op : Op) → nth ops index ≡ Some op → 1 ≤ due index
-  pub next : (index : ℕ) (op : Op) → nth ops index ≡ Some op → Continues op → price op (most_at ops sents index) + due (suc index) ≤ due index
-  pub jump : (index target : ℕ) (op : Op) → nth ops index ≡ Some op → JumpsTo op target → suc (due target) ≤ due index
-  pub loop : (index step : ℕ) (predicate : Predicate) → nth ops index ≡ Some (Enter predicate step) → suc (most_at ops sents index * due (suc index) + due (suc step)) ≤ due index
+  pub some : (index : ℕ) (op : Op) → slice_get ops index ≡ Some op → 1 ≤ due index
+  pub next : (index : ℕ) (op : Op) → slice_get ops index ≡ Some op → Continues op → price op (most_at ops sents index) + due (suc index) ≤ due index
+  pub jump : (index target : ℕ) (op : Op) → slice_get ops index ≡ Some op → JumpsTo op target → suc (due target) ≤ due index
+  pub loop : (index step : ℕ) (predicate : Predicate) → slice_get ops index ≡ Some (Enter predicate step) → suc (most_at ops sents index * due (suc index) + due (suc step)) ≤ due index
 
 -- where an Enter's Step is
 abbrev pub step_of : Option Op → ℕ
 step_of (Some (Enter predicate step)) = step
 step_of op = 0
 
-module _ (code : Code) (shape : Shape) (sents : List Sent) (is : Clean code shape sents) (tables : (index : ℕ) (op : Op) → nth code.ops index ≡ Some op → Inside (length code.texts) (length code.names) op)
+module _ (code : Code) (shape : Shape) (sents : List Sent) (is : Clean code shape sents) (tables : (index : ℕ) (op : Op) → slice_get code.ops index ≡ Some op → Inside (length code.texts) (length code.names) op)
     (value : Value) (fit_value : fits value shape ≡ true) (due : ℕ → ℕ) (prices : Prices code.ops sents due) where
   abbrev At : (index : ℕ) → Op → Type 0
-  At index op = nth code.ops index ≡ Some op
+  At index op = slice_get code.ops index ≡ Some op
 
   abbrev around : ℕ → Around
   around enter = reached.around code shape sents is enter
@@ -139,7 +139,7 @@ module _ (code : Code) (shape : Shape) (sents : List Sent) (is : Clean code shap
   -- the loops that have begun are to end with these
   abbrev pub waiting : List Loop → ℕ
   waiting [] = 0
-  waiting (loop ∷ outer) = count loop.rest * due (suc loop.enter) + due (suc (step_of (nth code.ops loop.enter))) + waiting outer
+  waiting (loop ∷ outer) = count loop.rest * due (suc loop.enter) + due (suc (step_of (slice_get code.ops loop.enter))) + waiting outer
 
   -- ---- states that a run reaches
 
@@ -374,7 +374,7 @@ module _ (code : Code) (shape : Shape) (sents : List Sent) (is : Clean code shap
       let each = both_hold (fits first shape_of) (all_items (λ v. fits v shape_of) rest) all in
       let few : suc (count rest) ≤ most = leb-true (suc (count rest)) most short in
       let paid_for = all_paid (count rest) most (due (suc index)) few in
-      let step_there : step_of (nth code.ops index) ≡ step = ap step_of there in
+      let step_there : step_of (slice_get code.ops index) ≡ step = ap step_of there in
       let loop : Loop = record { enter = index; here = first; rest = rest; floor = length (others ++ base); found = [] } in
       let in_loop : InLoop loop index (others ++ base) base = record {
         of = refl;
@@ -424,11 +424,11 @@ module _ (code : Code) (shape : Shape) (sents : List Sent) (is : Clean code shap
     due_loop = count loop.rest * due (suc enter) + due (suc index) + waiting outer
 
     -- what is due once the loop is to continue
-    waiting_is : (items : ℕ) → items * due (suc loop.enter) + due (suc (step_of (nth code.ops loop.enter))) + waiting outer ≡ items * due (suc enter) + due (suc index) + waiting outer
+    waiting_is : (items : ℕ) → items * due (suc loop.enter) + due (suc (step_of (slice_get code.ops loop.enter))) + waiting outer ≡ items * due (suc enter) + due (suc index) + waiting outer
     waiting_is items = rw (s.in_loop.of, s.the_enter) refl
 
     left_leads : (answer : Value) (operands : List Value) (loops : List Loop) (cost : ℕ) → fits_kind answer (answer_kind predicate (around enter).item (around enter).most) ≡ true
-        → Leads index (loop ∷ outer) cost (left answer outer base (at index operands loops (cost + 1)))
+        → Leads index (loop ∷ outer) cost (after_loop answer outer base (at index operands loops (cost + 1)))
     left_leads answer operands loops cost fit =
         let some = s.some in
         let wait = waiting_is (count loop.rest) in
@@ -473,8 +473,8 @@ module _ (code : Code) (shape : Shape) (sents : List Sent) (is : Clean code shap
         let more = found_more holds loop (around enter).item s.in_loop.found s.in_loop.here in
         next_leads (found_by holds loop) more.0 more.1 loop.rest refl operands loops cost
 
-    begins_it : (loop.enter == enter && begins_loop predicate index (nth code.ops enter)) ≡ true
-    begins_it = both (loop.enter == enter) (begins_loop predicate index (nth code.ops enter)) (rw s.in_loop.of (itself enter)) (rw s.the_enter (both (is_same predicate predicate) (index == index) (same_as_itself predicate) (itself index)))
+    begins_it : (loop.enter == enter && begins_loop predicate index (slice_get code.ops enter)) ≡ true
+    begins_it = both (loop.enter == enter) (begins_loop predicate index (slice_get code.ops enter)) (rw s.in_loop.of (itself enter)) (rw s.the_enter (both (is_same predicate predicate) (index == index) (same_as_itself predicate) (itself index)))
 
   -- what comes after a Step, and at the begin of its loop's body
   at_step : (index enter : ℕ) (predicate : Predicate) (there : At index (Step predicate enter)) (loop : Loop) (outer : List Loop) (base lower : List Value) → InLoop loop enter base lower → InLoops outer (loops_around code.ops enter) lower

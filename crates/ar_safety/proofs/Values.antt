@@ -3,6 +3,7 @@ use Rattle.std.proofs.Common.{◌≡◌, ℕ, zero, suc, ℤ, pos, negsuc, Bool,
 use Rattle.std.specs.Prelude.{◌-◌, ◌&&◌, if◌then◌else◌, nat_lt, List}
 use Rattle.std.specs.Str.{bytes_eq}
 use Rattle.std.proofs.lemmas.Slice.Eq.{bytes_eq-Decides}
+use Rattle.ar_value.specs.Answer.{there_or}
 use Rattle.ar_value.specs.Fits.{all_items, fields_fit, fits}
 use Rattle.ar_value.specs.Kind.{Kind, shaped, fits_kind}
 use Rattle.ar_value.specs.Operators.{Failure, Meaning, faulted, ill_kinded}
@@ -89,7 +90,7 @@ named_fits name (values.field n v given) (shapes.field of shape others) h =
     rw same (field_fits (bytes_eq of name) (shape_named name others) (value_named name given) shape v front.1 (named_fits name given others parts.1))
 
 -- what is there, else a failure
-pub there_fits : (shape : Shape) (failure : Failure) (v : Option Value) → IsThere (Some shape) v → MeansKind (shaped shape) (operators.there failure v)
+pub there_fits : (shape : Shape) (failure : Failure) (v : Option Value) → IsThere (Some shape) v → MeansKind (shaped shape) (there_or failure v)
 there_fits shape failure (Some v) h = h
 there_fits shape failure None h = absurd h
 
@@ -102,20 +103,20 @@ field_means name wanted shape v is fit =
 -- ---- lists
 
 -- an item by its number fits, where there is one
-nth_fits : (shape : Shape) (items : Items) (n : ℕ) → all_items (λ v. fits v shape) items ≡ true → MeansKind (shaped shape) (operators.there (operators.faulted IndexOutOfRange) (operators.nth_item items n))
+nth_fits : (shape : Shape) (items : Items) (n : ℕ) → all_items (λ v. fits v shape) items ≡ true → MeansKind (shaped shape) (there_or (operators.faulted IndexOutOfRange) (operators.nth_item items n))
 nth_fits shape values.no_items n h = tt
 nth_fits shape (values.item v items) zero h = (both_hold (fits v shape) (all_items (λ v. fits v shape) items) h).0
 nth_fits shape (values.item v items) (suc n) h = nth_fits shape items n (both_hold (fits v shape) (all_items (λ v. fits v shape) items) h).1
 
 -- likewise counted from the end
 from_end : (shape : Shape) (items : Items) (n : ℕ) (within : Bool) → all_items (λ v. fits v shape) items ≡ true
-    → MeansKind (shaped shape) (operators.there (operators.faulted IndexOutOfRange) (if within then operators.nth_item items (count items - suc n) else None))
+    → MeansKind (shaped shape) (there_or (operators.faulted IndexOutOfRange) (if within then operators.nth_item items (count items - suc n) else None))
 from_end shape items n true h = nth_fits shape items (count items - suc n) h
 from_end shape items n false h = tt
 
 -- an item at an index fits, where there is one
 item_fits : (shape : Shape) (items : Items) (index : ℤ) → all_items (λ v. fits v shape) items ≡ true
-    → MeansKind (shaped shape) (operators.there (operators.faulted IndexOutOfRange) (operators.item_at items index))
+    → MeansKind (shaped shape) (there_or (operators.faulted IndexOutOfRange) (operators.item_at items index))
 item_fits shape items (pos n) h = nth_fits shape items n h
 item_fits shape items (negsuc n) h = from_end shape items n (nat_lt n (count items)) h
 

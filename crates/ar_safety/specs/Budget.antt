@@ -1,13 +1,13 @@
 -- What a run may cost at most: the verifier's pass 6. A way forward from an index is a list of operations that a run
 -- may take one after the other, a loop counting as its Enter and, for each item that its list may have, a way through
 -- its body.
-use Rattle.std.specs.Prelude.{◌≡◌, ◌≤◌, ℕ, suc, ◌+◌, ◌*◌, List, ◌∷◌, Some, Result, Ok, Err}
+use Rattle.std.specs.Prelude.{◌≡◌, ◌≤◌, ℕ, suc, ◌+◌, ◌*◌, List, ◌∷◌, Some, Result, Ok, Err, slice_get}
 use Rattle.ar_value.specs.Terms.{Index}
 use Rattle.ar_value.specs.Kind.{Kind, shaped}
 use Rattle.ar_value.specs.Shape.{list}
-use Rattle.ar_value.specs.declared.operator.BinaryOperator.TheVariants.{IsIn}
+use Rattle.ar_value.specs.declared.operator.BinaryOperator.{BinaryOperator}
+use Rattle.ar_value.specs.declared.operator.BinaryOperator.TheVariants as binary
 use Rattle.ar_value.specs.declared.operator.Predicate.{Predicate}
-use Rattle.ar_op.specs.Machine.{nth}
 use Rattle.ar_op.specs.declared.op.Jump.TheVariants.{And, Or, Branch, Always}
 use Rattle.ar_op.specs.declared.op.Op.{Op}
 use Rattle.ar_op.specs.declared.op.Op.TheVariants.{Push, MakeList, Field, Unary, Binary, Jump, Enter, Step, Return}
@@ -25,10 +25,27 @@ abbrev pub most_items : Result Operands Reason → ℕ
 most_items (Ok had) = most_on_top had.kinds
 most_items (Err reason) = 0
 
+abbrev pub operator_price : BinaryOperator → (most : ℕ) → ℕ
+operator_price binary.IsIn most = suc most
+operator_price binary.Index most = 1
+operator_price binary.Default most = 1
+operator_price (binary.Wholes operator) most = 1
+operator_price (binary.Decimals operator) most = 1
+operator_price (binary.Compare of way) most = 1
+operator_price (binary.Equal family) most = 1
+operator_price (binary.TextTest test) most = 1
+
 -- each operation costs 1, and IsIn one more for each item that its list may have
 abbrev pub price : Op → (most : ℕ) → ℕ
-price (Binary IsIn) most = suc most
-price op most = 1
+price (Push source) most = 1
+price (MakeList scalar count) most = 1
+price (Field number) most = 1
+price (Unary operator) most = 1
+price (Binary operator) most = operator_price operator most
+price (Jump jump index) most = 1
+price (Enter predicate step) most = 1
+price (Step predicate enter) most = 1
+price Return most = 1
 
 -- ---- where a run continues
 
@@ -75,7 +92,7 @@ Stops Return = Unit {0}
 
 module _ (ops : List Op) (sents : List Sent) where
   abbrev pub At : (index : Index) → Op → Type 0
-  At index op = nth ops index ≡ Some op
+  At index op = slice_get ops index ≡ Some op
 
   abbrev pub most_at : (index : Index) → ℕ
   most_at index = most_items (arrival index sents)

@@ -1,6 +1,7 @@
 -- What operations that continue at the next index take and give, by the kinds of their operands. The kind Nil is that
 -- of the literal alone: no operation but IsNil and Default takes it.
-use Rattle.std.specs.Prelude.{ℕ, zero, suc, Bool, true, false, ◌&&◌, if◌then◌else◌, List, [], ◌∷◌, Option, Some, None, option_map, option_and_then}
+use Rattle.ar_value.specs.Operators.{same_family}
+use Rattle.std.specs.Prelude.{ℕ, zero, suc, Bool, true, false, ◌&&◌, if◌then◌else◌, List, [], ◌∷◌, Option, Some, None, option_map, option_and_then, slice_get}
 use Rattle.ar_value.specs.Terms.{Text}
 use Rattle.ar_value.specs.Kind.{Kind, nil, shaped, merge, plain, scalar_shape, boolean_kind}
 use Rattle.ar_value.specs.Shape.{Shape, bool, whole, decimal, text, list, object, optional, shape_named}
@@ -19,7 +20,6 @@ use Rattle.ar_value.specs.declared.operator.Scalar.TheVariants as scalars
 use Rattle.ar_value.specs.declared.operator.UnaryOperator.{UnaryOperator}
 use Rattle.ar_value.specs.declared.operator.UnaryOperator.TheVariants as unary
 use Rattle.ar_op.specs.Code.{Code}
-use Rattle.ar_op.specs.Machine.{nth}
 use Rattle.ar_op.specs.declared.op.Op.{Op}
 use Rattle.ar_op.specs.declared.op.Op.TheVariants.{Push, MakeList, Field, Unary, Binary, Jump, Enter, Step, Return}
 use Rattle.ar_op.specs.declared.op.Source.{Source}
@@ -40,10 +40,8 @@ family_in nil = None
 family_in (shaped shape) = family_of (plain shape)
 
 abbrev pub is_family : Family → Option Family → Bool
-is_family families.Boolean (Some families.Boolean) = true
-is_family families.Number (Some families.Number) = true
-is_family families.Text (Some families.Text) = true
-is_family family other = false
+is_family family (Some other) = same_family family other
+is_family family None = false
 
 abbrev pub are_one_family : Option Family → Option Family → Bool
 are_one_family None other = false
@@ -190,7 +188,7 @@ pushed_kind result here sources.Item = option_map shaped here
 -- the field of a record, by the number of its name
 abbrev pub field_kind_left : Code → ℕ → List Kind → Option (List Kind)
 field_kind_left code number kinds =
-    option_and_then (λ name. on_one_kind (field_kind name) kinds) (nth code.names number)
+    option_and_then (λ name. on_one_kind (field_kind name) kinds) (slice_get code.names number)
 
 -- what an operation leaves
 abbrev pub kinds_left : Code → Shape → Option Shape → Op → List Kind → Option (List Kind)

@@ -1,12 +1,12 @@
 -- What the verifier requires of the indexes that operations name, and of loops: its passes 1 to 4. A loop, from its
 -- Enter to its Step, holds the indexes after its Enter up to its Step.
-use Rattle.std.specs.Prelude.{ℕ, zero, suc, ◌-◌, ◌==◌, Bool, true, false, ◌&&◌, if◌then◌else◌, nat_le, nat_lt, List, [], ◌∷◌, length, Option, Some, None, Result, Ok, Err}
+use Rattle.std.specs.Prelude.{ℕ, zero, suc, ◌-◌, ◌==◌, Bool, true, false, ◌&&◌, if◌then◌else◌, nat_le, nat_lt, List, [], ◌∷◌, length, Option, Some, None, Result, Ok, Err, slice_get}
 use Rattle.ar_value.specs.Terms.{Index}
 use Rattle.ar_value.specs.Answer.{◌>>=◌}
 use Rattle.ar_value.specs.Predicates.{is_same}
 use Rattle.ar_value.specs.declared.operator.Predicate.{Predicate}
 use Rattle.ar_value.specs.Limits.{most_loops}
-use Rattle.ar_op.specs.Machine.{begins_loop, nth}
+use Rattle.ar_op.specs.Machine.{begins_loop}
 use Rattle.ar_op.specs.declared.op.Op.{Op}
 use Rattle.ar_op.specs.declared.op.Op.TheVariants.{Push, MakeList, Field, Unary, Binary, Jump, Enter, Step, Return}
 use Rattle.ar_safety.specs.declared.error.Cause.{Cause}
@@ -60,10 +60,10 @@ module _ (ops : List Op) where
   abbrev pub names_well : Pass
   names_well index (Jump jump target) = forward index target
   names_well index (Enter predicate step) =
-      or_else (forward index step) (unless (ends_loop predicate index (nth ops step)) UnpairedLoop)
+      or_else (forward index step) (unless (ends_loop predicate index (slice_get ops step)) UnpairedLoop)
   names_well index (Step predicate enter) =
       or_else (inside_code enter)
-      (unless (nat_lt enter index && begins_loop predicate index (nth ops enter)) UnpairedLoop)
+      (unless (nat_lt enter index && begins_loop predicate index (slice_get ops enter)) UnpairedLoop)
   names_well index (Push source) = None
   names_well index (MakeList scalar count) = None
   names_well index (Field number) = None
@@ -88,7 +88,7 @@ module _ (ops : List Op) where
   abbrev pub loops_among : (index : Index) → ℕ → List ℕ
   loops_among index zero = []
   loops_among index (suc enter) =
-      if loop_reaches (nth ops enter) index then enter ∷ loops_among index enter else loops_among index enter
+      if loop_reaches (slice_get ops enter) index then enter ∷ loops_among index enter else loops_among index enter
 
   -- the Enters of the loops that hold `index`, the innermost first
   abbrev pub loops_around : (index : Index) → List ℕ
@@ -97,7 +97,7 @@ module _ (ops : List Op) where
   -- whether a Step is inside the innermost of some loops
   abbrev pub in_innermost : List ℕ → (step : Index) → Bool
   in_innermost [] step = true
-  in_innermost (enter ∷ outer) step = loop_reaches (nth ops enter) step
+  in_innermost (enter ∷ outer) step = loop_reaches (slice_get ops enter) step
 
   abbrev pub stays : (index target : Index) → Option Reason
   stays index target = unless (same_loops (loops_around index) (loops_around target)) CrossesLoop
@@ -122,7 +122,7 @@ is_return (Some Return) = true
 is_return op = false
 
 abbrev pub ends_in_return : List Op → Result (Unit {0}) Cause
-ends_in_return ops = if is_return (nth ops (length ops - 1)) then Ok tt else Err (Fault (length ops - 1) NoReturn)
+ends_in_return ops = if is_return (slice_get ops (length ops - 1)) then Ok tt else Err (Fault (length ops - 1) NoReturn)
 
 -- ---- the passes 1 to 4, one after the other; each begins where the one before it found nothing
 

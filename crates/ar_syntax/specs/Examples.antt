@@ -1,7 +1,7 @@
 -- Tokens with their trees, computed by the machine.
+use Rattle.ar_syntax.specs.Condition.{strict}
 use Rattle.std.specs.Prelude.{◌≡◌, ℕ, false, true, pos, List, codes, Option, Some, None, Result, Ok, Err, refl}
 use Rattle.ar_tree.specs.Expression.{Expression, ResultAt, ItemAt, LiteralAt, FieldAt, IndexAt, UnaryAt, BinaryAt, ChoiceAt, ListAt, LenAt, IsNilAt, DefaultAt, PredicateAt, none, more}
-use Rattle.ar_syntax.specs.Grammar.{Rules}
 use Rattle.ar_syntax.specs.Machine.{parser_step, tree_by}
 use Rattle.ar_syntax.specs.Roles.{follows, is_brace, is_group, is_in, field_name_of, begun_by, literal_text}
 use Rattle.ar_syntax.specs.Token.{word_of}
@@ -15,9 +15,6 @@ use Rattle.ar_value.specs.declared.operator.Predicate.TheVariants.{All}
 use Rattle.ar_value.specs.declared.operator.Predicate.TheVariants as predicates
 use Rattle.ar_value.specs.declared.operator.TextTest.TheVariants.{Contains, StartsWith, EndsWith}
 use Rattle.ar_tree.specs.declared.tree.Unary.TheVariants as unaries
-
-abbrev strict : Rules
-strict = record { any_depth = false; any_items = false; any_count = false }
 
 abbrev said : Result (List Token) SyntaxError → Option Expression
 said (Ok tokens) = tree_by strict tokens

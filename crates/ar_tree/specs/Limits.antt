@@ -14,7 +14,10 @@ IsShort text = length text ≤ most_text_bytes
 
 abbrev pub IsShortLiteral : Literal → Type 0
 IsShortLiteral (literals.Text letters) = IsShort letters
-IsShortLiteral literal = Unit {0}
+IsShortLiteral literals.Nil = Unit {0}
+IsShortLiteral (literals.Bool holds) = Unit {0}
+IsShortLiteral (literals.Whole value) = Unit {0}
+IsShortLiteral (literals.Decimal millionths) = Unit {0}
 
 abbrev mutual
   pub WrittenInLimits : Expression → Type 0

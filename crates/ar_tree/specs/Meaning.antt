@@ -1,8 +1,8 @@
 -- What a typed condition means where `result` has a value, and so has the innermost item: a value, or a fault,
 -- or neither where operands are of wrong kinds.
 use Rattle.std.specs.Prelude.{◌==◌, pos, Bool, true, false, if◌then◌else◌, Option, Some, None, Result, Ok, Err, ◌≡◌, [], ◌∷◌, refl, ℤ}
-use Rattle.ar_value.specs.Answer.{◌>>=◌}
-use Rattle.ar_value.specs.Operators.{Failure, Meaning, faulted, field_in, ill_kinded, items_in, unary_meaning, scalar_item, there, boolean, binary_meaning}
+use Rattle.ar_value.specs.Answer.{◌>>=◌, there_or}
+use Rattle.ar_value.specs.Operators.{Failure, Meaning, faulted, field_in, ill_kinded, items_in, unary_meaning, scalar_item, boolean, binary_meaning}
 use Rattle.ar_value.specs.Value.{Value, Items, nil, bool, whole, decimal, text, list, no_items, item, count}
 use Rattle.ar_value.specs.declared.fault.Fault.{Fault}
 use Rattle.ar_tree.specs.declared.tree.Literal.{Literal}
@@ -63,7 +63,7 @@ abbrev mutual
   -- Operands are evaluated from left to right, and the first fault is the meaning.
   pub mean : Value → Option Value → Typed → Meaning
   mean result here typed.result = Ok result
-  mean result here typed.item = there ill_kinded here
+  mean result here typed.item = there_or ill_kinded here
   mean result here (typed.literal literal) = Ok (literal_value literal)
   mean result here (typed.field owner name) = mean result here owner >>= field_in name
   mean result here (typed.unary operator operand) = mean result here operand >>= unary_meaning operator

@@ -6,7 +6,6 @@ use Rattle.ar_tree.specs.Typed.{Typed, Typeds, typeds}
 use Rattle.ar_tree.specs.Typed as typed
 use Rattle.ar_tree.specs.declared.typed.Typed.{Typed as TypedCode, fold-Typed}
 use Rattle.ar_tree.specs.declared.typed.Typed.TheOpen.{Typed-F, TypedItems-F}
-use Rattle.ar_tree.specs.declared.typed.TypedItems.{TypedItems as TypedItemsCode, fold-TypedItems}
 
 -- ---- trees
 
@@ -56,6 +55,3 @@ typed_items_step t = typeds t.items.items
 
 abbrev pub typed_view : TypedCode → Typed
 typed_view = fold-Typed Typed Typeds typed_step typed_items_step
-
-abbrev pub typed_items_view : TypedItemsCode → Typeds
-typed_items_view = fold-TypedItems Typed Typeds typed_step typed_items_step

@@ -23,6 +23,12 @@ gathers predicates.One = Number
 gathers predicates.Count = Number
 gathers predicates.Filter = Items
 
+-- whether a loop keeps the items themselves
+abbrev pub keeps_items : Gather → Bool
+keeps_items Nothing = false
+keeps_items Number = false
+keeps_items Items = true
+
 abbrev pub predicate_number : Predicate → ℕ
 predicate_number predicates.All = 0
 predicate_number predicates.Any = 1

@@ -13,7 +13,6 @@ use Rattle.ar_value.specs.declared.shape.FieldShapes.{FieldShapes as FieldShapes
 use Rattle.ar_value.specs.declared.value.Value.{Value as ValueCode, fold-Value}
 use Rattle.ar_value.specs.declared.value.Value.TheOpen.{Value-F, Fields-F, Values-F}
 use Rattle.ar_value.specs.declared.value.Fields.{Fields as FieldsCode, fold-Fields}
-use Rattle.ar_value.specs.declared.value.Values.{Values as ValuesCode, fold-Values}
 
 -- One level of a value, with what is inside already seen. A record has a field for each name, nil where it has no
 -- value.
@@ -38,9 +37,6 @@ value_view = fold-Value Value Fields Items value_step fields_step values_step
 
 abbrev pub fields_view : FieldsCode → Fields
 fields_view = fold-Fields Value Fields Items value_step fields_step values_step
-
-abbrev pub values_view : ValuesCode → Items
-values_view = fold-Values Value Fields Items value_step fields_step values_step
 
 -- One level of a shape, in the same way.
 

@@ -1,6 +1,6 @@
 -- Pass 5 moves from one index to the next, and what its table shows is what arrives.
 use Rattle.std.proofs.Common.{◌≡◌, ◌≢◌, ◌<◌, ◌≤◌, ℕ, zero, suc, ◌+◌, max, Bool, true, false, List, [], ◌∷◌, ◌++◌, drop, length, replicate, Option, Some, None, Result, Ok, Err, refl, sym, ap, subst, ◌∙◌, arith, add-one, append_assoc, drop-cons}
-use Rattle.std.specs.Prelude.{◌==◌, if◌then◌else◌, slice_index_or}
+use Rattle.std.specs.Prelude.{◌==◌, if◌then◌else◌, slice_index_or, slice_get}
 use Rattle.std.specs.List.{AllByRecursion}
 use Rattle.std.proofs.lemmas.Bool.Decides.{nat_tests}
 use Rattle.std.proofs.Math.ListN.{drop_of_length-le}
@@ -10,7 +10,6 @@ use Rattle.ar_value.specs.Kind.{Kind}
 use Rattle.ar_value.specs.Shape.{Shape}
 use Rattle.ar_op.specs.Code.{Code}
 use Rattle.ar_op.specs.declared.op.Op.{Op}
-use Rattle.ar_op.specs.Machine.{nth}
 use Rattle.ar_safety.specs.Arrivals.{Around, Operands, Sent, all_sent, arrival, arrived, at_index, deepest, merged_all, merged, of_loops, operands, sends, sent, sent_on, sent_to}
 use Rattle.ar_safety.specs.Budget.{most_items, most_on_top}
 use Rattle.ar_safety.specs.Memory.{is_memory}
@@ -158,7 +157,7 @@ module _ (code : Code) (shape : Shape) (named : all_pass (names_well code.ops) 0
     abbrev rest : List Op
     rest = drop (suc index) code.ops
 
-    there : nth code.ops index ≡ Some op
+    there : slice_get code.ops index ≡ Some op
     there = nth_at code.ops index default within ∙ ap Some (sym is)
 
     first_left : drop index code.ops ≡ op ∷ rest

@@ -1,12 +1,11 @@
 -- Costs of the most expensive ways, index by index from the end; those above the greatest budget count as one more.
 use Rattle.std.proofs.Common.{◌≡◌, ◌<◌, ℕ, zero, suc, ◌+◌, ◌-◌, ◌*◌, min, max, List, length, get_or, get_or-set_other, get_or-set_same, Some, refl, sym, ap, subst, inl, inr, ◌∙◌, arith}
-use Rattle.std.specs.Prelude.{◌⊎◌, ◌≢◌, false, slice_set}
+use Rattle.std.specs.Prelude.{◌⊎◌, ◌≢◌, false, slice_set, slice_get}
 use Rattle.std.proofs.lemmas.Bool.Decides.{leb_tells}
 use Rattle.std.proofs.Math.Nat.{mul-le-mul_left}
 use Rattle.ar_value.specs.Shape.{Shape}
 use Rattle.ar_value.specs.declared.operator.Predicate.{Predicate}
 use Rattle.ar_op.specs.Code.{Code}
-use Rattle.ar_op.specs.Machine.{nth}
 use Rattle.ar_op.specs.declared.op.Op.{Op}
 use Rattle.ar_op.specs.declared.op.Jump.TheVariants.{And, Or, Branch, Always}
 use Rattle.ar_op.specs.declared.op.Op.TheVariants.{Push, Jump, Enter, Step, Return}
@@ -43,7 +42,7 @@ loop_capped most body inner later number is also = let product = product_capped 
 
 module _ (code : Code) (shape : Shape) (sents : List Sent) (is : Clean code shape sents) where
   abbrev At : (index : ℕ) → Op → Type 0
-  At index op = nth code.ops index ≡ Some op
+  At index op = slice_get code.ops index ≡ Some op
 
   abbrev due_from : ℕ → ℕ
   due_from index = due code shape sents is index
@@ -158,10 +157,10 @@ module _ (code : Code) (shape : Shape) (sents : List Sent) (is : Clean code shap
 
 -- ---- the table of numbers, from the code's end
 
-pub leads_inside : (code : Code) (index : ℕ) (op : Op) → HasPassed code → nth code.ops index ≡ Some op → LeadsInside (length code.ops) index op
+pub leads_inside : (code : Code) (index : ℕ) (op : Op) → HasPassed code → slice_get code.ops index ≡ Some op → LeadsInside (length code.ops) index op
 leads_inside code index op has there = leads code has.0 has.1.0 (clean code has.0 has.1.0 has.1.1) index op there
   where
-    leads : (code : Code) (shape : Shape) (sents : List Sent) (is : Clean code shape sents) (index : ℕ) (op : Op) → nth code.ops index ≡ Some op → LeadsInside (length code.ops) index op
+    leads : (code : Code) (shape : Shape) (sents : List Sent) (is : Clean code shape sents) (index : ℕ) (op : Op) → slice_get code.ops index ≡ Some op → LeadsInside (length code.ops) index op
     leads code shape sents is index (Jump And target) there = (not_last code shape sents is index (Jump And target) there tt, (jumps_well code shape sents is index target (Jump And target) refl there).1)
     leads code shape sents is index (Jump Or target) there = (not_last code shape sents is index (Jump Or target) there tt, (jumps_well code shape sents is index target (Jump Or target) refl there).1)
     leads code shape sents is index (Jump Branch target) there = (not_last code shape sents is index (Jump Branch target) there tt, (jumps_well code shape sents is index target (Jump Branch target) refl there).1)
@@ -174,14 +173,14 @@ leads_inside code index op has there = leads code has.0 has.1.0 (clean code has.
     leads code shape sents is index op there = not_last code shape sents is index op there tt
 
 -- the number of the index before, once those after it are there
-own_cost : (code : Code) (most costs : List ℕ) (index : ℕ) (op : Op) → nth code.ops index ≡ Some op → AreCosts code most (suc index) costs → IsCost code most index (cost_by costs index (number_at most index) op)
+own_cost : (code : Code) (most costs : List ℕ) (index : ℕ) (op : Op) → slice_get code.ops index ≡ Some op → AreCosts code most (suc index) costs → IsCost code most index (cost_by costs index (number_at most index) op)
 own_cost code most costs index op there later shape sents passes are =
     let is = clean code shape sents passes in
     let inside = is_below code.ops index op there in
     let capped = capped_by code shape sents is index costs (λ other ahead within. one_number code shape sents is other (number_at costs other) within (later other (omega arith) within shape sents passes are)) op there in
     represents code shape sents is index _ inside (rw (are index inside) capped)
 
-one_more : (code : Code) (most costs : List ℕ) (index : ℕ) (op : Op) → length costs ≡ length code.ops → nth code.ops index ≡ Some op → AreCosts code most (suc index) costs
+one_more : (code : Code) (most costs : List ℕ) (index : ℕ) (op : Op) → length costs ≡ length code.ops → slice_get code.ops index ≡ Some op → AreCosts code most (suc index) costs
     → AreCosts code most index (slice_set costs index (cost_by costs index (number_at most index) op))
 one_more code most costs index op same there later other le inside = elim (leb_tells other index) [
   | inl w ↦ (
@@ -197,8 +196,8 @@ module _ (code : Code) (ops : List Op) (same_ops : ops ≡ code.ops) (from : ℕ
   abbrev op_before : Op
   op_before = get_or ops (from - 1) (Push (sources.Bool false))
 
-  op_there : from - 1 < length ops → nth code.ops (from - 1) ≡ Some op_before
-  op_there inside = ap (λ ops. nth ops (from - 1)) (sym same_ops) ∙ nth_at ops (from - 1) (Push (sources.Bool false)) inside
+  op_there : from - 1 < length ops → slice_get code.ops (from - 1) ≡ Some op_before
+  op_there inside = ap (λ ops. slice_get ops (from - 1)) (sym same_ops) ∙ nth_at ops (from - 1) (Push (sources.Bool false)) inside
 
   pub leads_before : HasPassed code → from - 1 < length ops → LeadsInside (length borrowed) (from - 1) op_before
   leads_before has inside =

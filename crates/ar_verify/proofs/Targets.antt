@@ -1,13 +1,12 @@
 -- Operations send on to indexes that the code has, or to the one after them.
 use Rattle.std.proofs.Common.{◌≡◌, ◌<◌, ℕ, suc, ◌+◌, Bool, true, false, List, [], ◌∷◌, length, Option, Some, None, Result, Ok, Err, sym, arith}
-use Rattle.std.specs.Prelude.{if◌then◌else◌}
+use Rattle.std.specs.Prelude.{if◌then◌else◌, slice_get}
 use Rattle.std.specs.List.{AllByRecursion}
 use Rattle.ar_value.specs.Answer.{◌>>=◌}
 use Rattle.ar_value.specs.Kind.{Kind}
 use Rattle.ar_value.specs.Shape.{Shape}
 use Rattle.ar_value.specs.declared.operator.Predicate.{Predicate}
 use Rattle.ar_op.specs.Code.{Code}
-use Rattle.ar_op.specs.Machine.{nth}
 use Rattle.ar_op.specs.declared.op.Jump.{Jump}
 use Rattle.ar_op.specs.declared.op.Jump.TheVariants as jumps
 use Rattle.ar_op.specs.declared.op.Op.{Op}
@@ -90,6 +89,6 @@ module _ (all : List Op) (index : ℕ) where
   pub stays_within : (op : Op) → names_well all index op ≡ None → StaysWithin (suc (length all)) op
   stays_within (ops.Jump jump target) well = ahead target well
   stays_within (ops.Enter predicate step) well =
-      let each = none_of_both (forward all index step) (unless (ends_loop predicate index (nth all step)) UnpairedLoop) well in
+      let each = none_of_both (forward all index step) (unless (ends_loop predicate index (slice_get all step)) UnpairedLoop) well in
       let inside = (is_ahead all index step each.0).1 in omega arith
   stays_within op well = tt

@@ -1,10 +1,9 @@
 //! What operations that continue at the next index give of the kinds on a stack, which they take. What
 //! they give isn't pushed here.
 
-ghost use Rattle.std.specs.Prelude.{◌≡◌, IfOk, Some, map, option_map, string_bytes};
+ghost use Rattle.std.specs.Prelude.{◌≡◌, IfOk, Some, map, option_map, string_bytes, slice_get};
 ghost use Rattle.ar_value.specs.Kind.{shaped, scalar_shape};
 ghost use Rattle.ar_value.specs.View.{shape_view};
-ghost use Rattle.ar_op.specs.Machine.{nth};
 ghost use Rattle.ar_safety.specs.Effects.{binary_kind, kinds_left, field_kind_left, list_kind_left, on_one_kind, on_two_kinds, pushed_kind, unary_kind};
 ghost use Rattle.ar_verify.specs.Private.Kinds.{parts_kind};
 ghost use Rattle.ar_verify.specs.Private.Shapes.{list_of};
@@ -122,7 +121,7 @@ fn binary<M: ShapeName>(
 
 /// The name of a number.
 fn name_at(names: &[String], number: u32) -> Option<&str>
-    ensures { option_map (λ name. name.now) result ≡ nth (map string_bytes names.now) number }
+    ensures { option_map (λ name. name.now) result ≡ slice_get (map string_bytes names.now) number }
 {
     let number = number as usize;
     if number < names.len() {

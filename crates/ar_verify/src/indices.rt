@@ -2,9 +2,9 @@
 //! on, a loop's Enter and Step name each other, loops are nested, and the last operation is
 //! Return.
 
-ghost use Rattle.std.specs.Prelude.{◌≡◌};
+ghost use Rattle.std.specs.Prelude.{◌≡◌, slice_get};
 ghost use Rattle.ar_value.specs.Answer.{Gives};
-ghost use Rattle.ar_op.specs.Machine.{begins_loop, nth};
+ghost use Rattle.ar_op.specs.Machine.{begins_loop};
 ghost use Rattle.ar_value.specs.Predicates.{is_same};
 ghost use Rattle.ar_op.specs.declared.op.Op.TheVariants.{Enter, Step};
 ghost use Rattle.ar_safety.specs.Memory.{is_memory};
@@ -18,7 +18,7 @@ use std::alloc::Global;
 
 /// The operation at `index`.
 fn op_at(ops: &[Op], index: usize) -> Option<Op>
-    ensures { result ≡ nth ops.now index }
+    ensures { result ≡ slice_get ops.now index }
 {
     if index < ops.len() {
         Some(ops[index])

@@ -1,7 +1,7 @@
 -- Samples that suit the shape that a judge was built under.
+use Rattle.ar_judge.specs.Condition.{Condition}
 use Rattle.std.proofs.Common.{ℕ, List, Option, Some, None}
 use Rattle.ar_value.specs.Shape.{Shape}
-use Rattle.ar_judge.specs.Headline.{Condition}
 use Rattle.ar_judge.specs.Judging.{Suits}
 use Rattle.ar_judge.specs.Verdict.{AreBuilt, IsJudge, Judge, Sample}
 use Rattle.ar_bundle.specs.Sound.{IsOfShape, JudgesShape, SampleSuits}

@@ -1,11 +1,10 @@
 -- Where in code the code of a tree is: between the list of operations and what the machine does.
-use Rattle.std.specs.Prelude.{◌≡◌, ℕ, ◌+◌, List, Some}
+use Rattle.std.specs.Prelude.{◌≡◌, ℕ, ◌+◌, List, Some, slice_get}
 use Rattle.ar_tree.specs.Typed.{Typed, Typeds, how_many}
 use Rattle.ar_tree.specs.Typed as typed
 use Rattle.ar_tree.specs.declared.tree.Literal.{Literal}
 use Rattle.ar_tree.specs.declared.tree.Literal.TheVariants as literals
 use Rattle.ar_op.specs.Code.{Code}
-use Rattle.ar_op.specs.Machine.{nth}
 use Rattle.ar_op.specs.declared.op.Jump.TheVariants as jumps
 use Rattle.ar_op.specs.declared.op.Op.{Op}
 use Rattle.ar_op.specs.declared.op.Op.TheVariants.{Push, MakeList, Field, Unary, Binary, Jump, Enter, Step}
@@ -14,13 +13,13 @@ use Rattle.ar_compile.specs.Length.{operations, operations_of_items}
 
 module _ (code : Code) where
   abbrev pub At : (index : ℕ) → Op → Type 0
-  At index op = nth code.ops index ≡ Some op
+  At index op = slice_get code.ops index ≡ Some op
 
   abbrev pub PushesText : (index : ℕ) → List ℕ → Type 0
-  PushesText index letters = (n : ℕ) × At index (Push (sources.Text n)) × (nth code.texts n ≡ Some letters)
+  PushesText index letters = (n : ℕ) × At index (Push (sources.Text n)) × (slice_get code.texts n ≡ Some letters)
 
   abbrev pub TakesField : (index : ℕ) → List ℕ → Type 0
-  TakesField index name = (n : ℕ) × At index (Field n) × (nth code.names n ≡ Some name)
+  TakesField index name = (n : ℕ) × At index (Field n) × (slice_get code.names n ≡ Some name)
 
   abbrev pub IsLiteralAt : (index : ℕ) → Literal → Type 0
   IsLiteralAt index literals.Nil = At index (Push sources.Nil)

@@ -1,8 +1,8 @@
 -- Conditions that the parts of earlier runs have, while those of later runs are made.
+use Rattle.ar_judge.specs.Condition.{Condition}
 use Rattle.std.specs.Prelude.{◌≡◌, ℕ, List, slice_get, Some}
 use Rattle.ar_value.specs.View.{shape_view}
 use Rattle.ar_judge.specs.Built.{IsBuilt}
-use Rattle.ar_judge.specs.Headline.{Condition}
 use Rattle.ar_judge.specs.Judging.{condition_as}
 use Rattle.ar_judge.specs.Verdict.{Judge}
 use Rattle.ar_judge.specs.declared.judge.Which.{Which}

@@ -1,8 +1,8 @@
 -- What a metric's text is built to, where it has one.
+use Rattle.ar_judge.specs.Condition.{Condition}
 use Rattle.std.specs.Prelude.{◌≡◌, ℕ, List, Option, Some, Result, Ok, Err}
 use Rattle.ar_value.specs.Shape.{Shape}
-use Rattle.ar_judge.specs.Headline.{Condition}
-use Rattle.ar_judge.specs.Condition.{IsRefused}
+use Rattle.ar_judge.specs.Saying.{IsRefused}
 use Rattle.ar_judge.specs.Verdict.{AreBuilt}
 use Rattle.ar_judge.specs.declared.error.BuildCause.{BuildCause}
 use Rattle.ar_judge.specs.declared.error.BuildCause.TheVariants.{OutOfMemory}

@@ -1,4 +1,5 @@
 -- The code of a condition's text, and how it runs.
+use Rattle.ar_judge.specs.Condition.{condition_with}
 use Rattle.std.specs.Prelude.{◌≡◌, ◌≤◌, ℕ, Bool, true, List, Option, Some, None, Result, Ok, Err}
 use Rattle.ar_value.specs.Fits.{fits}
 use Rattle.ar_value.specs.Shape.{Shape}
@@ -13,8 +14,8 @@ use Rattle.ar_compile.specs.Compiled.{compiled}
 use Rattle.ar_compile.specs.Ends.{EndsAsMeant}
 use Rattle.ar_compile.specs.Length.{length_of}
 use Rattle.ar_safety.specs.Bounds.{Verified}
-use Rattle.ar_judge.specs.Condition.{IsRefused, typed_text}
-use Rattle.ar_judge.specs.Headline.{HeadlineHolds, condition_with}
+use Rattle.ar_judge.specs.Saying.{IsRefused, typed_text}
+use Rattle.ar_judge.specs.Headline.{HeadlineHolds}
 use Rattle.ar_judge.specs.Verdict.{Said, absent, says}
 use Rattle.ar_judge.specs.declared.error.BuildCause.{BuildCause}
 

@@ -19,7 +19,3 @@ abbrev mutual
   same_fields (field name left lefts) (field of right rights) =
       (bytes_eq name of && same_shape left right) && same_fields lefts rights
   same_fields left right = false
-
--- a name and a shape
-abbrev pub same_field : (left right : List ℕ × Shape) → Bool
-same_field left right = bytes_eq left.0 right.0 && same_shape left.1 right.1

@@ -2,7 +2,6 @@
 -- the current operation, the outermost first.
 use Rattle.std.specs.Prelude.{◌≡◌, ℕ, ◌+◌, ◌-◌, ◌==◌, ◌<◌, Bool, true, ◌&&◌, nat_le, nat_lt, List, [], ◌∷◌, ◌++◌, length, drop, take, Option, Some, None, slice_get, slice_index_or}
 use Rattle.ar_value.specs.Limits.{most_loops}
-use Rattle.ar_op.specs.Machine.{nth}
 use Rattle.ar_op.specs.declared.op.Op.{Op}
 use Rattle.ar_op.specs.declared.op.Op.TheVariants.{Jump, Enter, Step, Return}
 use Rattle.ar_safety.specs.Indices.{all_pass, loops_around, nests_well, or_else, unless}
@@ -36,7 +35,7 @@ step_of op = 0
 -- of the loops of some Enters, the innermost of which is the first
 abbrev pub open_steps : List Op → List ℕ → List ℕ
 open_steps ops [] = []
-open_steps ops (enter ∷ outer) = open_steps ops outer ++ step_of (nth ops enter) ∷ []
+open_steps ops (enter ∷ outer) = open_steps ops outer ++ step_of (slice_get ops enter) ∷ []
 
 abbrev pub open_after : Op → List ℕ → List ℕ
 open_after (Enter predicate step) steps = steps ++ step ∷ []
@@ -66,7 +65,7 @@ nests_by around innermost index op = None
 -- of the loops that hold `index`
 abbrev pub IsNested : List Op → (index : ℕ) → (steps : List ℕ) → Type 0
 IsNested ops index steps = (steps ≡ open_steps ops (loops_around ops index))
-    × ((before : ℕ) (op : Op) → before < index → nth ops before ≡ Some op → nests_well ops before op ≡ None)
+    × ((before : ℕ) (op : Op) → before < index → slice_get ops before ≡ Some op → nests_well ops before op ≡ None)
     × (all_pass (nests_well ops) index (drop index ops) ≡ all_pass (nests_well ops) 0 ops)
 
 -- where jumps name indexes that are counted
