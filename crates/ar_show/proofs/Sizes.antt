@@ -54,6 +54,15 @@ second_below rank part first held whole made t small is_part is deeper before =
     let same_part : size-Typed part ≡ size-Typed held = ap size-Typed is_part in
     omega arith
 
+-- on two parts
+pub both_below : (rank : ℕ) (left right held other whole made : Typed) (t : ℕ) → rank < 8 → left ≡ held → right ≡ other → whole ≡ made
+    → max (size-Typed held) (size-Typed other) < size-Typed made → 8 * size-Typed whole ≡ t → 8 * max (size-Typed left) (size-Typed right) + rank < t
+both_below rank left right held other whole made t small is_left is_right is deeper before =
+    let same : size-Typed whole ≡ size-Typed made = ap size-Typed is in
+    let same_left : size-Typed left ≡ size-Typed held = ap size-Typed is_left in
+    let same_right : size-Typed right ≡ size-Typed other = ap size-Typed is_right in
+    omega arith
+
 -- on one of three parts
 pub among_three : (rank : ℕ) (part condition first other held whole made : Typed) (t : ℕ) → rank < 8 → part ≡ held → whole ≡ made
     → max (size-Typed condition) (max (size-Typed first) (size-Typed other)) < size-Typed made

@@ -3,7 +3,7 @@
 ghost use Rattle.std.specs.Prelude.{◌≡◌, ◌++◌, OnOk, codes, map, string_bytes, true};
 ghost use Rattle.ar_tree.specs.Typed.{typeds};
 ghost use Rattle.ar_tree.specs.Views.{typed_view};
-ghost use Rattle.ar_show.specs.PartText.{has_sides, has_sign, operand_text, owner_text, shown_part, shown_parts, side_text, unary_text};
+ghost use Rattle.ar_show.specs.PartText.{field_text, has_sides, has_sign, operand_text, owner_text, shown_part, shown_parts, side_text, unary_text};
 ghost use Rattle.ar_show.specs.Private.Sides.{left_side, right_side};
 ghost use Rattle.ar_show.specs.Words.{between};
 
@@ -64,10 +64,7 @@ pub fn push_part(out: &mut String, part: &Typed) -> Result<(), AllocError>
         Typed::Result => out.push_str("result"),
         Typed::Item => out.push_str("#"),
         Typed::Literal(literal) => push_literal(out, literal),
-        Typed::Field { owner, name } => {
-            push_owner(out, owner)?;
-            push_field_name(out, name.as_str())
-        }
+        Typed::Field { owner, name } => push_field(out, owner, name.as_str()),
         Typed::Unary { operator, operand } => push_unary(out, *operator, operand),
         Typed::Binary {
             operator,
@@ -77,14 +74,8 @@ pub fn push_part(out: &mut String, part: &Typed) -> Result<(), AllocError>
             push_left(out, *operator, left)?;
             push_right(out, *operator, right)
         }
-        Typed::And { left, right } => {
-            push_operand(out, left)?;
-            push_side(out, "and", right)
-        }
-        Typed::Or { left, right } => {
-            push_operand(out, left)?;
-            push_side(out, "or", right)
-        }
+        Typed::And { left, right } => push_joined(out, left, "and", right),
+        Typed::Or { left, right } => push_joined(out, left, "or", right),
         Typed::Choice {
             condition,
             then_branch,
@@ -158,6 +149,27 @@ fn push_side(out: &mut String, word: &str, right: &Typed) -> Result<(), AllocErr
     out.push_str(word)?;
     out.push_str(" ")?;
     push_operand(out, right)
+}
+
+/// A field, after what it is taken of.
+#[cycle(push_part)]
+fn push_field(out: &mut String, owner: &Typed, name: &str) -> Result<(), AllocError>
+    ensures { OnOk result (string_bytes out.new ≡ string_bytes out.old
+        ++ (owner_text (typed_view owner.now) (shown_part (typed_view owner.now)) ++ field_text name.now)) }
+{
+    push_owner(out, owner)?;
+    push_field_name(out, name)
+}
+
+/// Two operands with a word between them.
+#[cycle(push_part)]
+fn push_joined(out: &mut String, left: &Typed, word: &str, right: &Typed) -> Result<(), AllocError>
+    ensures { OnOk result (string_bytes out.new ≡ string_bytes out.old
+        ++ (operand_text (typed_view left.now) (shown_part (typed_view left.now))
+        ++ side_text word.now (typed_view right.now) (shown_part (typed_view right.now)))) }
+{
+    push_operand(out, left)?;
+    push_side(out, word, right)
 }
 
 /// A sign and the operand after it.

@@ -1,4 +1,4 @@
-use Rattle.std.proofs.Common.{◌≡◌, true, ◌+◌, ◌*◌, ◌++◌, drop, map, string_bytes}
+use Rattle.std.proofs.Common.{◌≡◌, true, ◌+◌, ◌*◌, ◌++◌, drop, map, max, string_bytes}
 use Rattle.ar_tree.specs.Typed.{typeds}
 use Rattle.ar_tree.specs.Views.{typed_view}
 use Rattle.ar_tree.specs.declared.typed.Typed.{size-Typed}
@@ -41,6 +41,12 @@ decreases-push_left l = 8 * size-Typed l.left.now + 3
 
 abbrev pub decreases-push_list : goal.decreases-push_list
 decreases-push_list l = 8 * goal.size-push_list l + 3
+
+abbrev pub decreases-push_field : goal.decreases-push_field
+decreases-push_field l = 8 * size-Typed l.owner.now + 3
+
+abbrev pub decreases-push_joined : goal.decreases-push_joined
+decreases-push_joined l = 8 * max (size-Typed l.left.now) (size-Typed l.right.now) + 4
 
 abbrev pub decreases-push_unary : goal.decreases-push_unary
 decreases-push_unary l = 8 * size-Typed l.operand.now + 4
