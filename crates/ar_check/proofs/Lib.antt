@@ -19,3 +19,4 @@ pub mod KindTable
 pub mod Conditions
 pub mod Turns
 pub mod Offsets
+pub mod Sizes

@@ -16,48 +16,48 @@ invariant-typed_items-loop-tree l =
     (items_typed (shape_view l.scope.measured.now) (option_map (λ shape. shape_view shape.now) l.scope.item) l.scope.around (expressions (map expression_of l.fn.trees.items))
     ≡ later (shape_view l.scope.measured.now) (option_map (λ shape. shape_view shape.now) l.scope.item) l.scope.around (map item_view l.items.items) (expressions (map expression_of (into_iter_items l.tree-iterator))))
 
--- four times the depth that is left; what is called with all of it is lower among the four
+-- eight times the depth that is left; what is called with all of it is lower among the eight
 abbrev pub decreases-typed : goal.decreases-typed
-decreases-typed l = 4 * goal.size-typed l
+decreases-typed l = 8 * goal.size-typed l
 
 abbrev pub decreases-child : goal.decreases-child
-decreases-child l = 4 * goal.size-child l + 1
+decreases-child l = 8 * goal.size-child l + 1
 
 abbrev pub decreases-typed_item : goal.decreases-typed_item
-decreases-typed_item l = 4 * goal.size-typed_item l + 1
+decreases-typed_item l = 8 * goal.size-typed_item l + 1
 
 abbrev pub decreases-typed_items : goal.decreases-typed_items
-decreases-typed_items l = 4 * goal.size-typed_items l + 2
+decreases-typed_items l = 8 * goal.size-typed_items l + 2
 
 abbrev pub decreases-typed_body : goal.decreases-typed_body
-decreases-typed_body l = 4 * goal.size-typed_body l + 2
+decreases-typed_body l = 8 * goal.size-typed_body l + 2
 
 abbrev pub decreases-typed_field : goal.decreases-typed_field
-decreases-typed_field l = 4 * goal.size-typed_field l + 3
+decreases-typed_field l = 8 * goal.size-typed_field l + 3
 
 abbrev pub decreases-typed_unary : goal.decreases-typed_unary
-decreases-typed_unary l = 4 * goal.size-typed_unary l + 3
+decreases-typed_unary l = 8 * goal.size-typed_unary l + 3
 
 abbrev pub decreases-typed_list : goal.decreases-typed_list
-decreases-typed_list l = 4 * goal.size-typed_list l + 3
+decreases-typed_list l = 8 * goal.size-typed_list l + 3
 
 abbrev pub decreases-typed_len : goal.decreases-typed_len
-decreases-typed_len l = 4 * goal.size-typed_len l + 3
+decreases-typed_len l = 8 * goal.size-typed_len l + 3
 
 abbrev pub decreases-typed_is_nil : goal.decreases-typed_is_nil
-decreases-typed_is_nil l = 4 * goal.size-typed_is_nil l + 3
+decreases-typed_is_nil l = 8 * goal.size-typed_is_nil l + 3
 
 abbrev pub decreases-typed_index : goal.decreases-typed_index
-decreases-typed_index l = 4 * max (size-Tree l.list.value) (size-Tree l.index.value) + 3
+decreases-typed_index l = 8 * max (size-Tree l.list.value) (size-Tree l.index.value) + 3
 
 abbrev pub decreases-typed_binary : goal.decreases-typed_binary
-decreases-typed_binary l = 4 * max (size-Tree l.left.value) (size-Tree l.right.value) + 3
+decreases-typed_binary l = 8 * max (size-Tree l.left.value) (size-Tree l.right.value) + 3
 
 abbrev pub decreases-typed_default : goal.decreases-typed_default
-decreases-typed_default l = 4 * max (size-Tree l.operand.value) (size-Tree l.otherwise.value) + 3
+decreases-typed_default l = 8 * max (size-Tree l.operand.value) (size-Tree l.otherwise.value) + 3
 
 abbrev pub decreases-typed_predicate : goal.decreases-typed_predicate
-decreases-typed_predicate l = 4 * max (size-Tree l.list.value) (size-Tree l.body.value) + 3
+decreases-typed_predicate l = 8 * max (size-Tree l.list.value) (size-Tree l.body.value) + 3
 
 abbrev pub decreases-typed_choice : goal.decreases-typed_choice
-decreases-typed_choice l = 4 * max (size-Tree l.condition.value) (max (size-Tree l.then_branch.value) (size-Tree l.else_branch.value)) + 3
+decreases-typed_choice l = 8 * max (size-Tree l.condition.value) (max (size-Tree l.then_branch.value) (size-Tree l.else_branch.value)) + 3
