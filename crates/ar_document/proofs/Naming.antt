@@ -1,10 +1,12 @@
 -- Numbers of names.
-use Rattle.std.proofs.Common.{◌≡◌, ◌<◌, ◌≤◌, ℕ, suc, ◌+◌, Bool, true, false, List, [], ◌∷◌, ◌++◌, length, Option, Some, None, Result, Ok, Err, refl, sym, subst, ◌∙◌, ap, take, drop, map, get_or, arith, add-one}
-use Rattle.std.specs.Prelude.{if◌then◌else◌, option_map, is_none, is_some, IfSome, ⊤}
+use Rattle.std.proofs.Common.{◌≡◌, ◌<◌, ◌≤◌, ℕ, suc, ◌+◌, Bool, true, false, cond, List, [], ◌∷◌, ◌++◌, length, Option, Some, None, Result, Ok, Err, refl, sym, subst, ◌∙◌, ap, take, drop, map, get_or, arith, add-one}
+use Rattle.std.specs.Prelude.{String, string_bytes, string_cmp, if◌then◌else◌, option_map, is_none, is_some, IfSome, ⊤}
 use Rattle.std.specs.Str.{bytes_eq}
+use Rattle.std.specs.BTreeMap.{BTreeMap, Updates, get_by_text}
+use Rattle.std.specs.declared.alloc.Global.{Global}
+use Rattle.std.proofs.lemmas.Bool.{false_from_ne_true, false≢true}
+use Rattle.std.proofs.lemmas.Map.Text.{btree_map_updates_text}
 use Rattle.std.proofs.lemmas.Slice.Eq.{bytes_eq-Decides}
-use Rattle.ar_manifest.specs.Arguments.{value_of, with_value}
-use Rattle.ar_manifest.proofs.Entries.{with_new_value}
 use Rattle.std.proofs.lemmas.List.{drop_all, drop_more, map-append, length-map, length-take-le}
 use Rattle.std.proofs.Math.Seq.{take-suc}
 use Rattle.ar_value.specs.Answer.{◌>>=◌, Unless, holds_or}
@@ -23,18 +25,6 @@ abbrev or_next : Option ℕ → Bool → ℕ → Option ℕ
 or_next (Some number) same next = Some number
 or_next None same next = if same then Some next else None
 
-value_after : (numbers : List (List ℕ × ℕ)) (name next : List ℕ) (number : ℕ) → value_of name (numbers ++ (next, number) ∷ []) ≡ or_next (value_of name numbers) (bytes_eq name next) number
-value_after [] name next number = by_test (bytes_eq name next)
-  where
-    by_test : (same : Bool) → (if same then Some number else None) ≡ or_next None same number
-    by_test same = refl
-value_after (first ∷ numbers) name next number = by_test (bytes_eq name first.0) (value_after numbers name next number)
-  where
-    by_test : (same : Bool) → value_of name (numbers ++ (next, number) ∷ []) ≡ or_next (value_of name numbers) (bytes_eq name next) number
-        → (if same then Some first.1 else value_of name (numbers ++ (next, number) ∷ [])) ≡ or_next (if same then Some first.1 else value_of name numbers) (bytes_eq name next) number
-    by_test true after = refl
-    by_test false after = after
-
 number_one_more : (found : Option ℕ) (same : Bool) (count : ℕ) → option_map suc (or_next found same count) ≡ or_next (option_map suc found) same (suc count)
 number_one_more (Some number) same count = refl
 number_one_more None true count = refl
@@ -52,12 +42,36 @@ number_after (first ∷ names) name next = by_test (bytes_eq name first) (number
     by_test true after = refl
     by_test false after = ap (option_map suc) after ∙ number_one_more (index_of_name name names) (bytes_eq name next) (length names)
 
+-- texts are compared either way round
+swapped : (one other : List ℕ) → bytes_eq one other ≡ bytes_eq other one
+swapped one other = by_test (bytes_eq one other) refl
+  where
+    by_test : (test : Bool) → bytes_eq one other ≡ test → test ≡ bytes_eq other one
+    by_test true is = sym ((bytes_eq-Decides other one).1 (sym ((bytes_eq-Decides one other).0 is)))
+    by_test false is = sym (false_from_ne_true (bytes_eq other one) (λ same. false≢true (sym is ∙ (bytes_eq-Decides one other).1 (sym ((bytes_eq-Decides other one).0 same)))))
+
+put : (found : Option ℕ) (same : Bool) (number : ℕ) → (same ≡ true → found ≡ None) → cond same (Some number) found ≡ or_next found same number
+put found true number new = rw (new refl) refl
+put (Some earlier) false number new = refl
+put None false number new = refl
+
 -- a name that is new gets the next number
-pub new_name : (names : List (List ℕ)) (numbers after : List (List ℕ × ℕ)) (name : List ℕ) (number : ℕ) → AreNumbers names numbers → value_of name numbers ≡ None → length names ≡ number
-    → after ≡ with_value numbers name number → AreNumbers (names ++ name ∷ []) after
-new_name names numbers after name number are new count pushed =
-    let last : after ≡ numbers ++ (name, number) ∷ [] = pushed ∙ with_new_value numbers name number new in
-    record { same = λ other. rw last (value_after numbers other name number ∙ rw (are.same other, count) refl ∙ sym (number_after names other name)) }
+pub new_name : (names : List (List ℕ)) (numbers after : BTreeMap (String Global) ℕ) (key : String Global) (name : List ℕ) (number : ℕ) → AreNumbers names numbers → get_by_text numbers name ≡ None → length names ≡ number
+    → string_bytes key ≡ name → Updates string_cmp numbers after key (Some number) → AreNumbers (names ++ name ∷ []) after
+new_name names numbers after key name number are new count same updates = record { same = numbered }
+  where
+    none : (other : List ℕ) → bytes_eq name other ≡ true → index_of_name other names ≡ None
+    none other is = subst (λ text. index_of_name text names ≡ None) ((bytes_eq-Decides name other).0 is) (sym (are.same name) ∙ new)
+
+    numbered : (other : List ℕ) → get_by_text after other ≡ index_of_name other (names ++ name ∷ [])
+    numbered other =
+        btree_map_updates_text (string_bytes key) numbers after (Some number) updates other
+        ∙ ap (λ text. cond (bytes_eq text other) (Some number) (get_by_text numbers other)) same
+        ∙ ap (cond (bytes_eq name other) (Some number)) (are.same other)
+        ∙ put (index_of_name other names) (bytes_eq name other) number (none other)
+        ∙ ap (λ test. or_next (index_of_name other names) test number) (swapped name other)
+        ∙ ap (or_next (index_of_name other names) (bytes_eq other name)) (sym count)
+        ∙ sym (number_after names other name)
 
 stays : (found : Option ℕ) (same : Bool) (count : ℕ) → (same ≡ true → is_some found ≡ true) → found ≡ or_next found same count
 stays (Some number) same count old = refl
@@ -65,13 +79,9 @@ stays None true count old = absurd (let there = old refl in cc)
 stays None false count old = refl
 
 -- a name that an earlier one is the same as has its number
-pub old_name : (names : List (List ℕ)) (numbers : List (List ℕ × ℕ)) (name : List ℕ) → AreNumbers names numbers → is_some (value_of name numbers) ≡ true → AreNumbers (names ++ name ∷ []) numbers
+pub old_name : (names : List (List ℕ)) (numbers : BTreeMap (String Global) ℕ) (name : List ℕ) → AreNumbers names numbers → is_some (get_by_text numbers name) ≡ true → AreNumbers (names ++ name ∷ []) numbers
 old_name names numbers name are old =
     record { same = λ other. are.same other ∙ stays (index_of_name other names) (bytes_eq other name) (length names) (λ same. subst (λ text. is_some (index_of_name text names) ≡ true) (sym ((bytes_eq-Decides other name).0 same)) (rw (are.same name) at old)) ∙ sym (number_after names other name) }
-
--- the numbers of no names
-pub no_names : AreNumbers [] []
-no_names = record { same = λ name. refl }
 
 later : (found : Option ℕ) (bound : ℕ) → IfSome found (λ n. n < bound) → IfSome (option_map suc found) (λ n. n < suc bound)
 later (Some n) bound inside = omega (arith, inside)
@@ -113,7 +123,7 @@ module _ (runs : List Run) (i : ℕ) (run : Run) (inside : i < length runs) (is 
   numbered : is_new (names_of (take i runs)) run ≡ holds_or (DoubleRun i) (is_none (index_of_name run.name (names_of (take i runs))))
   numbered = ap (λ (number : ℕ). holds_or (DoubleRun number) (is_none (index_of_name run.name (names_of (take i runs))))) names_before
 
-  pub next_numbers : (after : List (List ℕ × ℕ)) → AreNumbers (names_of (take i runs) ++ run.name ∷ []) after → AreNumbers (names_of (take (i + 1) runs)) after
+  pub next_numbers : (after : BTreeMap (String Global) ℕ) → AreNumbers (names_of (take i runs) ++ run.name ∷ []) after → AreNumbers (names_of (take (i + 1) runs)) after
   next_numbers after are = subst (λ names. AreNumbers names after) (sym (ap (λ n. names_of (take n runs)) (add-one i) ∙ names_longer)) are
 
   pub next_new : (all : Result ⊤ BundleError) → holds_or (DoubleRun i) (is_none (index_of_name run.name (names_of (take i runs)))) ≡ Ok tt → are_new (names_of (take i runs)) (names_of (drop i runs)) ≡ all → are_new (names_of (take (i + 1) runs)) (names_of (drop (i + 1) runs)) ≡ all
@@ -143,5 +153,5 @@ module _ (metrics : List MetricPart) (i : ℕ) (metric : MetricPart) (inside : i
   pub metrics_before : length (metric_names (map metric_view (take i metrics))) ≡ i
   metrics_before = length-map (map metric_view (take i metrics)) (λ metric. metric.name) ∙ length-map (take i metrics) metric_view ∙ length-take-le i metrics (omega (arith, inside))
 
-  pub next_metric : (after : List (List ℕ × ℕ)) → AreNumbers (metric_names (map metric_view (take i metrics)) ++ metric.name ∷ []) after → AreNumbers (metric_names (map metric_view (take (i + 1) metrics))) after
+  pub next_metric : (after : BTreeMap (String Global) ℕ) → AreNumbers (metric_names (map metric_view (take i metrics)) ++ metric.name ∷ []) after → AreNumbers (metric_names (map metric_view (take (i + 1) metrics))) after
   next_metric after are = subst (λ names. AreNumbers names after) (sym metrics_longer) are

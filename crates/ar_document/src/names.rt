@@ -4,11 +4,11 @@ ghost use Rattle.std.specs.Prelude.{◌≡◌, ◌++◌, ◌∷◌, [], ℕ, Lis
 ghost use Rattle.ar_document.specs.Opening.{index_of_name};
 ghost use Rattle.ar_document.specs.Private.Naming.{AreNumbers};
 
-use ar_manifest::Arguments;
 use std::alloc::{AllocError, Global};
+use std::collections::BTreeMap;
 
-/// Names with their numbers, which are found without looking at one name after another.
-pub(crate) type Numbers = Arguments<usize>;
+/// Names with their numbers. Names are compared, so that no choice of names makes finding one slow.
+pub(crate) type Numbers = BTreeMap<String, usize>;
 
 /// Gives the next name its number, unless an earlier one is the same, and returns whether it is new.
 #[tactic(auto, using(crate::proofs::Naming::new_name, crate::proofs::Naming::old_name))]
@@ -26,6 +26,6 @@ pub(crate) fn add_name(
     if numbers.get(name).is_some() {
         return Ok(false);
     }
-    numbers.insert(alloc, name, number)?;
+    numbers.insert(String::from_str(alloc, name)?, number)?;
     Ok(true)
 }

@@ -1,19 +1,20 @@
 //! Runs as a document writes them.
 
 ghost use Rattle.std.specs.Prelude.{◌≡◌, ◌≤◌, ◌++◌, ◌∷◌, ℕ, List, [], IfOk, OnOk, false, is_none, length, map, option_map};
+ghost use Rattle.std.specs.Hash.DefaultHasher.{initial};
 ghost use Rattle.serde_json.specs.View.{members_view, view};
 ghost use Rattle.ar_value.specs.Answer.{Gives, each_after, holds_or};
 ghost use Rattle.ar_value.specs.Limits.{most_runs};
 ghost use Rattle.ar_document.specs.Document.{is_bundle_memory};
 ghost use Rattle.ar_document.specs.Opening.{are_new, names_of, index_of_name, own_arguments, run_items, run_of, runs_in, texts_by_name};
 ghost use Rattle.ar_document.specs.Private.Made.{with_argument_text};
-ghost use Rattle.ar_document.specs.Private.Naming.{AreNumbers};
+ghost use Rattle.ar_document.specs.Private.Naming.{AreNumbers, fed_members};
 ghost use Rattle.ar_document.specs.declared.error.BundleError.TheVariants.{DoubleRun};
 
 use crate::error::BundleError;
 use crate::names::{Numbers, add_name};
 use ar_json::members::list_of;
-use ar_manifest::Args;
+use ar_manifest::{Args, NamesHasher};
 use ar_value::holding::{try_push, zip_ok};
 use ar_value::limits::MOST_RUNS;
 use ar_value::text::Text;
@@ -39,11 +40,22 @@ fn add_text(alloc: Global, own: &mut Args, name: &str, json: &Json) -> Result<()
     Ok(own.insert(alloc, name, text)?)
 }
 
+/// What will hash the names of members.
+fn names_hasher(members: &Map<String, Json>) -> NamesHasher
+    ensures { result ≡ fed_members initial (members_view members.now.entries) }
+{
+    let mut hasher = NamesHasher::new();
+    for (name, _) in members.iter() {
+        hasher.feed(name.as_str());
+    }
+    hasher
+}
+
 /// Texts by name.
 fn texts_by_name(alloc: Global, members: &Map<String, Json>) -> Result<Args, BundleError>
     ensures { Gives is_bundle_memory (λ own. own) result (texts_by_name [] (members_view members.now.entries)) }
 {
-    let mut own = Args::new(alloc);
+    let mut own = Args::with_hasher(alloc, names_hasher(members));
     for (name, json) in members.iter() {
         add_text(alloc, &mut own, name.as_str(), json)?;
     }

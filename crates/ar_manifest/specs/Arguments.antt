@@ -1,8 +1,13 @@
 -- Arguments: a list of names with their values.
-use Rattle.std.specs.Prelude.{List, [], ◌∷◌, Option, if◌then◌else◌}
+use Rattle.std.specs.Prelude.{List, [], ◌∷◌, map, Option, String, string_bytes, if◌then◌else◌}
 use Rattle.std.specs.Str.{bytes_eq}
 use Rattle.std.specs.Map.{lookup}
+use Rattle.std.specs.declared.alloc.Global.{Global}
 use Rattle.ar_value.specs.Terms.{Text}
+
+-- entries of a map, seen by the bytes of their names
+abbrev pub by_name : {V : Type 0} → List (String Global × V) → List (Text × V)
+by_name entries = map (λ entry. (string_bytes entry.0, entry.1)) entries
 
 -- the value of a name
 abbrev pub value_of : {V : Type 0} → Text → List (Text × V) → Option V

@@ -1,4 +1,5 @@
 pub mod Arguments
+pub mod Names
 pub mod Refusals
 pub mod DryRun
 pub mod Template

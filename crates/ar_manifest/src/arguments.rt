@@ -2,21 +2,18 @@
 
 ghost use Rattle.std.specs.Prelude.{◌≡◌, ◌==◌, ◌++◌, [], ◌∷◌, length, OnOk, OnErr, option_copied};
 ghost use Rattle.ar_manifest.specs.Arguments.{value_of, with_value};
-ghost use Rattle.ar_manifest.specs.Private.Indices.{index_of};
 
+use crate::names_hasher::NamesHasher;
 use ar_value::Text;
+use indexmap::IndexMap;
 use std::alloc::{AllocError, Global};
-use std::collections::BTreeMap;
 use std::marker::Model;
 
 /// Values by name, in the order in which the names came. Contracts see the list of names with
-/// their values. Names are compared as texts, so that no choice of names makes finding one slow.
+/// their values.
 #[derive(Drop)]
 pub struct Arguments<V> {
-    /// The names with their values.
-    entries: Vec<(Text, V)>,
-    /// Where in the list each name is.
-    indices: BTreeMap<String, usize>,
+    values: IndexMap<String, V, NamesHasher>,
 }
 
 /// A run's own arguments: texts by name.
@@ -27,45 +24,44 @@ impl<V> Model for Arguments<V> {
 
     ghost Value = { List (List ℕ × V) };
 
-    ghost use Rattle.ar_manifest.specs.Private.Indices.{AreIndices};
+    ghost use Rattle.ar_manifest.specs.Arguments.{by_name};
 
-    ghost view = { λ arguments. arguments.entries.items };
-
-    ghost invariant = { λ arguments. AreIndices arguments.indices arguments.entries.items };
+    ghost view = { λ arguments. by_name arguments.values.entries };
 }
 
 impl<V> Arguments<V> {
-    /// No arguments.
+    /// No arguments. All that are made so hash names alike, whatever the names: take [`Arguments::with_hasher`] where
+    /// names come from a document that isn't trusted.
     pub fn new(alloc: Global) -> Arguments<V>
         ensures { result ≡ [] }
     {
+        Arguments::with_hasher(alloc, NamesHasher::new())
+    }
+
+    /// No arguments, whose names a hasher will hash that was fed all of them. Then no choice of names makes finding
+    /// one slow.
+    pub fn with_hasher(alloc: Global, hasher: NamesHasher) -> Arguments<V>
+        ensures { result ≡ [] }
+    {
         Arguments {
-            entries: Vec::new(alloc),
-            indices: BTreeMap::new(alloc),
+            values: IndexMap::with_hasher(alloc, hasher),
         }
     }
 
     /// The value of a name.
-    #[tactic(auto, using(crate::proofs::Entries::no_value, crate::proofs::Entries::index_within, crate::proofs::Entries::value_there))]
+    #[tactic(auto, using(crate::proofs::Entries::value_of_entry))]
     pub fn get(&self, name: &str) -> Option<&V>
         ensures { option_copied result ≡ value_of name.now self.now }
     {
-        let index = self.index_of(name)?;
-        Some(&self.entries[index].1)
-    }
-
-    /// Where in the list a name is.
-    fn index_of(&self, name: &str) -> Option<usize>
-        ensures { result ≡ index_of name.now self.now }
-    {
-        self.indices.get(name).copied()
+        self.values.get(name)
     }
 
     /// How many names have a value.
+    #[tactic(auto, using(crate::proofs::Entries::len_entries))]
     pub fn len(&self) -> usize
         ensures { result ≡ length self.now }
     {
-        self.entries.len()
+        self.values.len()
     }
 
     pub fn is_empty(&self) -> bool
@@ -84,25 +80,19 @@ impl<V> Arguments<V> {
         self.put(Text::of(alloc, name)?, value)
     }
 
-    #[tactic(auto, using(crate::proofs::Entries::no_value, crate::proofs::Entries::index_within, crate::proofs::Entries::value_changed, crate::proofs::Entries::with_new_value, crate::proofs::Entries::same_indices))]
+    #[tactic(auto, using(crate::proofs::Entries::with_value_entry))]
     fn put(&mut self, name: Text, value: V) -> Result<(), AllocError>
     where
         V: Drop,
         ensures ok { OnOk result (self.new ≡ with_value self.old name value) }
         ensures err { OnErr result (self.new ≡ self.old) }
     {
-        match self.index_of(name.as_str()) {
-            Some(index) => {
-                self.entries[index].1 = value;
-                Ok(())
-            }
-            None => self.push(name, value),
-        }
+        self.values.insert(name.into_string(), value)?;
+        Ok(())
     }
 
-    /// Gives a name that has none a value, after all others. The list has room for it before the
-    /// map changes, so that the last step can't fail.
-    #[tactic(auto, using(crate::proofs::Entries::next_indices))]
+    /// Gives a name that has none a value, after all others.
+    #[tactic(auto, using(crate::proofs::Entries::with_new_value))]
     pub(crate) fn push(&mut self, name: Text, value: V) -> Result<(), AllocError>
     where
         V: Drop,
@@ -110,12 +100,6 @@ impl<V> Arguments<V> {
         ensures ok { OnOk result (self.new ≡ self.old ++ (name, value) ∷ []) }
         ensures err { OnErr result (self.new ≡ self.old) }
     {
-        let index = self.entries.len();
-        let name = name.into_string();
-        let key = name.clone()?;
-        self.entries.reserve(1)?;
-        self.indices.insert(key, index)?;
-        self.entries.push_reserved((Text::from(name), value));
-        Ok(())
+        self.put(name, value)
     }
 }

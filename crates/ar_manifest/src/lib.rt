@@ -18,6 +18,7 @@
 //! |---|---|
 //! | `template` | templates and their metrics, before arguments are bound |
 //! | `arguments` | values by name: a template's arguments, and a run's own |
+//! | `names_hasher` | what hashes their names |
 //! | `bound` | metrics whose arguments are bound |
 //! | `error` | why a template is refused |
 //! | `found` | the reference or the limit that binding is refused for |
@@ -25,9 +26,10 @@
 //! | `reader`, `dry_run` | reading a JSON document as a template, and which metrics `dryRun` names |
 //! | `binding`, `limit`, `binder` | binding a text, a limit, and a template's metrics |
 //!
-//! In `specs`, `Template` and `DryRun` define reading, `Cut` where a text is cut at its braces,
-//! `Binding` what becomes of a text, `Bound` limits, counts and the order of refusals, `Shortened`
-//! what is given for conditions that are too long, `Found` for what binding is refused.
+//! In `specs`, `Arguments` and `Names` define values by name and what names are hashed from, `Template` and
+//! `DryRun` reading, `Cut` where a text is cut at its braces, `Binding` what becomes of a text, `Bound` limits,
+//! counts and the order of refusals, `Shortened` what is given for conditions that are too long, `Found` for what
+//! binding is refused.
 //! `Private` has what only the proofs use.
 #![tactic(auto)]
 
@@ -40,6 +42,7 @@ mod error;
 mod found;
 pub mod laws;
 mod limit;
+mod names_hasher;
 mod reader;
 mod template;
 
@@ -47,4 +50,5 @@ pub use arguments::{Args, Arguments};
 pub use bound::{Bound, BoundMetric};
 pub use error::ManifestError;
 pub use found::{LimitField, LimitValue, RefusedLimit};
+pub use names_hasher::NamesHasher;
 pub use template::{Limit, Metric, MetricLimits, Metrics, Template};

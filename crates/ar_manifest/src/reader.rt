@@ -1,6 +1,7 @@
 //! Reading a template from JSON.
 
-ghost use Rattle.std.specs.Prelude.{◌≡◌, [], if◌then◌else◌, Err, IfOk, IsOk, Ok, false, length, map, option_map, true};
+ghost use Rattle.std.specs.Prelude.{◌≡◌, [], if◌then◌else◌, Err, IfOk, IsOk, Ok, false, fold, length, map, option_map, true};
+ghost use Rattle.std.specs.Hash.DefaultHasher.{initial};
 ghost use Rattle.std.specs.List.{list_any};
 ghost use Rattle.serde_json.specs.Find.{as_u64};
 ghost use Rattle.serde_json.specs.View.{number_view, view};
@@ -8,12 +9,14 @@ ghost use Rattle.ar_value.specs.Answer.{Gives, Refuses, each_after};
 ghost use Rattle.ar_manifest.specs.Refusals.{is_memory};
 ghost use Rattle.ar_manifest.specs.Arguments.{value_of};
 ghost use Rattle.ar_manifest.specs.Private.Early.{counted_of, first_counted};
+ghost use Rattle.ar_manifest.specs.Private.Feeding.{fed_argument};
 ghost use Rattle.ar_manifest.specs.Private.Made.{marked_metrics, two_limits};
 ghost use Rattle.ar_manifest.specs.Template.{HasNoArguments, argument_of, arguments_of, counted_metrics, has_text_or, head_of, is_kind, is_named, is_text, limit_or, lists_nothing, metric_limits, metric_of, named_metric, new_name, number_limit, template_name, template_of};
 
 use crate::arguments::Arguments;
 use crate::dry_run::with_dry_run;
 use crate::error::ManifestError;
+use crate::names_hasher::NamesHasher;
 use crate::template::{Limit, Metric, MetricLimits, Metrics, Template};
 use ar_json::members::{list_of, member, member_of_member, text_member, text_or};
 use ar_value::Text;
@@ -258,13 +261,33 @@ fn argument(
     Ok((Text::of(alloc, name)?, copied(alloc, value)?))
 }
 
+/// Feeds a hasher the name of an argument. One that has none will be refused.
+fn feed_argument(hasher: &mut NamesHasher, json: &Json)
+    ensures { hasher.new ≡ fed_argument hasher.old (view json.now) }
+{
+    if let Some(name) = text_member(json, "name") {
+        hasher.feed(name);
+    }
+}
+
+/// What will hash the names of a list's arguments.
+fn names_hasher(list: &[Json]) -> NamesHasher
+    ensures { result ≡ fold (λ state json. fed_argument state (view json)) initial list.now }
+{
+    let mut hasher = NamesHasher::new();
+    for json in list {
+        feed_argument(&mut hasher, json);
+    }
+    hasher
+}
+
 /// The arguments of a JSON list.
 fn listed_arguments(alloc: Global, list: &[Json]) -> Result<Arguments<Option<Text>>, ManifestError>
     ensures exact { Gives is_memory (λ arguments. arguments) result
         (each_after argument_of [] (map (λ json. view json) list.now)) }
     ensures none { length list.now ≡ 0 → IsOk result }
 {
-    let mut arguments = Arguments::new(alloc);
+    let mut arguments = Arguments::with_hasher(alloc, names_hasher(list));
     for json in list {
         let (name, value) = argument(alloc, json, &arguments)?;
         arguments.push(name, value)?;

@@ -1,0 +1,51 @@
+//! The hasher of arguments' names.
+
+ghost use Rattle.std.specs.Prelude.{◌≡◌};
+ghost use Rattle.std.specs.Hash.DefaultHasher.{initial};
+ghost use Rattle.ar_manifest.specs.Names.{fed};
+
+use std::hash::{BuildHasher, DefaultHasher, Hash};
+use std::marker::Model;
+
+/// Hashes each name from a state that was fed all names that are to be read. So names can't be chosen to collide:
+/// other names are hashed from another state.
+#[derive(Drop)]
+pub struct NamesHasher {
+    started: DefaultHasher,
+}
+
+impl Model for NamesHasher {
+    ghost use Rattle.std.specs.declared.hash.DefaultHasher.{DefaultHasher as State};
+
+    ghost Value = { State };
+
+    ghost view = { λ hasher. hasher.started };
+}
+
+impl NamesHasher {
+    /// A hasher that was fed no name.
+    pub fn new() -> NamesHasher
+        ensures { result ≡ initial }
+    {
+        NamesHasher {
+            started: DefaultHasher::new(),
+        }
+    }
+
+    /// Feeds it one more of the names that are to be read.
+    pub fn feed(&mut self, name: &str)
+        ensures { self.new ≡ fed self.old name.now }
+    {
+        name.hash(&mut self.started);
+    }
+}
+
+impl BuildHasher for NamesHasher {
+    type Hasher = DefaultHasher;
+
+    ghost build_hasher = { λ hasher. hasher };
+
+    fn build_hasher(&self) -> DefaultHasher {
+        self.started
+    }
+}
