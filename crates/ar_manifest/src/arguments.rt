@@ -30,16 +30,16 @@ impl<V> Model for Arguments<V> {
 }
 
 impl<V> Arguments<V> {
-    /// No arguments. All that are made so hash names alike, whatever the names: take [`Arguments::with_hasher`] where
-    /// names come from a document that isn't trusted.
+    /// No arguments. Names are always hashed in the same way: use [`Arguments::with_hasher`] for those of a document
+    /// that isn't trusted.
     pub fn new(alloc: Global) -> Arguments<V>
         ensures { result ≡ [] }
     {
         Arguments::with_hasher(alloc, NamesHasher::new())
     }
 
-    /// No arguments, whose names a hasher will hash that was fed all of them. Then no choice of names makes finding
-    /// one slow.
+    /// No arguments, whose names will be hashed by `hasher`. Feed it all of them first: then no choice of names makes
+    /// finding one slow.
     pub fn with_hasher(alloc: Global, hasher: NamesHasher) -> Arguments<V>
         ensures { result ≡ [] }
     {

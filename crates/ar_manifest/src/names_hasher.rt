@@ -7,8 +7,8 @@ ghost use Rattle.ar_manifest.specs.Names.{fed};
 use std::hash::{BuildHasher, DefaultHasher, Hash};
 use std::marker::Model;
 
-/// Hashes each name from a state that was fed all names that are to be read. So names can't be chosen to collide:
-/// other names are hashed from another state.
+/// Hashes each name from a state that was fed all names that are to be read. So nobody can choose names that collide:
+/// another choice of names changes how each of them is hashed.
 #[derive(Drop)]
 pub struct NamesHasher {
     started: DefaultHasher,
@@ -32,7 +32,7 @@ impl NamesHasher {
         }
     }
 
-    /// Feeds it one more of the names that are to be read.
+    /// Feeds the hasher one more of the names that are to be read.
     pub fn feed(&mut self, name: &str)
         ensures { self.new ≡ fed self.old name.now }
     {
