@@ -59,6 +59,12 @@ feeder_join before other after marks out joined_before is ended join =
       has_joined = omega arith;
     }
 
+-- the same by numbers of passes
+pub joined_one : {marks : ℕ} (before other after : View) (outs out was now : ℕ) → outs ≡ suc out → suc was ≡ now → IsFeeder before marks outs was → other ≡ at_end other.taken → after ≡ after_join before other → IsFeeder after marks out now
+joined_one {marks} before other after outs out was now short count is ended join =
+    subst (λ (joined : ℕ). IsFeeder after marks out joined) count
+    (feeder_join before other after marks out was (subst (λ (outs : ℕ). IsFeeder before marks outs was) short is) ended join)
+
 -- ---- what is named at all desks
 
 pub all_named_push : {Desk : Type 0} (numbers : Desk → List ℕ) (number : ℕ) (desks : List Desk) (desk : Desk) → times_in number (all_named numbers (desks ++ desk ∷ [])) ≡ times_in number (all_named numbers desks) + times_in number (numbers desk)
