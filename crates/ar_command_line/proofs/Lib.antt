@@ -5,3 +5,6 @@ pub mod Facts
 pub mod Faults
 pub mod Parsing
 pub mod Refused
+pub mod Histories
+pub mod Retries
+pub mod Writing

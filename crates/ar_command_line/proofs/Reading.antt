@@ -1,7 +1,6 @@
 -- Bytes that are read or written one part after another.
-use Rattle.std.proofs.Common.{◌≡◌, ℕ, List, [], ◌++◌, Option, None, Some, take, drop, sym, ◌∙◌, ap, append_assoc, append-nil}
-use Rattle.std.proofs.lemmas.List.{take-append-drop}
-use Rattle.std.specs.Io.KnownBytes.{Appends, Consumes}
+use Rattle.std.proofs.Common.{◌≡◌, ℕ, List, [], ◌++◌, Option, None, Some, take, sym, ◌∙◌, append_assoc, append-nil}
+use Rattle.std.specs.Io.KnownBytes.{Appends, Consumes, Keeps}
 
 consumes_more : (before between after : Option (List ℕ)) (bytes more : List ℕ) → Consumes before between bytes → Consumes between after more → Consumes before after (bytes ++ more)
 consumes_more None between after bytes more front later = tt
@@ -9,7 +8,7 @@ consumes_more (Some _) None after bytes more front later = absurd front
 consumes_more (Some _) (Some _) None bytes more front later = absurd later
 consumes_more (Some _) (Some _) (Some rest) bytes more front later = rw front (rw later (sym (append_assoc bytes more rest)))
 
-appends_more : (before between after : Option (List ℕ)) (bytes more : List ℕ) → Appends before between bytes → Appends between after more → Appends before after (bytes ++ more)
+pub appends_more : (before between after : Option (List ℕ)) (bytes more : List ℕ) → Appends before between bytes → Appends between after more → Appends before after (bytes ++ more)
 appends_more None between after bytes more front later = tt
 appends_more (Some _) None after bytes more front later = absurd front
 appends_more (Some _) (Some _) None bytes more front later = absurd later
@@ -23,8 +22,17 @@ pub appends_none : (before between after : Option (List ℕ)) (bytes given : Lis
 appends_none before between after bytes given count none front later =
     rw (append-nil bytes) at (appends_more before between after bytes [] front (rw none at later))
 
--- what was written of some bytes, with more of them after it
-pub writes_more : (before between after : Option (List ℕ)) (bytes rest left : List ℕ) (count : ℕ) → (front : List ℕ) × (bytes ≡ front ++ rest) × Appends before between front → Appends between after (take count rest)
-    → left ≡ drop count rest → (front : List ℕ) × (bytes ≡ front ++ left) × Appends before after front
-writes_more before between after bytes rest left count (front, is, wrote) more is_left =
-    (front ++ take count rest, is ∙ ap (λ xs. front ++ xs) (sym (take-append-drop count rest)) ∙ sym (append_assoc front (take count rest) (drop count rest)) ∙ ap (λ xs. (front ++ take count rest) ++ xs) (sym is_left), appends_more before between after front (take count rest) wrote more)
+pub appends_nothing : (known : Option (List ℕ)) → Appends known known []
+appends_nothing None = tt
+appends_nothing (Some known) = sym (append-nil known)
+
+pub appends_kept : (before between after : Option (List ℕ)) (bytes : List ℕ) → Appends before between bytes → Keeps between after → Appends before after bytes
+appends_kept None between after bytes first keeps = tt
+appends_kept (Some _) None after bytes first keeps = absurd first
+appends_kept (Some _) (Some _) None bytes first keeps = absurd keeps
+appends_kept (Some _) (Some _) (Some _) bytes first keeps = keeps ∙ first
+
+pub nothing_appended : (before after : Option (List ℕ)) (given : List ℕ) (count : ℕ) → count ≡ 0 → Appends before after (take count given) → Keeps before after
+nothing_appended None after given count none appends = tt
+nothing_appended (Some _) None given count none appends = absurd appends
+nothing_appended (Some known) (Some _) given count none appends = (rw none at appends) ∙ append-nil known

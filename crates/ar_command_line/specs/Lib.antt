@@ -1,3 +1,4 @@
+pub mod History
 pub mod Retrying
 pub mod Device
 pub mod Kept

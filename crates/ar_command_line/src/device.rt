@@ -4,10 +4,10 @@ ghost use Rattle.std.specs.Prelude.{◌≡◌, IfErr, IfSome};
 ghost use Rattle.std.specs.Option.{ForSome};
 ghost use Rattle.ar_command_line.specs.Retrying.{IsLasting};
 
+use crate::raw::{RawRead, RawWrite};
 use crate::retrying::{flush_retrying, read_retrying, write_retrying};
 use crate::stream::{DeviceFault, Sink, Source};
 use std::io;
-use std::io::{Read, Write};
 
 /// A reader or a writer of the standard library's, with the first fault that it met. A call that a
 /// signal interrupts has met none, and is made again.
@@ -67,17 +67,28 @@ impl<T> Device<T> {
     }
 }
 
-impl<T: Read> Source for Device<T> {
-    ghost use Rattle.std.specs.Prelude.{None};
+impl<T: RawRead> Source for Device<T> {
+    ghost use Rattle.std.specs.Prelude.{◌≡◌, None, OnErr, OnOk, true};
+    ghost use Rattle.std.specs.Io.{ReadsAtMost};
+    ghost use Rattle.std.specs.Io.KnownBytes.{ReadConsumes};
     ghost use Rattle.ar_command_line.specs.Device as device;
 
     ghost remaining = { λ d. T.remaining (device.inner_of d) };
 
     ghost taken = { λ _. None };
 
+    ghost reads = { λ _. None };
+
     ghost has_failed = { λ d. device.has_failed d };
 
-    fn read(&mut self, buf: &mut [u8]) -> Result<usize, DeviceFault> {
+    fn read(&mut self, buf: &mut [u8]) -> Result<usize, DeviceFault>
+        ensures bound { ReadsAtMost result buf.new }
+        ensures bytes { ReadConsumes (T.remaining (device.inner_of self.old)) (T.remaining (device.inner_of self.new))
+            result buf.new }
+        ensures works { OnOk result (device.has_failed self.new ≡ device.has_failed self.old) }
+        ensures fails { OnErr result (device.has_failed self.new ≡ true) }
+        ensures handed { device.HandsOn T.read_answers self.old self.new result }
+    {
         let answer = read_retrying(&mut self.inner, buf);
         self.answered(answer)
     }
@@ -87,14 +98,29 @@ impl<T: Read> Source for Device<T> {
     }
 }
 
-impl<T: Write> Sink for Device<T> {
+impl<T: RawWrite> Sink for Device<T> {
+    ghost use Rattle.std.specs.Prelude.{◌≡◌, ◌||◌, IfOk, None, OnErr, OnOk, true};
+    ghost use Rattle.std.specs.Io.{WritesAtMost};
+    ghost use Rattle.std.specs.Io.KnownBytes.{Keeps, WriteAppends};
     ghost use Rattle.ar_command_line.specs.Device as device;
+    ghost use Rattle.ar_command_line.specs.Output.{takes_nothing};
 
     ghost contents = { λ d. T.contents (device.inner_of d) };
 
+    ghost calls = { λ _. None };
+
     ghost has_failed = { λ d. device.has_failed d };
 
-    fn write(&mut self, buf: &[u8]) -> Result<usize, DeviceFault> {
+    fn write(&mut self, buf: &[u8]) -> Result<usize, DeviceFault>
+        ensures bound { WritesAtMost result buf.now }
+        ensures bytes { WriteAppends (T.contents (device.inner_of self.old)) (T.contents (device.inner_of self.new))
+            result buf.now }
+        ensures works { IfOk result (λ count.
+            device.has_failed self.new ≡ (device.has_failed self.old || takes_nothing count buf.now)) }
+        ensures fails { OnErr result (device.has_failed self.new ≡ true) }
+        ensures handed { device.HandsOnWrite T.write_answers buf.now self.old self.new result }
+        ensures no_flush { T.flush_answers (device.inner_of self.new) ≡ T.flush_answers (device.inner_of self.old) }
+    {
         match write_retrying(&mut self.inner, buf) {
             Ok(0) if !buf.is_empty() => {
                 self.answered(Err(io::Error::from(io::ErrorKind::WriteZero)))
@@ -103,7 +129,13 @@ impl<T: Write> Sink for Device<T> {
         }
     }
 
-    fn flush(&mut self) -> Result<(), DeviceFault> {
+    fn flush(&mut self) -> Result<(), DeviceFault>
+        ensures bytes { Keeps (T.contents (device.inner_of self.old)) (T.contents (device.inner_of self.new)) }
+        ensures works { OnOk result (device.has_failed self.new ≡ device.has_failed self.old) }
+        ensures fails { OnErr result (device.has_failed self.new ≡ true) }
+        ensures handed { device.HandsOn T.flush_answers self.old self.new result }
+        ensures no_write { T.write_answers (device.inner_of self.new) ≡ T.write_answers (device.inner_of self.old) }
+    {
         let answer = flush_retrying(&mut self.inner);
         self.answered(answer)
     }

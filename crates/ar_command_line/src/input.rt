@@ -2,7 +2,8 @@
 
 ghost use Rattle.std.specs.Prelude.{◌≡◌, false, true, IfOk, length};
 ghost use Rattle.std.specs.Io.KnownBytes.{Appends};
-ghost use Rattle.ar_command_line.specs.Input.{ReadsUpToLimit};
+ghost use Rattle.ar_command_line.specs.History.{GrowsAtMost};
+ghost use Rattle.ar_command_line.specs.Input.{ReadsUpToLimit, most_reads};
 
 use crate::stream::Source;
 use ar_json::document::MOST_BYTES;
@@ -11,8 +12,9 @@ use std::alloc::{AllocError, Global};
 /// How many bytes one read asks for.
 const CHUNK: usize = 65_536;
 
-/// Each iteration but the last reads a byte or more, and the first byte too many ends the loop.
-const TURNS: usize = MOST_BYTES + 2;
+/// How often the source is read at most: each read but the last gives a byte or more, and the first byte too many ends
+/// the loop.
+const MOST_READS: usize = MOST_BYTES + 2;
 
 /// Why an input can't be read.
 #[derive(Drop)]
@@ -42,12 +44,13 @@ pub fn read_input<R: Source>(alloc: Global, source: &mut R) -> Result<Vec<u8>, I
     requires { R.has_failed source.old ≡ false }
     ensures ok { IfOk result (λ bytes. ReadsUpToLimit (R.remaining source.old) (R.remaining source.new) bytes.items) }
     ensures taken { IfOk result (λ bytes. Appends (R.taken source.old) (R.taken source.new) bytes.items) }
+    ensures counts { GrowsAtMost (R.reads source.old) (R.reads source.new) most_reads }
     ensures read { result ≡ Err InputError.Read → R.has_failed source.new ≡ true }
     ensures reported { R.has_failed source.new ≡ true → result ≡ Err InputError.Read }
 {
     let mut bytes = Vec::new(alloc);
     let mut chunk = zeros(alloc, CHUNK)?;
-    for _turn in 0..TURNS {
+    for reads in 0..MOST_READS {
         let Ok(count) = source.read(&mut chunk) else {
             return Err(InputError::Read);
         };

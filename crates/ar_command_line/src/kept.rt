@@ -55,11 +55,14 @@ impl<S: Source> Source for Kept<S> {
     ghost use Rattle.std.specs.Prelude.{◌≡◌, ◌||◌, ◌⊎◌, ◌++◌, true, IfOk, OnErr, OnOk, Some, take};
     ghost use Rattle.std.specs.Io.{ReadsAtMost};
     ghost use Rattle.std.specs.Io.KnownBytes.{ReadConsumes};
+    ghost use Rattle.ar_command_line.specs.History.{GrowsAtMost};
     ghost use Rattle.ar_command_line.specs.Kept as kept;
 
     ghost remaining = { λ k. S.remaining (kept.source_of k) };
 
     ghost taken = { λ k. Some (kept.bytes_of k) };
+
+    ghost reads = { λ k. S.reads (kept.source_of k) };
 
     ghost has_failed = { λ k. kept.wants_memory k || S.has_failed (kept.source_of k) };
 
@@ -68,6 +71,7 @@ impl<S: Source> Source for Kept<S> {
         ensures bytes { ReadConsumes (S.remaining (kept.source_of self.old)) (S.remaining (kept.source_of self.new))
             result buf.new }
         ensures takes { IfOk result (λ count. kept.bytes_of self.new ≡ kept.bytes_of self.old ++ take count buf.new) }
+        ensures counts { GrowsAtMost (S.reads (kept.source_of self.old)) (S.reads (kept.source_of self.new)) 1 }
         ensures works { OnOk result ((kept.wants_memory self.new || S.has_failed (kept.source_of self.new))
             ≡ (kept.wants_memory self.old || S.has_failed (kept.source_of self.old))) }
         ensures fails { OnErr result ((kept.wants_memory self.new || S.has_failed (kept.source_of self.new)) ≡ true) }

@@ -25,8 +25,8 @@
 //!   ([`workers_text`]) or of an event ([`event_text`]), or the format ([`output_text`])
 //! - [`stream`]: what an input is read from and what an output is written to; [`input`]: reading a whole
 //!   document; [`output`]: writing a whole output
-//! - [`device`]: readers and writers of the standard library, over `retrying`; [`kept`]: a reader that keeps
-//!   what was read
+//! - [`device`]: readers and writers of the standard library, over `retrying`, which makes interrupted calls again;
+//!   [`raw`]: one call of a reader or a writer; [`kept`]: a source that keeps what was read
 #![tactic(auto)]
 
 mod command_line;
@@ -35,6 +35,7 @@ mod help;
 pub mod input;
 pub mod kept;
 pub mod output;
+pub mod raw;
 mod retrying;
 mod selection;
 pub mod stream;
@@ -45,6 +46,7 @@ pub use device::Device;
 pub use input::{InputError, read_input};
 pub use kept::Kept;
 pub use output::write_output;
+pub use raw::{RawRead, RawWrite};
 pub use selection::Selection;
 pub use stream::{DeviceFault, Sink, Source};
 pub use usage::{event_text, output_text, words_text, workers_text};

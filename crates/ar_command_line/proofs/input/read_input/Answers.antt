@@ -5,13 +5,13 @@ use Rattle.ar_command_line.proofs.input.read_input.Goals as goal
 
 pub returns-then-count-eq0-clause-ok : goal.returns-then-count-eq0-clause-ok
 returns-then-count-eq0-clause-ok g c = record {
-  front = consumes_none _ _ _ _ _ _ c.if-count-eq0.true c.loop-turn.invariant.front c.in-Ok.ensures.bytes.0;
+  front = consumes_none _ _ _ _ _ _ c.if-count-eq0.true c.loop-reads.invariant.front c.in-Ok.ensures.bytes.0;
   whole = λ _. c.in-Ok.ensures.bytes.1 c.if-count-eq0.true (search rules);
 }
 
 pub returns-then-count-eq0-clause-taken : goal.returns-then-count-eq0-clause-taken
 returns-then-count-eq0-clause-taken g c =
-    appends_none _ _ _ _ _ _ c.if-count-eq0.true c.loop-turn.invariant.taken c.in-Ok.ensures.takes
+    appends_none _ _ _ _ _ _ c.if-count-eq0.true c.loop-reads.invariant.taken c.in-Ok.ensures.takes
 
 pub returns-in_err-extend_from_slice-clause-ok : goal.returns-in_err-extend_from_slice-clause-ok
 returns-in_err-extend_from_slice-clause-ok g c =
