@@ -13,7 +13,7 @@ use Rattle.ar_command_line.specs.Input.{ReadsUpToLimit}
 use Rattle.ar_eval.specs.Evaluation.{Evaluates, Follows, eval_json_error, prepared, prepared_input}
 use Rattle.ar_command_line.specs.Selection.{Selected, selected}
 use Rattle.ar_command.specs.Serving.{Explains, LacksSelected, RefusesInput, Reports, Says, WritesFront}
-use Rattle.ar_command_line.specs.Output.{AppendsFront}
+use Rattle.ar_command_line.specs.Output.{AppendsFront, Call}
 use Rattle.ar_eval.specs.declared.eval.EvalError.{EvalError}
 use Rattle.ar_command.specs.declared.serving.Closing.{Closing}
 use Rattle.ar_command_line.specs.declared.command_line.Command.{Command}
@@ -25,7 +25,6 @@ use Rattle.ar_command.specs.Private.Refusing.{Names, is_serve_memory}
 use Rattle.ar_command.specs.declared.serving.ServeError.{ServeError}
 use Rattle.ar_command.specs.declared.serving.ServeError.TheVariants.{OutOfMemory, Read, Refused, Work, Write}
 use Rattle.ar_workers.specs.declared.error.WorkError.{WorkError}
-use Rattle.std.specs.Io.KnownBytes.{Appends}
 use Rattle.ar_command.specs.declared.serving.Refusal.TheVariants as refusals
 
 -- one input begins with the bytes that were read, all of them or too many
@@ -117,20 +116,20 @@ with_text : (known : Option (List ℕ)) (command : Command) (text : List ℕ) (c
 with_text None command text closing P says proceeds = tt
 with_text (Some input) command text closing P says proceeds = (text, says, proceeds)
 
-pub written_of_whole : (known after : Option (List ℕ)) (bytes : List ℕ) (command : Command) (text : List ℕ) (own : Closing) (before contents : Option (List ℕ)) (result : Result Closing ServeError) → ReadsUpToLimit known after bytes → Says command bytes text own
-    → IfOk result (λ closing. closing ≡ own) → OnOk result (Appends before contents text)
-    → IfOk result (λ closing. IfSome known (λ input. (text : List ℕ) × Says command input text closing × Appends before contents text))
-written_of_whole known after bytes command text own before contents (Ok closing) reads says same proceeds =
-    with_text known command text closing (Appends before contents) (said_of_whole known after bytes command text closing reads (subst (Says command bytes text) (sym same) says)) proceeds
-written_of_whole known after bytes command text own before contents (Err error) reads says same proceeds = tt
+pub written_of_whole : (known after : Option (List ℕ)) (bytes : List ℕ) (command : Command) (text : List ℕ) (own : Closing) (IsWritten : List ℕ → Type 0) (result : Result Closing ServeError) → ReadsUpToLimit known after bytes → Says command bytes text own
+    → IfOk result (λ closing. closing ≡ own) → OnOk result (IsWritten text) → IfOk result (λ closing. IfSome known (λ input. (text : List ℕ) × Says command input text closing × IsWritten text))
+written_of_whole known after bytes command text own IsWritten (Ok closing) reads says same proceeds =
+    with_text known command text closing IsWritten (said_of_whole known after bytes command text closing reads (subst (Says command bytes text) (sym same) says)) proceeds
+written_of_whole known after bytes command text own IsWritten (Err error) reads says same proceeds = tt
 
-front_of : (known : Option (List ℕ)) (command : Command) (text : List ℕ) (closing : Closing) (before contents : Option (List ℕ)) → IfSome known (λ input. Says command input text closing) → AppendsFront before contents text
-    → IfSome known (WritesFront command before contents)
-front_of None command text closing before contents says proceeds = tt
-front_of (Some input) command text closing before contents says proceeds = record { text = text; closing = closing; says = says; wrote = proceeds }
+module _ {W : Type 0} (contents : W → Option (List ℕ)) (calls : W → Option (List Call)) (writer later : W) where
+  front_of : (known : Option (List ℕ)) (command : Command) (text : List ℕ) (closing : Closing) → IfSome known (λ input. Says command input text closing) → AppendsFront contents calls writer later text
+      → IfSome known (WritesFront command contents calls writer later)
+  front_of None command text closing says proceeds = tt
+  front_of (Some input) command text closing says proceeds = record { text = text; closing = closing; says = says; wrote = proceeds }
 
-pub cut_of_whole : (known after : Option (List ℕ)) (bytes : List ℕ) (command : Command) (text : List ℕ) (own : Closing) (before contents : Option (List ℕ)) (result : Result Closing ServeError) → ReadsUpToLimit known after bytes → Says command bytes text own
-    → OnErr result (AppendsFront before contents text) → result ≡ Err Write → IfSome known (WritesFront command before contents)
-cut_of_whole known after bytes command text own before contents (Ok closing) reads says proceeds is = absurd cc
-cut_of_whole known after bytes command text own before contents (Err error) reads says proceeds is =
-    front_of known command text own before contents (said_of_whole known after bytes command text own reads says) proceeds
+  pub cut_of_whole : (known after : Option (List ℕ)) (bytes : List ℕ) (command : Command) (text : List ℕ) (own : Closing) (result : Result Closing ServeError) → ReadsUpToLimit known after bytes → Says command bytes text own
+      → OnErr result (AppendsFront contents calls writer later text) → result ≡ Err Write → IfSome known (WritesFront command contents calls writer later)
+  cut_of_whole known after bytes command text own (Ok closing) reads says proceeds is = absurd cc
+  cut_of_whole known after bytes command text own (Err error) reads says proceeds is =
+      front_of known command text own (said_of_whole known after bytes command text own reads says) proceeds

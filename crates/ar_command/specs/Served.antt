@@ -1,7 +1,9 @@
 -- What carrying out a command on a reader and a writer returns.
 use Rattle.std.specs.Prelude.{◌≡◌, ◌≢◌, ℕ, Bool, true, List, Option, Result, Err, IfOk, IfErr, IfSome}
-use Rattle.std.specs.Io.KnownBytes.{Appends}
 use Rattle.ar_value.specs.Terms.{Text}
+use Rattle.ar_command_line.specs.History.{GrowsAtMost}
+use Rattle.ar_command_line.specs.Input.{most_reads}
+use Rattle.ar_command_line.specs.Output.{AppendsAll, Call}
 use Rattle.ar_command_line.specs.declared.command_line.Command.{Command}
 use Rattle.ar_workers.specs.declared.error.WorkError.{WorkError}
 use Rattle.ar_command.specs.Serving.{IsCarriedOut, IsCut, RefusesTaken, RefusesInput, Says, WritesFront}
@@ -11,40 +13,42 @@ use Rattle.ar_command.specs.declared.serving.ServeError.{ServeError}
 use Rattle.ar_command.specs.declared.serving.ServeError.TheVariants.{Read, Refused, Work, Write}
 
 -- A command was served, from one reader to one writer. Of the reader it is asked which bytes were taken, which are
--- still to come if they are known, and whether a read failed; of the writer which bytes were written, and whether a
--- write failed.
-pub record Served {R W : Type 0} (command : Command) (taken remaining : R → Option (List ℕ)) (read_failed : R → Bool)
-    (reader later_reader : R)
-    (contents : W → Option (List ℕ)) (write_failed : W → Bool) (writer later_writer : W)
-    (result : Result Closing ServeError) : Type 0 where
-  -- what is written is what the command says of the bytes that were taken, and the closing is the one that belongs to
-  -- it
+-- still to come if they are known, how many reads were made, and whether one failed; of the writer which bytes were
+-- written, which calls it answered, and whether one failed.
+pub record Served {R W : Type 0} (command : Command) (taken remaining : R → Option (List ℕ)) (reads : R → Option ℕ)
+    (read_failed : R → Bool) (reader later_reader : R)
+    (contents : W → Option (List ℕ)) (calls : W → Option (List Call)) (write_failed : W → Bool)
+    (writer later_writer : W) (result : Result Closing ServeError) : Type 0 where
+  -- what is written, and then flushed, is what the command says of the bytes that were taken, and the closing is the
+  -- one that belongs to it
   pub written : IfOk result
-      (IsCarriedOut command (taken reader) (taken later_reader) (contents writer) (contents later_writer))
+      (IsCarriedOut command (taken reader) (taken later_reader) contents calls writer later_writer)
   -- the same of all bytes of a reader whose bytes are known
   pub written_of_known : IfOk result
       (λ closing. IfSome (remaining reader)
       (λ input. (text : Text) × Says command input text closing
-      × Appends (contents writer) (contents later_writer) text))
+      × AppendsAll contents calls writer later_writer text))
   -- a refusal is the first fault of the bytes that were taken,
   pub refused : (refusal : Refusal) → result ≡ Err (Refused refusal)
       → RefusesTaken command (taken reader) (taken later_reader) refusal
   -- and of all bytes where they are known
   pub refused_of_known : (refusal : Refusal) → result ≡ Err (Refused refusal)
       → IfSome (remaining reader) (λ input. RefusesInput command input refusal)
+  -- the reader is read at most this often
+  pub counts : GrowsAtMost (reads reader) (reads later_reader) most_reads
   -- `Read` is returned exactly where a read failed
   pub read : result ≡ Err Read → read_failed later_reader ≡ true
   pub read_reported : read_failed later_reader ≡ true → result ≡ Err Read
-  -- and `Write` exactly where a write failed
+  -- and `Write` exactly where a write or the flush failed
   pub write : result ≡ Err Write → write_failed later_writer ≡ true
   pub write_reported : write_failed later_writer ≡ true → result ≡ Err Write
-  -- what a failed write leaves written is a front of what the command says of the bytes that were taken,
-  pub cut : result ≡ Err Write
-      → IsCut command (taken reader) (taken later_reader) (contents writer) (contents later_writer)
+  -- what a failed write leaves written is a front of what the command says of the bytes that were taken, and where the
+  -- flush failed all of it,
+  pub cut : result ≡ Err Write → IsCut command (taken reader) (taken later_reader) contents calls writer later_writer
   -- and of all bytes where they are known
   pub cut_of_known : result ≡ Err Write
-      → IfSome (remaining reader) (WritesFront command (contents writer) (contents later_writer))
-  -- of all errors, only a failed write leaves anything written
+      → IfSome (remaining reader) (WritesFront command contents calls writer later_writer)
+  -- of all errors, only `Write` leaves anything written
   pub silent : IfErr result (λ error. error ≢ Write → later_writer ≡ writer)
 
 -- this holds of each error of workers that is returned

@@ -28,7 +28,7 @@ use Rattle.ar_document.specs.Opening.{index_of_name}
 use Rattle.ar_document.specs.declared.error.BundleError.{BundleError}
 use Rattle.ar_document.specs.declared.error.BundleError.TheVariants as bundle
 use Rattle.ar_eval.specs.Evaluation.{Evaluates}
-use Rattle.ar_command_line.specs.Output.{AppendsFront}
+use Rattle.ar_command_line.specs.Output.{AppendsAll, AppendsFront, Call}
 use Rattle.ar_command_line.specs.declared.input.InputError.{InputError}
 use Rattle.ar_command_line.specs.declared.input.InputError.TheVariants as input
 use Rattle.ar_eval.specs.declared.eval.EvalError.{EvalError}
@@ -146,32 +146,33 @@ Says (commands.Ordered workers format) input text closing = ReportsInOrder forma
 Says (commands.Explain selection format) input text closing =
     Explains (selected selection) format input text × (closing ≡ Good)
 
--- a command was carried out: what it says of the bytes that were taken was written
-pub record IsCarriedOut (command : Command) (taken_before taken_after contents_before contents_after : Option (List ℕ))
+-- a command was carried out: what it says of the bytes that were taken was written, and then flushed
+pub record IsCarriedOut {W : Type 0} (command : Command) (taken_before taken_after : Option (List ℕ))
+    (contents : W → Option (List ℕ)) (calls : W → Option (List Call)) (writer later_writer : W)
     (closing : Closing) : Type 0 where
   pub input : List ℕ
   pub text : Text
   pub took : Appends taken_before taken_after input
   pub says : Says command input text closing
-  pub wrote : Appends contents_before contents_after text
+  pub wrote : AppendsAll contents calls writer later_writer text
 
--- a command's output was cut: a front of what it says of the bytes that were taken was written
-pub record IsCut (command : Command)
-    (taken_before taken_after contents_before contents_after : Option (List ℕ)) : Type 0 where
+-- a command's output was cut: a front of what it says of the bytes that were taken was written, until a call failed
+pub record IsCut {W : Type 0} (command : Command) (taken_before taken_after : Option (List ℕ))
+    (contents : W → Option (List ℕ)) (calls : W → Option (List Call)) (writer later_writer : W) : Type 0 where
   pub input : List ℕ
   pub text : Text
   pub closing : Closing
   pub took : Appends taken_before taken_after input
   pub says : Says command input text closing
-  pub wrote : AppendsFront contents_before contents_after text
+  pub wrote : AppendsFront contents calls writer later_writer text
 
--- a front of what a command says of an input was written
-pub record WritesFront (command : Command) (contents_before contents_after : Option (List ℕ))
-    (input : Bytes) : Type 0 where
+-- a front of what a command says of an input was written, until a call failed
+pub record WritesFront {W : Type 0} (command : Command) (contents : W → Option (List ℕ))
+    (calls : W → Option (List Call)) (writer later_writer : W) (input : Bytes) : Type 0 where
   pub text : Text
   pub closing : Closing
   pub says : Says command input text closing
-  pub wrote : AppendsFront contents_before contents_after text
+  pub wrote : AppendsFront contents calls writer later_writer text
 
 -- ---- what is refused
 

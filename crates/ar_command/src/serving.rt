@@ -1,9 +1,8 @@
 //! A command, carried out from the bytes read to the bytes written.
 
 ghost use Rattle.std.specs.Prelude.{◌≡◌, ◌≢◌, false, true, Err, IfErr, IfOk, OnErr, OnOk, string_bytes};
-ghost use Rattle.std.specs.Io.KnownBytes.{Appends};
 ghost use Rattle.ar_command.specs.Serving.{IsBroken, RunsAlone, RunsWith};
-ghost use Rattle.ar_command_line.specs.Output.{AppendsFront};
+ghost use Rattle.ar_command_line.specs.Output.{AppendsAll, AppendsFront};
 ghost use Rattle.ar_command.specs.Served.{IfBroken, Served};
 
 use crate::answer::{Said, answer, judged};
@@ -138,8 +137,8 @@ pub fn serve<S: Source, W: Sink, G: Gate, R: Threads + Wait + Sync>(
     requires reader_works { S.has_failed reader.old ≡ false }
     requires writer_works { W.has_failed writer.old ≡ false }
 
-    ensures served { Served command.entry S.taken S.remaining S.has_failed reader.old reader.new
-        W.contents W.has_failed writer.old writer.new result }
+    ensures served { Served command.entry S.taken S.remaining S.reads S.has_failed reader.old reader.new
+        W.contents W.calls W.has_failed writer.old writer.new result }
 
     // A lost number is shown, and an ordered run loses none.
     ensures work { IfBroken result (IsBroken command.entry (S.taken reader.old) (S.taken reader.new)) }
@@ -166,8 +165,8 @@ pub fn serve_plain<S: Source, W: Sink>(
     requires reader_works { S.has_failed reader.old ≡ false }
     requires writer_works { W.has_failed writer.old ≡ false }
 
-    ensures served { Served command.entry S.taken S.remaining S.has_failed reader.old reader.new
-        W.contents W.has_failed writer.old writer.new result }
+    ensures served { Served command.entry S.taken S.remaining S.reads S.has_failed reader.old reader.new
+        W.contents W.calls W.has_failed writer.old writer.new result }
 
     // There are no workers.
     ensures work { (error : WorkError) → result ≢ Err (ServeError.Work error) }
@@ -181,9 +180,8 @@ pub fn serve_plain<S: Source, W: Sink>(
 fn write<W: Sink>(writer: &mut W, said: &Said) -> Result<Closing, ServeError>
     requires { W.has_failed writer.old ≡ false }
     ensures closing { IfOk result (λ closing. closing ≡ said.now.closing) }
-    ensures wrote { OnOk result (Appends (W.contents writer.old) (W.contents writer.new) (string_bytes said.now.text)) }
-    ensures front { OnErr result
-        (AppendsFront (W.contents writer.old) (W.contents writer.new) (string_bytes said.now.text)) }
+    ensures wrote { OnOk result (AppendsAll W.contents W.calls writer.old writer.new (string_bytes said.now.text)) }
+    ensures front { OnErr result (AppendsFront W.contents W.calls writer.old writer.new (string_bytes said.now.text)) }
     ensures works { OnOk result (W.has_failed writer.new ≡ false) }
     ensures fails { IfErr result (λ e. (e ≡ ServeError.Write) × (W.has_failed writer.new ≡ true)) }
 {
