@@ -8,9 +8,13 @@
 //! standard streams and the exit status.
 #![tactic(auto)]
 
-ghost use Rattle.std.specs.Prelude.{◌≡◌, ◌≤◌, ℕ, Ok, false};
+ghost use Rattle.std.specs.Prelude.{◌≡◌, ◌≢◌, ◌≤◌, ◌⊎◌, ℕ, Ok, false};
+ghost use Rattle.ar_command.specs.Served.{IfBroken, Served};
+ghost use Rattle.ar_command.specs.Serving.{IsBroken, RunsWith};
+ghost use Rattle.ar_command_line.specs.Kept.{wants_memory};
 ghost use Rattle.ar_command_line.specs.declared.command_line.Command.TheVariants as commands;
 ghost use Rattle.ar_command_line.specs.declared.command_line.Format.{Format};
+ghost use Rattle.argo_judge.specs.Ending.{EndsWith};
 
 use ar_board::MOST_WORKERS;
 use ar_command::{
@@ -42,7 +46,9 @@ fn main(rt: HostRuntime) -> ExitCode {
 }
 
 /// Does what the command line asks for, and returns the exit status.
-fn run<R: Env + AllocGlobal + Input + Print + Eprint + Threads + Wait + Sync>(rt: &R) -> u8 {
+fn run<R: Env + AllocGlobal + Input + Print + Eprint + Threads + Wait + Sync>(rt: &R) -> u8
+    ensures { result ≤ 5 }
+{
     match arguments(rt) {
         Ok(words) => obey(rt, &words),
         Err(error) => refuse_usage(rt, error),
@@ -53,6 +59,7 @@ fn run<R: Env + AllocGlobal + Input + Print + Eprint + Threads + Wait + Sync>(rt
 fn obey<R>(rt: &R, words: &[String]) -> u8
 where
     R: AllocGlobal + Input + Print + Eprint + Threads + Wait + Sync,
+    ensures { result ≤ 5 }
 {
     match requested(rt, words) {
         Ok(Request::CarryOut(command)) => carry_out(rt, command),
@@ -62,7 +69,9 @@ where
 }
 
 /// Reports a command line that asks for nothing in one line, with the word at fault, and returns the exit status.
-fn refuse_words<R: AllocGlobal + Eprint>(rt: &R, words: &[String], error: UsageError) -> u8 {
+fn refuse_words<R: AllocGlobal + Eprint>(rt: &R, words: &[String], error: UsageError) -> u8
+    ensures { (result ≡ 2) ⊎ (result ≡ 3) }
+{
     match usage_text(rt.alloc(), words, error) {
         Ok(text) => {
             let _ = eprintln!(rt; "argo_judge: {text}");
@@ -73,7 +82,10 @@ fn refuse_words<R: AllocGlobal + Eprint>(rt: &R, words: &[String], error: UsageE
 }
 
 /// Reports a command line that asks for nothing in one line, and returns the exit status.
-fn refuse_usage<R: Eprint>(rt: &R, error: UsageError) -> u8 {
+fn refuse_usage<R: Eprint>(rt: &R, error: UsageError) -> u8
+    ensures memory { error ≡ UsageError.OutOfMemory → result ≡ 3 }
+    ensures refused { error ≢ UsageError.OutOfMemory → result ≡ 2 }
+{
     match error {
         UsageError::OutOfMemory => out_of_memory(rt, ServeError::OutOfMemory),
         error => {
@@ -95,7 +107,9 @@ fn usage_text(alloc: Global, words: &[String], error: UsageError) -> Result<Stri
 }
 
 /// Writes a text, and returns the exit status.
-fn show<R: Print + Eprint>(rt: &R, text: &str) -> u8 {
+fn show<R: Print + Eprint>(rt: &R, text: &str) -> u8
+    ensures { (result ≡ 0) ⊎ (result ≡ 4) }
+{
     let mut writer = Device::new(io::writer(rt));
     match write_output(&mut writer, text.as_bytes()) {
         Ok(()) => status::GOOD,
@@ -141,6 +155,7 @@ where
     R: AllocGlobal + Input + Print + Eprint + Threads + Wait + Sync,
     requires workers { (n : ℕ) (format : Format) → command ≡ commands.Run n format → (1 ≤ n) × (n ≤ MOST_WORKERS) }
     requires ordered { (n : ℕ) (format : Format) → command ≡ commands.Ordered n format → (1 ≤ n) × (n ≤ MOST_WORKERS) }
+    ensures { result ≤ 5 }
 {
     let mut reader = Kept::new(rt.alloc(), Device::new(rt.reader()));
     let mut writer = Device::new(io::writer(rt));
@@ -179,6 +194,13 @@ where
     requires ordered { (n : ℕ) (format : Format) → command ≡ commands.Ordered n format → (1 ≤ n) × (n ≤ MOST_WORKERS) }
     requires reader { S.has_failed reader.old ≡ false }
     requires writer { W.has_failed writer.old ≡ false }
+
+    ensures served { Served command.entry S.taken S.remaining S.reads S.has_failed reader.old reader.new
+        W.contents W.calls W.has_failed writer.old writer.new result }
+
+    // Only a command for workers ends by what became of them.
+    ensures work { IfBroken result (λ error. RunsWith command.entry MOST_WORKERS
+        × IsBroken command.entry (S.taken reader.old) (S.taken reader.new) error) }
 {
     match command {
         Command::Run(..) | Command::Ordered(..) => {
@@ -195,7 +217,9 @@ fn close<R: AllocGlobal + Eprint, I, O>(
     reader: &Kept<Device<I>>,
     writer: &Device<O>,
     outcome: &Result<Closing, ServeError>,
-) -> u8 {
+) -> u8
+    ensures { EndsWith outcome.now (wants_memory reader.now) result }
+{
     match outcome {
         Ok(_) => status::status_of(outcome),
         Err(ServeError::Refused(refusal)) => refuse(rt, command, reader.bytes(), refusal),
@@ -228,7 +252,9 @@ fn refuse<R: AllocGlobal + Eprint>(
     command: Command<'_>,
     input: &[u8],
     refusal: &Refusal,
-) -> u8 {
+) -> u8
+    ensures { (result ≡ 2) ⊎ (result ≡ 3) }
+{
     match refusal_line(rt.alloc(), command, input, refusal) {
         Ok(text) => {
             let _ = eprintln!(rt; "argo_judge: {text}");
@@ -249,7 +275,9 @@ fn refusal_line(
     refusal_text(alloc, command, input, refusal, own)
 }
 
-fn out_of_memory<R: Eprint>(rt: &R, error: ServeError) -> u8 {
+fn out_of_memory<R: Eprint>(rt: &R, error: ServeError) -> u8
+    ensures { result ≡ 3 }
+{
     tell(rt, &error, None);
     status::OUT_OF_MEMORY
 }
