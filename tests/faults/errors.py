@@ -30,7 +30,6 @@ def has_failed_to_read(ended, number):
 
 
 def has_failed_to_write(ended, written, number=None):
-    """Just these bytes were written, and the line reports the system's error of this number, if there is one."""
-    if number is not None:
-        return ended[:3] == (4, written, f'{WRITE}{os.strerror(number)} (os error {number})\n')
-    return ended[:2] == (4, written) and ended.errors.startswith(WRITE) and ended.errors.count('\n') == 1
+    """Just these bytes were written, and the line reports the error of this number, or that a write took nothing."""
+    said = 'write zero' if number is None else f'{os.strerror(number)} (os error {number})'
+    return ended[:3] == (4, written, f'{WRITE}{said}\n')

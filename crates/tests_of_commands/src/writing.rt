@@ -286,3 +286,57 @@ fn interruptions(rt: HostRuntime) {
     assert!(rt; is_served_though_interrupted(rt.alloc(), true));
     assert!(rt; is_served_though_interrupted(rt.alloc(), false));
 }
+
+/// A writer that takes all bytes or none, and can't be flushed.
+#[derive(Drop)]
+struct Unflushed {
+    written: Vec<u8>,
+    takes: bool,
+}
+
+impl Write for Unflushed {
+    fn write(&mut self, buf: &[u8]) -> io::Result<usize> {
+        if !self.takes {
+            return Ok(0);
+        }
+        self.written.extend_from_slice(buf)?;
+        Ok(buf.len())
+    }
+
+    fn flush(&mut self) -> io::Result<()> {
+        Err(io::Error::from(ErrorKind::BrokenPipe))
+    }
+}
+
+/// What is said of a fault. What there is no memory for is left out, so a comparison fails.
+fn words_of(alloc: Global, fault: Option<&io::Error>) -> String {
+    let Some(fault) = fault else {
+        return String::new(alloc);
+    };
+    match format!(in alloc; "{fault}") {
+        Ok(words) => words,
+        Err(_) => String::new(alloc),
+    }
+}
+
+/// Whether the report can't be written to such a writer, what is said of its fault, and that it took just these bytes.
+fn is_refused(alloc: Global, takes: bool, words: &str, taken: &[u8]) -> bool {
+    let mut output = Unflushed {
+        written: Vec::new(alloc),
+        takes,
+    };
+    let mut writer = Device::new(&mut output);
+    let outcome = served_plain(alloc, &mut writer);
+    let said = words_of(alloc, writer.fault());
+    matches!(outcome, Err(ServeError::Write))
+        && said.as_str() == words
+        && output.written.as_slice() == taken
+}
+
+/// Where a flush fails all bytes were taken; a writer that takes nothing of some bytes has failed, too.
+#[test]
+fn faults_of_writers(rt: HostRuntime) {
+    let alloc = rt.alloc();
+    assert!(rt; is_refused(alloc, true, "broken pipe", REPORT.as_bytes()));
+    assert!(rt; is_refused(alloc, false, "write zero", b""));
+}
