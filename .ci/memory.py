@@ -91,13 +91,22 @@ def block_after(items, place):
     return place
 
 
+def body_after(items, place):
+    """Where the body of a function is that is declared at a place, after its clauses."""
+    body = block_after(items, place)
+    for clause in range(place, body):
+        if items[clause][0] in CLAUSES:
+            return body_after(items, body + 1)
+    return body
+
+
 def skipped(items, place):
     """Where a declaration, an import, a clause or an `impl From` ends that begins at a place, or the same place."""
     item = items[place][0]
     if item in DECLARATIONS or item in CLAUSES:
         return block_after(items, place) + 1
     if item == "fn" and items[place + 1][0] == "out_of_memory":
-        return block_after(items, place) + 1
+        return body_after(items, place) + 1
     if item == "impl":
         block = block_after(items, place)
         head = list(words(items[place:block]))

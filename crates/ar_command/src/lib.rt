@@ -22,7 +22,9 @@ pub mod serving;
 pub mod status;
 
 pub use ar_command_line::{
-    Command, Device, DeviceFault, Format, Kept, Selection, Sink, Source, write_output,
+    Command, Device, DeviceFault, Format, Kept, Selection, Sink, Source, UsageError, command_of,
+    write_output,
 };
+pub use ar_document::{BundleError, read_bundle};
 pub use ar_eval::{EvalError, eval};
 pub use serving::{Closing, Refusal, ServeError, serve, serve_plain};

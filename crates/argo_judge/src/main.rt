@@ -260,7 +260,7 @@ fn refuse<R: AllocGlobal + Eprint>(
             let _ = eprintln!(rt; "argo_judge: {text}");
             status::REFUSED
         }
-        Err(error) => out_of_memory(rt, ServeError::from(error)),
+        Err(AllocError) => out_of_memory(rt, ServeError::OutOfMemory),
     }
 }
 
