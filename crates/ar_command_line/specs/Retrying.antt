@@ -31,20 +31,20 @@ pub record IsAnswered {A : Type 0} (before after : Option (List (Result A Error)
   pub lasting : IfErr result IsLasting
   pub few : length interruptions < most_tries
 
--- the device answered with these interruptions, too many, and `TimedOut` is returned
+-- the device answered with these interruptions alone, `most_tries` of them, and `TimedOut` is returned
 pub record IsGivenUp {A : Type 0} (before after : Option (List (Result A Error)))
     (interruptions : List (Result A Error)) (result : Result A Error) : Type 0 where
   pub answers : Extends before after interruptions
   pub many : length interruptions ≡ most_tries
   pub times_out : FailsAs TimedOut result
 
--- A call was made until a signal didn't interrupt it. What the device was asked before and after has its answers, where
--- they are kept.
+-- A call was made until no signal interrupted it. `before` and `after` are the device's answers so far, where they are
+-- kept.
 pub record Retries {A : Type 0} (before after : Option (List (Result A Error))) (result : Result A Error) : Type 0 where
   -- first came interruptions alone, or none,
   pub interruptions : List (Result A Error)
   pub are : All IsInterrupted interruptions
-  -- and then the answer that is returned, unless they were too many
+  -- and then the answer that is returned, unless there were too many
   pub ends : IsAnswered before after interruptions result ⊎ IsGivenUp before after interruptions result
 
 -- what a write results in: what it was answered, but one that took nothing of some bytes has failed
