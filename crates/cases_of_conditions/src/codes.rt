@@ -159,13 +159,14 @@ fn put_tested(alloc: Global, case: &Json, out: &mut Output) -> Written {
     put_tested_run(alloc, case, &code, &value, out)
 }
 
+/// How a run of a value ends. One without memory is said to be, so that the next can be tried.
 fn put_run(alloc: Global, verified: &Verified, value: &Value, out: &mut Output)
     requires { fits (value_view value.now) (shape_view verified.now.shape) ≡ true }
 {
     out.put(" / ");
     match run(alloc, verified, value) {
         Ok(outcome) => put_outcome(alloc, verified.code(), value, outcome, out),
-        Err(_) => out.lose(),
+        Err(_) => out.put("out of memory"),
     }
 }
 
