@@ -24,10 +24,11 @@ pub fn receipts_are_met_or_not()
         → IsMissing histories receipt ⊎ (IsElsewhere histories receipt ⊎ IsOutOfOrder earlier receipt) → ⊥ }
 {}
 
-/// Where no seat has a receipt, no history has an entry. A new board's seats have none, and closing gives as
-/// many entries as there are receipts, so a board that is closed as it was made has empty histories.
+/// Where no seat has a receipt, no history has an entry, if there are as many under each lock. A new board's seats
+/// have none, and closing gives as many entries as receipts, so a board that is closed as it was made has empty
+/// histories.
 #[tactic(auto, using(crate::proofs::Unposted::nothing_stored))]
-pub fn new_boards_are_empty()
+pub fn no_receipts_no_entries()
     ensures { (histories : List (List Entry)) (receipts : List (List Receipt))
         → AllByRecursion (λ own. own ≡ []) receipts → AreAsMany receipts histories
         → AllByRecursion (λ history. history ≡ []) histories }

@@ -42,7 +42,7 @@ pub record IsRun (metrics : List MetricPart) (run : RunPart) : Type 0 where
   pub limits : length run.limits ≡ length metrics
   pub counts : HasPositiveCounts run.limits
 
--- a measured value fits a shape
+-- a measured value fits a shape, and a misfit is never out of memory
 abbrev pub SampleSuits : Shape → Sample → Type 0
 SampleSuits shape sample = SampleFits (λ value. fits value shape ≡ true) sample
 

@@ -25,7 +25,7 @@ SampleFits Fits provider = Unit {0}
 SampleFits Fits (misfit fault) = fault ≢ shape_fault.OutOfMemory
 SampleFits Fits (measured value) = Fits value
 
--- a measured value fits the shape that the conditions are for
+-- a measured value fits the shape that the conditions are for, and a misfit is never out of memory
 abbrev pub Suits : Judge → Sample → Type 0
 Suits judge sample = SampleFits (λ value. FitsEach value judge.success × FitsEach value judge.failure) sample
 

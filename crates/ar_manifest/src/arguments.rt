@@ -38,8 +38,8 @@ impl<V> Arguments<V> {
         Arguments::with_hasher(alloc, NamesHasher::new())
     }
 
-    /// No arguments, whose names will be hashed by `hasher`. Feed it all of them first: then no choice of names makes
-    /// finding one slow.
+    /// No arguments, whose names will be hashed by `hasher`. Feed it all of them first, so that names which were made
+    /// to collide don't.
     pub fn with_hasher(alloc: Global, hasher: NamesHasher) -> Arguments<V>
         ensures { result ≡ [] }
     {

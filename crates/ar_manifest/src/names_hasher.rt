@@ -7,8 +7,8 @@ ghost use Rattle.ar_manifest.specs.Names.{fed};
 use std::hash::{BuildHasher, DefaultHasher, Hash};
 use std::marker::Model;
 
-/// Hashes each name from a state that was fed all names that are to be read. So nobody can choose names that collide:
-/// another choice of names changes how each of them is hashed.
+/// Hashes each name from a state that was fed all names of the list that is to be read. So names that collide in one
+/// list needn't in another: who wants a list of them has to search anew with each change of it.
 #[derive(Drop)]
 pub struct NamesHasher {
     started: DefaultHasher,

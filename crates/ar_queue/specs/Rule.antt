@@ -95,6 +95,7 @@ abbrev pub after_take : View → Item → View
 after_take view (Number number) = record view { taken = view.taken ++ number ∷ [] }
 after_take view End = record view { ended = 1 }
 
+-- an end mark, or a number of the bundle
 abbrev pub IsOfBundle : (events : ℕ) → Item → Type 0
 IsOfBundle events (Number number) = number < events
 IsOfBundle events End = Unit {0}

@@ -171,7 +171,7 @@ where
 ///
 /// # Errors
 ///
-/// Where a thread couldn't be started or memory was wanting, once all workers that were started have
+/// Where a thread couldn't be started or memory was refused, once all workers that were started have
 /// ended.
 pub fn in_threads<'x, M, D, T, G, R>(
     rt: &'x R,

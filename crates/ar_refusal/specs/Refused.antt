@@ -58,7 +58,8 @@ refusal_words (commands.Explain selection format) document refusals.NotThere own
     lacking_words (selected selection) document own
 refusal_words command document refusals.NotThere own = own
 
--- where an input ceases to be JSON, as far as the reader of JSON says: at its end, or at a line and a column
+-- a place that may be named where an input is no JSON: its end, or a line and a column. Which it is the reader of JSON
+-- says, whose contract doesn't tie it to the input.
 pub data Place : Type 0 where
   not_said : Place
   at_the_end : Place
@@ -70,7 +71,7 @@ place_words at_the_end = codes "; the text ends too early"
 place_words (at_line line column) =
     codes "; the fault is at line " ++ (decimal line ++ (codes ", column " ++ decimal column))
 
--- the text, and after it where the input ceases to be JSON
+-- the text, and after it a place or none
 pub record IsWithPlace (own text : Text) : Type 0 where
   pub place : Place
   pub is : text ≡ own ++ place_words place

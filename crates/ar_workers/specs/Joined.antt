@@ -37,7 +37,7 @@ abbrev pub IsDoubleOrUnmet : (number : EventNumber) → List (List Entry) → Li
 IsDoubleOrUnmet number histories receipts doubles =
     (0 < times_in number doubles) ⊎ IsUnmetAmong histories receipts number
 
--- why workers give no histories: no cause is claimed where a thread couldn't be started or memory was wanting
+-- why workers give no histories: no cause is claimed where a thread couldn't be started or memory was refused
 abbrev pub IsWorkCause : Bundle → WorkError → Type 0
 IsWorkCause bundle NoThread = Unit {0}
 IsWorkCause bundle OutOfMemory = Unit {0}

@@ -21,7 +21,7 @@ use std::thread::Threads;
 ///
 /// # Errors
 ///
-/// Where a thread couldn't be started, or where memory was wanting.
+/// Where a thread couldn't be started, or where memory was refused.
 pub(crate) fn settle_all<M, D, G, R>(
     rt: &R,
     alloc: Global,
