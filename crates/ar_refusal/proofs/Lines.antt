@@ -1,5 +1,5 @@
 -- The line of an input that is no JSON.
-use Rattle.std.proofs.Common.{◌≡◌, ◌++◌, List, [], ℕ, true, false, None, Result, Ok, Err, String, IfOk, string_bytes, sym, append-nil, rules}
+use Rattle.std.proofs.Common.{◌≡◌, ◌++◌, List, [], ℕ, true, false, None, Result, Ok, Err, String, Global, IfOk, string_bytes, sym, append-nil, rules}
 use Rattle.ar_json.specs.Document.{json_of}
 use Rattle.ar_command_line.specs.declared.command_line.Command.{Command}
 use Rattle.ar_command.specs.declared.serving.Refusal.{Refusal}
@@ -14,7 +14,7 @@ placed command input own text refusal small none with_place = record {
 }
 
 -- a text that has the words of a place is with a place
-pub is_with : {E : Type 0} (own : List ℕ) (place : Place) (result : Result String E) → IfOk result (λ text. string_bytes text ≡ own ++ place_words place)
+pub is_with : {E : Type 0} (own : List ℕ) (place : Place) (result : Result (String Global) E) → IfOk result (λ text. string_bytes text ≡ own ++ place_words place)
     → IfOk result (λ text. IsWithPlace own (string_bytes text))
 is_with own place (Ok text) is = record { place = place; is = is }
 is_with own place (Err error) is = tt

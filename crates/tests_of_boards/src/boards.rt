@@ -237,7 +237,7 @@ fn assert_board<R: Wait + Abort>(
 {
     let mut text = String::new(alloc);
     put_document(rt, alloc, document, workers, calls, &mut text);
-    assert_eq!(rt; text.as_str(), expected);
+    assert!(rt; text.as_str() == expected, "{text}");
 }
 
 /// A number that nobody posted is lost; once both are posted the histories have both.
