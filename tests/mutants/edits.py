@@ -1,48 +1,22 @@
-#!/usr/bin/env python3
-"""Tries the mutants of crates as `try` does, those of different functions together, and keeps the same record.
-
-    together [NAME ..]    those of the crates named, or of each crate whose record is out of date
-
-The crates and those below them are proved first, in a copy. Then the edits of a crate go into as few copies of it as they
-can, and a check is of the files that they touch alone. An edit counts as refused where a goal of its own function is open,
-or an answer of that function is none any more. Where another edit hides that, the edit is tried alone, first on the files
-that it touches. What isn't seen so, as of a constant, is tried alone on the whole crate, and any open goal counts.
-"""
-import importlib.machinery
-import importlib.util
+"""Mutants: edits of a crate's sources, each of which the prover has to refuse; and how they are tried."""
 import pathlib
 import re
 import shutil
 import subprocess
-import sys
 import tempfile
-from concurrent.futures import ThreadPoolExecutor
+from collections.abc import Iterable, Iterator
 
-sys.dont_write_bytecode = True
-HERE = pathlib.Path(__file__).resolve().parent
-ROOT = HERE.parents[1]
-FUNCTION = re.compile(r"( *)(?:pub(?:\([\w:]+\))? )?(?:const |unsafe )*fn (\w+)")
+from record import PROVE, ROOT, edits_of, functions, load
+
 GOAL = re.compile(r"^(?:note: )?(?:\./)?(src/\S+\.rt):(\d+):\d+: .*(?:is not proved|found no proof|no proof of)", re.M)
 ANSWER = re.compile(r"^(?:\./)?proofs/(\S+)/(?:Answers|Invariants)\.antt:\d+:\d+: error", re.M)
 NO_PROGRAM = re.compile(r"error\[[\w-]+\]")
-
-
-def load(path):
-    """A script or module of this repository or of the kit, by its file."""
-    loader = importlib.machinery.SourceFileLoader(path.stem.replace("-", "_"), str(path))
-    module = importlib.util.module_from_spec(importlib.util.spec_from_loader(loader.name, loader))
-    loader.exec_module(module)
-    return module
-
-
-RECORD = load(HERE / "try")
-PROVE = load(ROOT / "bin" / "prove")
 KIT = pathlib.Path(subprocess.run(["rt", "doc"], capture_output=True, text=True, check=True).stdout.strip()).parent
 
 
-def pairs_of(edit):
+def pairs_of(edit: pathlib.Path) -> list[tuple[str, str, str]]:
     """The texts that an edit replaces: file, old and new."""
-    file, old, found = None, None, []
+    file, old, found = "", "", []
     for line in edit.read_text(encoding="utf-8").splitlines():
         if line.startswith("file: "):
             file = line[6:]
@@ -53,31 +27,32 @@ def pairs_of(edit):
     return found
 
 
-def functions(text):
-    """Each function of a source: its name, and its first and last line, counted from one, attributes and all."""
-    lines = text.splitlines()
-    for number, line in enumerate(lines):
-        found = FUNCTION.match(line)
-        if not found:
-            continue
-        first = number
-        while first and lines[first - 1].lstrip().startswith(("#[", "///")):
-            first -= 1
-        end = next((at for at in range(number, len(lines)) if lines[at].startswith(found[1] + "}")), number)
-        yield found[2], first + 1, end + 1
+def applies(crate: str, edit: pathlib.Path) -> bool:
+    """Whether an edit replaces something, and each old text is in its file once, after the pairs before it."""
+    texts: dict[str, str] = {}
+    pairs = pairs_of(edit)
+    for file, old, new in pairs:
+        path = ROOT / "crates" / crate / file
+        if not path.is_file():
+            return False
+        text = texts.get(file) or path.read_text(encoding="utf-8")
+        if text.count(old) != 1:
+            return False
+        texts[file] = text.replace(old, new)
+    return bool(pairs)
 
 
 class Crate:
-    """A crate, where its libraries are built."""
+    """A crate in a copy of the repository in which the libraries below it are built."""
 
-    def __init__(self, name, copy):
+    def __init__(self, name: str, copy: pathlib.Path) -> None:
         kit = load(KIT / "bin" / "rtlib.py")
         kit.Crate.cuts_libraries = True
         self.name, self.folder = name, copy / "crates" / name
         self.words = kit.Crate(str(self.folder), str(copy), {}).words(["--jobs", "1"], keeps=False)
-        self.edits = sorted((ROOT / "crates" / name / "must-fail").glob("*.edit"))
+        self.edits = edits_of(name)
 
-    def touched(self, edit):
+    def touched(self, edit: pathlib.Path) -> set[tuple[str, str]]:
         """The functions that an edit touches, each as its file and name; none where it touches another item, too."""
         found = set()
         for file, old, _ in pairs_of(edit):
@@ -89,7 +64,7 @@ class Crate:
             found.add((file, inside[-1]))
         return found
 
-    def check(self, edits, files=()):
+    def check(self, edits: Iterable[pathlib.Path], files: Iterable[str] = ()) -> tuple[str, dict[str, str]]:
         """What the check of a copy with these edits says, and the copy's edited sources."""
         with tempfile.TemporaryDirectory() as room:
             for part in PROVE.SOURCES:
@@ -105,7 +80,7 @@ class Crate:
                                  text=True, errors="replace", check=False)
             return ran.stdout + ran.stderr, texts
 
-    def refused_together(self, edits):
+    def refused_together(self, edits: list[pathlib.Path]) -> set[pathlib.Path]:
         """Which of these edits, of different functions each, are refused for an open goal or answer of their own."""
         touched = {edit: self.touched(edit) for edit in edits}
         said, texts = self.check(edits, {file for own in touched.values() for file, _ in own})
@@ -118,20 +93,21 @@ class Crate:
                     if path.startswith(file[4:-3] + "/")}
         return {edit for edit in edits if touched[edit] & open_in}
 
-    def refused_alone(self, edit):
+    def is_refused_alone(self, edit: pathlib.Path) -> bool:
         said, _ = self.check([edit])
         return bool(GOAL.search(said) or ANSWER.search(said)) and not NO_PROGRAM.search(said)
 
-    def is_of_modules(self, edit):
+    def is_of_modules(self, edit: pathlib.Path) -> bool:
         """Whether an edit touches functions of modules alone; a crate's root file is no module of its own."""
         touched = self.touched(edit)
         return bool(touched) and all(file not in ("src/lib.rt", "src/main.rt") for file, _ in touched)
 
-    def batches(self):
+    def batches(self) -> Iterator[list[pathlib.Path]]:
         """The edits in rounds, in each of which no function is touched twice."""
         left = [edit for edit in self.edits if self.is_of_modules(edit)]
         while left:
-            seen, now = set(), []
+            seen: set[tuple[str, str]] = set()
+            now = []
             for edit in left:
                 if not self.touched(edit) & seen:
                     seen |= self.touched(edit)
@@ -139,38 +115,14 @@ class Crate:
             left = [edit for edit in left if edit not in now]
             yield now
 
-    def all_refused(self):
-        refused = set()
+    def missed(self) -> list[str]:
+        """The names of the edits that aren't refused."""
+        refused: set[pathlib.Path] = set()
         for batch in self.batches():
             refused |= self.refused_together(batch)
         for edit in self.edits:
             if edit not in refused and self.is_of_modules(edit):
                 refused |= self.refused_together([edit])
-            if edit not in refused and self.refused_alone(edit):
+            if edit not in refused and self.is_refused_alone(edit):
                 refused.add(edit)
-        missed = [edit.stem for edit in self.edits if edit not in refused]
-        print(f"{self.name}: {len(refused)} refused" + "".join(f"; NOT REFUSED: {it}" for it in missed), flush=True)
-        return not missed
-
-
-def main(names):
-    uses, wanted = PROVE.uses_by_crate(), names or RECORD.due()
-    tried_on = {name: RECORD.hash_of(name) for name in wanted}
-    with tempfile.TemporaryDirectory() as folder:
-        copy = pathlib.Path(folder)
-        every = {it for name in wanted for it in PROVE.below(name, uses)}
-        PROVE.copy_crates(every, copy)
-        if not PROVE.prove("mutants", every, copy):
-            return 1
-        with ThreadPoolExecutor(PROVE.at_a_time()) as pool:
-            refused = dict(zip(wanted, pool.map(lambda name: Crate(name, copy).all_refused(), wanted)))
-    for name in wanted:
-        if refused[name]:
-            RECORD.keep(name, tried_on[name])
-    good = sum(refused.values())
-    print(f"mutants of crates: {good} passed, {len(wanted) - good} failed")
-    return int(good < len(wanted))
-
-
-if __name__ == "__main__":
-    sys.exit(main(sys.argv[1:]))
+        return [edit.stem for edit in self.edits if edit not in refused]
