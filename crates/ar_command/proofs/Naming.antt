@@ -6,7 +6,7 @@ use Rattle.ar_bundle.specs.declared.bundle.MetricPart.{MetricPart}
 use Rattle.ar_bundle.specs.declared.bundle.RunPart.{RunPart}
 use Rattle.ar_command.specs.Private.Counting.{among_all, metric_names, run_names}
 use Rattle.ar_document.specs.Opening.{index_of_name}
-use Rattle.ar_report.proofs.Lines.{none_left, read_at}
+use Rattle.ar_facts.proofs.Lines.{none_left, read_at}
 
 from_next : (index : ℕ) (found : Option ℕ) → among_all index (option_map suc found) ≡ among_all (index + 1) found
 from_next index (Some n) = let same : index + suc n ≡ (index + 1) + n = omega arith in ap Some same

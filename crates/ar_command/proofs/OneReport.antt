@@ -24,9 +24,9 @@ use Rattle.ar_bundle.specs.declared.finding.Finding.TheVariants.{Judged}
 use Rattle.ar_bundle.specs.declared.finding.Finding.TheVariants as findings
 use Rattle.ar_document.specs.Entries.{Entry, entry_view, what_view}
 use Rattle.ar_document.specs.Opening.{Metric, metric_view}
-use Rattle.ar_report.specs.Facts.{facts_found, facts_of_events, facts_of_metrics, facts_of_runs, finding_facts, name_at, phases_of, report_facts, run_facts, stopped}
-use Rattle.ar_report.specs.Report.{report_text}
-use Rattle.ar_report.specs.ReportData.{report_data}
+use Rattle.ar_facts.specs.Facts.{facts_found, facts_of_events, facts_of_metrics, facts_of_runs, finding_facts, name_at, phases_of, report_facts, run_facts, stopped}
+use Rattle.ar_facts.specs.Report.{report_text}
+use Rattle.ar_facts.specs.ReportData.{report_data}
 use Rattle.ar_command.proofs.OneNumbering.{same_numbers}
 use Rattle.ar_command.proofs.OneText.{one_bundle, one_printed}
 use Rattle.ar_command.specs.Alike.{AreOfSameRuns, AreSameConditions, AreSameJudges, AreSameRuns, IsSameBundle, IsSameRun}

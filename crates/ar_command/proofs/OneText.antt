@@ -27,8 +27,8 @@ use Rattle.ar_eval.specs.Evaluation as evaluation
 use Rattle.ar_eval.specs.declared.eval.EvalError.{EvalError}
 use Rattle.serde_json.specs.Written.{compact_text}
 use Rattle.ar_report.specs.Check.{check_text, list_text}
-use Rattle.ar_report.specs.Facts.{check_facts, facts_if_there, facts_of_conditions, facts_of_judges, judge_facts, verified_if_there}
-use Rattle.ar_report.specs.ReportData.{answer_data, check_data}
+use Rattle.ar_facts.specs.Facts.{check_facts, facts_if_there, facts_of_conditions, facts_of_judges, judge_facts, verified_if_there}
+use Rattle.ar_facts.specs.ReportData.{answer_data, check_data}
 use Rattle.ar_command.specs.Alike.{AreSameConditions, AreSameJudges, AreSameRuns, IsSameBundle, IsSameCondition, IsSameRun}
 use Rattle.ar_command.specs.Serving.{IsPrinted, Says, line_of}
 use Rattle.ar_command.specs.declared.serving.Closing.{Closing}

@@ -8,7 +8,7 @@ use Rattle.ar_bundle.specs.Bundle.{Bundle}
 use Rattle.ar_bundle.specs.declared.bundle.RunPart.{RunPart}
 use Rattle.ar_document.specs.Entries.{entry_view}
 use Rattle.ar_document.specs.Opening.{metric_view}
-use Rattle.ar_report.specs.Facts.{RunFacts}
+use Rattle.ar_facts.specs.Facts.{RunFacts}
 use Rattle.ar_value.specs.Terms.{Text}
 use Rattle.ar_command.specs.Serving.{IsReport}
 use Rattle.ar_command_line.specs.declared.command_line.Format.TheVariants as formats

@@ -15,9 +15,9 @@ use Rattle.ar_bundle.specs.declared.history.Entry.{Entry}
 use Rattle.ar_json.specs.Document.{json_in}
 use Rattle.serde_json.specs.Data.{Data}
 use Rattle.ar_report.specs.Check.{check_text, list_text}
-use Rattle.ar_report.specs.Facts.{RunFacts, check_facts, phases_of, report_facts}
-use Rattle.ar_report.specs.Report.{report_text}
-use Rattle.ar_report.specs.ReportData.{IsJsonLine, answer_data, check_data, report_data}
+use Rattle.ar_facts.specs.Facts.{RunFacts, check_facts, phases_of, report_facts}
+use Rattle.ar_facts.specs.Report.{report_text}
+use Rattle.ar_facts.specs.ReportData.{IsJsonLine, answer_data, check_data, report_data}
 use Rattle.ar_reason.specs.Reason.{reasons_of}
 use Rattle.ar_reason.specs.ReasonData.{reasons_data}
 use Rattle.ar_reason.specs.ReasonText.{reasons_text}

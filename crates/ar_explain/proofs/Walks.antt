@@ -10,8 +10,8 @@ use Rattle.ar_value.specs.Value.{Value}
 use Rattle.ar_value.specs.declared.operator.Predicate.{Predicate}
 use Rattle.ar_tree.specs.Meaning.{mean}
 use Rattle.ar_tree.specs.Typed.{Typed}
-use Rattle.ar_tested.specs.Operand.{Meets, failure_of}
-use Rattle.ar_tested.specs.declared.operand.Failure.{Failure as FailureCode}
+use Rattle.ar_operand.specs.Operand.{Meets, failure_of}
+use Rattle.ar_operand.specs.declared.operand.Failure.{Failure as FailureCode}
 use Rattle.ar_explain.specs.Lines.{Explanation, Line, Outcome, earlier_lines, explained, few_items, is_last, item_lines, lines_on_item, own_lines, outcome_of}
 use Rattle.ar_explain.specs.Operands.{failed_on, on_value}
 use Rattle.ar_explain.specs.Private.Failed.{MeetsOn, came, came_on, on_of}

@@ -1,7 +1,7 @@
 -- What explanations in memory say.
 use Rattle.std.specs.Prelude.{map, option_map, string_bytes}
 use Rattle.ar_tree.specs.Views.{typed_view}
-use Rattle.ar_tested.specs.Failures.{failure_of}
+use Rattle.ar_operand.specs.Failures.{failure_of}
 use Rattle.ar_explain.specs.Lines.{Explanation, Line, Outcome, failed, unneeded, valued}
 use Rattle.ar_explain.specs.declared.explanation.Explanation.{Explanation as ExplanationCode}
 use Rattle.ar_explain.specs.declared.explanation.Line.{Line as LineCode}

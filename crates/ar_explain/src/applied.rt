@@ -7,15 +7,15 @@ ghost use Rattle.std.specs.Prelude.{◌≡◌, IfOk, None, Option, Some};
 ghost use Rattle.ar_value.specs.Operators.{Meaning, binary_meaning, field_in, scalar_item, unary_meaning};
 ghost use Rattle.ar_value.specs.Terms.{Text};
 ghost use Rattle.ar_machine.specs.Operand.{operand_value, value_of};
-ghost use Rattle.ar_tested.specs.Operand.{Meets, operand_view};
+ghost use Rattle.ar_operand.specs.Operand.{Meets, operand_view};
 ghost use Rattle.ar_explain.specs.Operands.{one_operand, two_operands, refused_or};
 ghost use Rattle.ar_explain.specs.Private.Failed.{MeetsOn};
 
 use crate::failed::{Failed, one_text, two_text};
 use ar_machine::operand::OperandRef;
 use ar_machine::operand::borrowed::ValueRef;
-use ar_tested::effect::{apply_binary, apply_unary};
-use ar_tested::operand::{Failure, Operand, field_of};
+use ar_operand::apply::{apply_binary, apply_unary};
+use ar_operand::operand::{Failure, Operand, field_of};
 use ar_value::operator::{BinaryOperator, UnaryOperator};
 use std::alloc::{AllocError, Global};
 

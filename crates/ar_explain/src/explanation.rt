@@ -2,7 +2,7 @@
 
 ghost use Rattle.std.specs.Prelude.{◌≡◌, [], ◌∷◌, IfOk, OnOk, option_map, string_bytes};
 ghost use Rattle.ar_tree.specs.Views.{typed_view};
-ghost use Rattle.ar_tested.specs.Operand.{operand_view};
+ghost use Rattle.ar_operand.specs.Operand.{operand_view};
 ghost use Rattle.ar_explain.specs.Private.Keeping.{with_line};
 ghost use Rattle.ar_explain.specs.Private.Places.{place_view, said_by, with_lines_at};
 ghost use Rattle.ar_show.specs.Values.{shown_value};
@@ -10,8 +10,8 @@ ghost use Rattle.ar_explain.specs.Views.{explanation_view, line_view, said_view}
 
 use crate::applied::operand_ref;
 use crate::place::Place;
+use ar_operand::operand::{Failure, Operand};
 use ar_show::push_value;
-use ar_tested::operand::{Failure, Operand};
 use ar_tree::Typed;
 use std::alloc::{AllocError, Global};
 

@@ -7,7 +7,7 @@ ghost use Rattle.ar_explain.specs.Private.Places.{as_meant};
 use crate::place::Place;
 use ar_machine::operand::borrowed::ValueRef;
 use ar_machine::operand::predicate::decided;
-use ar_tested::operand::Failure;
+use ar_operand::operand::Failure;
 use ar_value::operator::Predicate;
 
 /// An item that a predicate looks at.

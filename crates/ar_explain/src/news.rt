@@ -3,7 +3,7 @@
 ghost use Rattle.std.specs.Prelude.{◌≡◌, ◌∷◌, [], Ok, OnOk};
 ghost use Rattle.ar_value.specs.Value.{bool};
 ghost use Rattle.ar_tree.specs.Views.{typed_view};
-ghost use Rattle.ar_tested.specs.Operand.{operand_view};
+ghost use Rattle.ar_operand.specs.Operand.{operand_view};
 ghost use Rattle.ar_explain.specs.Lines.{changes_value, is_literal, own_lines, outcome_of, says_more, unneeded_line};
 ghost use Rattle.ar_explain.specs.Private.Failed.{came, came_on};
 ghost use Rattle.ar_explain.specs.Private.Places.{Explains, place_view, said_by, with_lines_at};
@@ -12,7 +12,7 @@ ghost use Rattle.ar_explain.specs.Views.{explanation_view};
 use crate::explanation::{Explanation, Remark};
 use crate::failed::Failed;
 use crate::place::Place;
-use ar_tested::operand::{Failure, Operand};
+use ar_operand::operand::{Failure, Operand};
 use ar_tree::Typed;
 use ar_value::operator::UnaryOperator;
 use std::alloc::{AllocError, Global};

@@ -8,8 +8,8 @@ use Rattle.serde_json.specs.declared.value.Value.{Value as Json}
 use Rattle.ar_bundle.proofs.Bundles.{of_each}
 use Rattle.ar_bundle.specs.Bundle.{Bundle, finding_at}
 use Rattle.ar_bundle.specs.declared.bundle.EventPart.{EventPart}
-use Rattle.ar_report.proofs.Lines.{found_inside, two}
-use Rattle.ar_report.specs.Facts.{event_facts}
+use Rattle.ar_facts.proofs.Lines.{found_inside, two}
+use Rattle.ar_facts.specs.Facts.{event_facts}
 use Rattle.ar_reason.proofs.Lists.{next_object, next_text, no_object_left, no_text_left}
 use Rattle.ar_reason.specs.Private.Found.{AreFoundSteps, IsFoundStep}
 use Rattle.ar_reason.specs.Reason.{Given, conditions_of, given_of, reason_if_there, reason_of, reason_with}
@@ -17,11 +17,11 @@ use Rattle.ar_reason.specs.ReasonData.{change_data, evaluated_data, given_misfit
 use Rattle.ar_reason.specs.ReasonData as objects
 use Rattle.ar_reason.specs.ReasonText.{change_line, condition_text, given_line, reason_text, why_line}
 use Rattle.ar_reason.specs.Why.{why_of, why_words}
-use Rattle.ar_report.specs.ReportData.{event_data, text_or_null}
+use Rattle.ar_facts.specs.ReportData.{event_data, text_or_null}
 use Rattle.serde_json.specs.Data.{null}
 use Rattle.std.specs.Option.{option_map_or}
 use Rattle.std.specs.Prelude.{option_map}
-use Rattle.ar_report.specs.Report.{event_line}
+use Rattle.ar_facts.specs.Report.{event_line}
 use Rattle.ar_reason.specs.declared.steps.Step.{Step}
 
 pub is_found : (bundle : Bundle) (steps : List Step) (index : ℕ) (step : Step) → AreFoundSteps bundle steps → index < length steps → step ≡ slice_index_or steps index step → finding_at bundle step.entry.number ≡ Some step.entry.finding

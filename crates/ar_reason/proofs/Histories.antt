@@ -9,7 +9,7 @@ use Rattle.ar_limits.specs.declared.limits.Limits.{Limits}
 use Rattle.ar_bundle.specs.Bundle.{Bundle, events_of, happened}
 use Rattle.ar_bundle.specs.Lawful.{numbers_of}
 use Rattle.ar_bundle.specs.declared.history.Entry.{Entry}
-use Rattle.ar_report.proofs.Lines.{none_left, read_at}
+use Rattle.ar_facts.proofs.Lines.{none_left, read_at}
 use Rattle.ar_reason.specs.Private.Found.{closer_or}
 use Rattle.ar_reason.specs.Steps.{closer_of, closes, if_chosen, is_chosen, own_change, step_after, steps_after}
 use Rattle.ar_reason.specs.declared.chosen.Chosen.{Chosen}

@@ -8,8 +8,8 @@ use Rattle.ar_limits.specs.declared.counts.Counts.{Counts}
 use Rattle.ar_limits.specs.declared.limits.Limits.{Limits}
 use Rattle.ar_limits.specs.declared.phase.Phase.{Phase}
 use Rattle.ar_bundle.specs.declared.bundle.MetricPart.{MetricPart}
-use Rattle.ar_report.proofs.Lines.{metric_read, no_item, no_metric_left as no_metric_there, no_more, one_more, one_seen}
-use Rattle.ar_report.specs.Facts.{facts_of_metrics, metric_facts}
+use Rattle.ar_facts.proofs.Lines.{metric_read, no_item, no_metric_left as no_metric_there, no_more, one_more, one_seen}
+use Rattle.ar_facts.specs.Facts.{facts_of_metrics, metric_facts}
 use Rattle.ar_reason.specs.ReasonData.{waiting_data}
 use Rattle.ar_reason.specs.ReasonText.{metric_lines}
 

@@ -10,11 +10,11 @@ use Rattle.ar_bundle.specs.Bundle.{Bundle, events_of}
 use Rattle.ar_bundle.specs.Lawful.{numbers_of}
 use Rattle.ar_bundle.specs.declared.bundle.RunPart.{RunPart}
 use Rattle.ar_bundle.specs.declared.history.Entry.{Entry}
-use Rattle.ar_report.proofs.Lines.{no_item, no_more, none_left, one_more, one_seen, read_at, three}
-use Rattle.ar_report.specs.Facts.{facts_of_metrics}
-use Rattle.ar_report.specs.Private.Entries.{AreFound}
-use Rattle.ar_report.specs.Report.{run_line}
-use Rattle.ar_report.specs.ReportData.{run_with}
+use Rattle.ar_facts.proofs.Lines.{no_item, no_more, none_left, one_more, one_seen, read_at, three}
+use Rattle.ar_facts.specs.Facts.{facts_of_metrics}
+use Rattle.ar_facts.specs.Private.Entries.{AreFound}
+use Rattle.ar_facts.specs.Report.{run_line}
+use Rattle.ar_facts.specs.ReportData.{run_with}
 use Rattle.ar_reason.specs.Private.Found.{AreFoundSteps, IsFoundStep}
 use Rattle.ar_reason.specs.Reason.{RunReasons, reason_of, reasons_from, run_reasons}
 use Rattle.ar_reason.specs.ReasonData.{reason_data, run_reasons_data, waiting_data}

@@ -27,7 +27,7 @@ use Rattle.ar_explain.specs.Operands.{failed_on}
 use Rattle.ar_explain.specs.Lines.{Explanation, Outcome, earlier_lines, explained, failed, outcome_of, unneeded, valued}
 use Rattle.ar_misfit.specs.Misfit.{misfit}
 use Rattle.ar_misfit.specs.MisfitText.{misfit_text_of}
-use Rattle.ar_report.specs.Facts.{EventFacts, MetricFacts, event_facts, facts_of_metrics}
+use Rattle.ar_facts.specs.Facts.{EventFacts, MetricFacts, event_facts, facts_of_metrics}
 use Rattle.ar_show.specs.Values.{shown_value}
 use Rattle.ar_reason.specs.Steps.{chosen_steps, is_chosen_run}
 use Rattle.ar_reason.specs.Why.{why_of}

@@ -5,9 +5,9 @@ use Rattle.ar_value.specs.Operators.{Failure, faulted, ill_kinded}
 use Rattle.ar_value.specs.Terms.{Text}
 use Rattle.ar_limits.specs.declared.phase.Phase.{Phase}
 use Rattle.ar_explain.specs.Lines.{Explanation, Line, Outcome, failed, unneeded, valued}
-use Rattle.ar_report.specs.Facts.{MetricFacts}
-use Rattle.ar_report.specs.Names.{phase_name}
-use Rattle.ar_report.specs.Report.{event_line, metric_line, run_line}
+use Rattle.ar_facts.specs.Facts.{MetricFacts}
+use Rattle.ar_facts.specs.Names.{phase_name}
+use Rattle.ar_facts.specs.Report.{event_line, metric_line, run_line}
 use Rattle.ar_show.specs.PartText.{shown_part}
 use Rattle.ar_reason.specs.Counts.{changed_counts}
 use Rattle.ar_reason.specs.Reason.{EvaluatedCondition, Given, Reason, RunReasons, gave_misfit, gave_nothing, gave_value}

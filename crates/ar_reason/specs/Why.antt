@@ -6,7 +6,7 @@ use Rattle.ar_limits.specs.Metric.{is_unsuccessful}
 use Rattle.ar_limits.specs.declared.event.Effect.{Effect}
 use Rattle.ar_limits.specs.declared.event.Effect.TheVariants as effect
 use Rattle.ar_limits.specs.declared.phase.Phase.{Phase}
-use Rattle.ar_report.specs.Names.{phase_name}
+use Rattle.ar_facts.specs.Names.{phase_name}
 use Rattle.ar_reason.specs.declared.steps.Change.{Change}
 use Rattle.ar_reason.specs.declared.steps.Step.{Step}
 use Rattle.ar_reason.specs.declared.why.Why.{Why}

@@ -12,9 +12,9 @@ ghost use Rattle.ar_bundle.specs.Lawful.{AreHistoriesSoFar};
 ghost use Rattle.ar_bundle.specs.Sound.{IsRun};
 ghost use Rattle.ar_judge.specs.Verdict.{sample_view};
 ghost use Rattle.ar_explain.specs.Views.{explanation_view, line_view, said_view};
-ghost use Rattle.ar_report.specs.Facts.{facts_of_metrics, metric_facts};
-ghost use Rattle.ar_report.specs.Private.Entries.{AreFound};
-ghost use Rattle.ar_report.specs.ReportData.{IsJsonLine, count_data, text_or_null};
+ghost use Rattle.ar_facts.specs.Facts.{facts_of_metrics, metric_facts};
+ghost use Rattle.ar_facts.specs.Private.Entries.{AreFound};
+ghost use Rattle.ar_facts.specs.ReportData.{IsJsonLine, count_data, text_or_null};
 ghost use Rattle.ar_tree.specs.Views.{typed_view};
 ghost use Rattle.ar_show.specs.PartText.{shown_part};
 ghost use Rattle.ar_reason.specs.Reason.{conditions_by, conditions_of, conditions_on, evaluated_if_there, evaluated_with, has_failed, reason_of, reasons_of, run_reasons};
@@ -34,11 +34,11 @@ use crate::waiting::push_waiting;
 use crate::why::{push_why, why_of};
 use ar_bundle::{Bundle, Entry, Histories, MetricPart, RunPart, What};
 use ar_explain::{Evaluation, Line, Said, tell};
-use ar_judge::{Judge, Sample, SharedCondition, Which};
-use ar_limits::{Counts, Limits, Phase, RunState};
-use ar_report::{
+use ar_facts::{
     Object, counts_json, event_json, json_line, limits_json, metric_json, run_object, runs_object,
 };
+use ar_judge::{Judge, Sample, SharedCondition, Which};
+use ar_limits::{Counts, Limits, Phase, RunState};
 use ar_show::push_part;
 use ar_tree::Typed;
 use ar_value::value::Value;
@@ -301,7 +301,7 @@ fn why_json(alloc: Global, step: Step) -> Result<Json, AllocError>
     Json::try_from_str(alloc, &words)
 }
 
-#[tactic(auto, using(ar_report::proofs::Lines::found_inside))]
+#[tactic(auto, using(ar_facts::proofs::Lines::found_inside))]
 fn reason_json(
     alloc: Global,
     document: &Json,
@@ -428,7 +428,7 @@ fn run_json(
     )
 }
 
-#[tactic(auto, using(ar_report::proofs::Runs::has_history, ar_report::proofs::Runs::run_is_run, crate::proofs::Runs::next_object, crate::proofs::Runs::object_passed, crate::proofs::Runs::no_object_left))]
+#[tactic(auto, using(ar_facts::proofs::Runs::has_history, ar_facts::proofs::Runs::run_is_run, crate::proofs::Runs::next_object, crate::proofs::Runs::object_passed, crate::proofs::Runs::no_object_left))]
 fn runs_list(
     alloc: Global,
     document: &Json,

@@ -7,8 +7,8 @@ ghost use Rattle.ar_bundle.specs.Bundle.{finding_at, judge_at};
 ghost use Rattle.ar_bundle.specs.Lawful.{AreHistoriesSoFar};
 ghost use Rattle.ar_bundle.specs.Sound.{IsRun};
 ghost use Rattle.ar_judge.specs.Verdict.{sample_view};
-ghost use Rattle.ar_report.specs.Facts.{facts_of_metrics, metric_facts};
-ghost use Rattle.ar_report.specs.Private.Entries.{AreFound};
+ghost use Rattle.ar_facts.specs.Facts.{facts_of_metrics, metric_facts};
+ghost use Rattle.ar_facts.specs.Private.Entries.{AreFound};
 ghost use Rattle.ar_reason.specs.Reason.{conditions_by, conditions_of, reason_of, reasons_of, run_reasons};
 ghost use Rattle.ar_reason.specs.ReasonText.{change_line, condition_text, given_line, metric_lines, outcome_lines, reason_text, reasons_text, run_reasons_text, waits_line, why_line};
 ghost use Rattle.ar_reason.specs.Views.{given_view};
@@ -24,9 +24,9 @@ use crate::steps::{Change, Step, is_chosen_run, steps_of};
 use crate::waiting::push_waiting;
 use crate::why::{Why, push_why, why_of};
 use ar_bundle::{Bundle, Entry, Histories, MetricPart, RunPart, What};
+use ar_facts::{phase_name, put_event, put_metric, put_run_line};
 use ar_judge::{Judge, Sample};
 use ar_limits::{Counts, Limits, Phase, RunState};
-use ar_report::{phase_name, put_event, put_metric, put_run_line};
 use serde_json::Value as Json;
 use std::alloc::{AllocError, Global};
 
@@ -126,7 +126,7 @@ fn push_outcome(out: &mut String, step: Step) -> Result<(), AllocError>
 }
 
 /// The lines of an event.
-#[tactic(auto, using(ar_report::proofs::Lines::found_inside))]
+#[tactic(auto, using(ar_facts::proofs::Lines::found_inside))]
 fn push_reason(
     alloc: Global,
     out: &mut String,
@@ -250,7 +250,7 @@ fn push_run(
 /// # Errors
 ///
 /// Out of memory alone.
-#[tactic(auto, using(ar_report::proofs::Runs::has_history, ar_report::proofs::Runs::run_is_run, crate::proofs::Runs::next_run, crate::proofs::Runs::run_passed, crate::proofs::Runs::no_run_left))]
+#[tactic(auto, using(ar_facts::proofs::Runs::has_history, ar_facts::proofs::Runs::run_is_run, crate::proofs::Runs::next_run, crate::proofs::Runs::run_passed, crate::proofs::Runs::no_run_left))]
 pub fn reasons_text(
     alloc: Global,
     document: &Json,

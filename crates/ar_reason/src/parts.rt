@@ -3,7 +3,7 @@
 ghost use Rattle.std.specs.Prelude.{◌≡◌, ◌++◌, IfOk, OnOk, codes, flat_map, map, option_map, string_bytes};
 ghost use Rattle.std.specs.List.{list_any};
 ghost use Rattle.ar_value.specs.View.{value_view};
-ghost use Rattle.ar_tested.specs.Failures.{failure_of};
+ghost use Rattle.ar_operand.specs.Failures.{failure_of};
 ghost use Rattle.ar_tree.specs.Views.{typed_view};
 ghost use Rattle.ar_explain.specs.Views.{explanation_view, line_view, said_view};
 ghost use Rattle.ar_show.specs.PartText.{shown_part};
@@ -13,8 +13,8 @@ ghost use Rattle.ar_reason.specs.ReasonText.{condition_text, failure_name, item_
 use crate::evaluated::{NamedTree, tree_of};
 use ar_explain::{Explanation, Line, Said, tell};
 use ar_judge::{Judge, SharedCondition, Which};
+use ar_operand::operand::Failure;
 use ar_show::push_part;
-use ar_tested::operand::Failure;
 use ar_tree::Typed;
 use ar_value::value::Value;
 use std::alloc::{AllocError, Global};

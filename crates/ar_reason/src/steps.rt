@@ -5,7 +5,7 @@ ghost use Rattle.ar_limits.specs.Replay.{ForEachReplay, IsOfMetricBelow, Replays
 ghost use Rattle.ar_bundle.specs.Bundle.{events_of, finding_at};
 ghost use Rattle.ar_bundle.specs.Lawful.{numbers_of};
 ghost use Rattle.ar_bundle.specs.Sound.{IsRun};
-ghost use Rattle.ar_report.specs.Private.Entries.{AreFound};
+ghost use Rattle.ar_facts.specs.Private.Entries.{AreFound};
 ghost use Rattle.ar_reason.specs.Private.Found.{closer_or};
 ghost use Rattle.ar_reason.specs.Steps.{chosen_steps, closes, is_chosen, is_chosen_run, is_of_metric, own_change, metric_after, step_after};
 
@@ -121,7 +121,7 @@ fn is_chosen(chosen: Chosen, step: Step) -> bool
 }
 
 /// The events of a run's history that are asked for, each with what it did to its metric.
-#[tactic(auto, using(ar_report::proofs::Lines::is_found, ar_report::proofs::Replaying::no_entry_left, ar_report::proofs::Replaying::of_metric, ar_report::proofs::Replaying::room_left, crate::proofs::Histories::none_chosen_left))]
+#[tactic(auto, using(ar_facts::proofs::Lines::is_found, ar_facts::proofs::Replaying::no_entry_left, ar_facts::proofs::Replaying::of_metric, ar_facts::proofs::Replaying::room_left, crate::proofs::Histories::none_chosen_left))]
 pub(crate) fn steps_of(
     alloc: Global,
     bundle: &Bundle,

@@ -1,12 +1,12 @@
 //! Why an event closed its run, or what had made it late.
 
 ghost use Rattle.std.specs.Prelude.{◌≡◌, ◌++◌, OnOk, string_bytes};
-ghost use Rattle.ar_report.specs.Names.{phase_name};
+ghost use Rattle.ar_facts.specs.Names.{phase_name};
 ghost use Rattle.ar_reason.specs.Why.{why_applied, why_closed, why_late, why_of, why_words};
 
 use crate::steps::{Change, Step};
+use ar_facts::phase_name;
 use ar_limits::{Effect, Phase};
-use ar_report::phase_name;
 use std::alloc::AllocError;
 use std::fmt::Write;
 

@@ -17,9 +17,9 @@ use Rattle.ar_limits.specs.declared.event.Effect.{Effect}
 use Rattle.ar_limits.specs.declared.event.Effect.TheVariants as effects
 use Rattle.ar_limits.specs.declared.phase.Phase.{Phase}
 use Rattle.ar_limits.specs.declared.phase.Phase.TheVariants as phases
-use Rattle.ar_report.specs.Facts.{EventFacts, FindingFacts, MetricFacts, RunFacts, judged, stopped}
-use Rattle.ar_report.specs.Names.{cause_if_error, cause_name, closed_as, effect_name, fault_if_error, fault_of_cause, misfit_name, phase_name, verdict_name}
-use Rattle.ar_report.specs.ReportData.{count_or_null, counts_data, event_data, finding_data, limits_data, metric_data, report_data, run_data, text_or_null}
+use Rattle.ar_facts.specs.Facts.{EventFacts, FindingFacts, MetricFacts, RunFacts, judged, stopped}
+use Rattle.ar_facts.specs.Names.{cause_if_error, cause_name, closed_as, effect_name, fault_if_error, fault_of_cause, misfit_name, phase_name, verdict_name}
+use Rattle.ar_facts.specs.ReportData.{count_or_null, counts_data, event_data, finding_data, limits_data, metric_data, report_data, run_data, text_or_null}
 
 -- ---- what names are of
 

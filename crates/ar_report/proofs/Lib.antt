@@ -1,6 +1,2 @@
 pub mod Determined
-pub mod Lines
-pub mod Objects
-pub mod Replaying
-pub mod Runs
 pub mod Shown

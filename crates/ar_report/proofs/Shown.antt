@@ -6,14 +6,14 @@ use Rattle.ar_judge.specs.Verdict.{Judge}
 use Rattle.ar_bundle.specs.Sound.{IsRun, JudgesEach}
 use Rattle.ar_bundle.specs.declared.bundle.MetricPart.{MetricPart}
 use Rattle.ar_bundle.specs.declared.bundle.RunPart.{RunPart}
-use Rattle.ar_report.specs.Facts.{ConditionFacts, facts_of_conditions, facts_of_judges, judge_facts}
+use Rattle.ar_facts.specs.Facts.{ConditionFacts, facts_of_conditions, facts_of_judges, judge_facts}
 use Rattle.serde_json.specs.Data.{Data}
 use Rattle.serde_json.specs.View.{view}
 use Rattle.serde_json.specs.declared.value.Value.{Value}
 use Rattle.ar_report.specs.Private.Shown.{condition_seen, conditions_seen}
-use Rattle.ar_report.specs.ReportData.{condition_data}
+use Rattle.ar_facts.specs.ReportData.{condition_data, named_list}
 use Rattle.ar_report.specs.declared.conditions.NamedCondition.{NamedCondition}
-use Rattle.ar_report.proofs.Lines.{no_item, no_more, none_left, one_more, one_seen, read_at}
+use Rattle.ar_facts.proofs.Lines.{no_item, no_more, none_left, one_more, one_seen, read_at}
 
 same_length : (metrics : List MetricPart) (judges : List Judge) → JudgesEach metrics judges → length judges ≡ length metrics
 same_length [] [] each = refl
@@ -68,3 +68,8 @@ next_condition conditions index condition found new total inside read is so_far 
 pub no_condition : (conditions : List NamedCondition) (index : ℕ) (found : List Value) (total : List Data) → length conditions ≤ index → map view found ++ map condition_data (conditions_seen (drop index conditions)) ≡ total → map view found ≡ total
 no_condition conditions index found total past so_far =
     no_item condition_data (conditions_seen (drop index conditions)) (map view found) total (ap conditions_seen (none_left conditions index past)) so_far
+
+-- conditions that were gathered, as their object
+pub checked : (found borrowed : List NamedCondition) (conditions : List ConditionFacts) (shown : List Value) (written : Data) → conditions_seen found ≡ conditions → borrowed ≡ found → map view shown ≡ map condition_data (conditions_seen borrowed) → written ≡ named_list (codes "conditions") (map view shown) → written ≡ check_data conditions
+checked found borrowed conditions shown written seen same shown_are is =
+    is ∙ ap (named_list (codes "conditions")) (shown_are ∙ ap (map condition_data) (ap conditions_seen same ∙ seen))

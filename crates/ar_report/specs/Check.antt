@@ -3,8 +3,8 @@
 use Rattle.std.specs.Prelude.{List, ◌++◌, codes, flat_map, length}
 use Rattle.ar_value.specs.Terms.{Text}
 use Rattle.ar_code.specs.Listing.{listing}
-use Rattle.ar_report.specs.Facts.{ConditionFacts}
-use Rattle.ar_report.specs.Report.{figure_text}
+use Rattle.ar_facts.specs.Facts.{ConditionFacts}
+use Rattle.ar_facts.specs.Report.{figure_text}
 
 -- what comes before the text of each condition: its run, its metric, and which of the two it is
 unfoldable pub condition_name : (run metric which : Text) → Text

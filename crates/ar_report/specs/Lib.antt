@@ -1,7 +1,2 @@
 pub mod Private
-pub mod Names
-pub mod Facts
-pub mod Report
 pub mod Check
-pub mod ReportData
-pub mod Making

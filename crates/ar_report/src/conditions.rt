@@ -3,12 +3,12 @@
 ghost use Rattle.std.specs.Prelude.{◌≡◌, ◌++◌, IfOk, OnOk, length, option_map, string_bytes};
 ghost use Rattle.ar_bundle.specs.Sound.{IsRun};
 ghost use Rattle.ar_report.specs.Check.{bounds_line, check_text, condition_name, list_text, listed_text};
-ghost use Rattle.ar_report.specs.Facts.{check_facts, condition_facts, facts_if_there, facts_of_judges, judge_facts};
+ghost use Rattle.ar_facts.specs.Facts.{check_facts, condition_facts, facts_if_there, facts_of_judges, judge_facts};
 ghost use Rattle.ar_report.specs.Private.Shown.{condition_seen, conditions_seen};
 
-use crate::reports::put_counted;
 use ar_bundle::{Bundle, MetricPart, RunPart};
 use ar_code::listing;
+use ar_facts::put_counted;
 use ar_judge::Judge;
 use ar_safety::Verified;
 use std::alloc::{AllocError, Global};
@@ -86,7 +86,7 @@ fn push_judges<'b>(
 }
 
 /// The conditions of a bundle: run by run, metric by metric, success before failure.
-#[tactic(auto, using(crate::proofs::Shown::next_of_runs, crate::proofs::Shown::no_run_left, crate::proofs::Runs::run_is_run))]
+#[tactic(auto, using(crate::proofs::Shown::next_of_runs, crate::proofs::Shown::no_run_left, ar_facts::proofs::Runs::run_is_run))]
 pub(crate) fn conditions(
     alloc: Global,
     bundle: &Bundle,

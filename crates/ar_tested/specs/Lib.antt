@@ -1,4 +1,2 @@
-pub mod Failures
-pub mod Operand
 pub mod Run
 pub mod Private

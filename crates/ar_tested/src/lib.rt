@@ -11,27 +11,21 @@
 //!
 //! - [`outcome`]: how runs end
 //! - `runs`: runs, loops over states; `state`: those
-//! - `machine`: operations on states; [`effect`]: those that take operands and give one; `loops`: the
-//!   begin and the step of a loop
-//! - `stack`, [`operand`], [`list`]: operands, borrowed where the measured value or the code has them;
-//!   `operators`: signs, arithmetic, orders and equality of operands; [`found`]: what loops find
+//! - `machine`: operations on states; `effect`: those that take operands and give one; `loops`: the begin and the step of
+//!   a loop
+//! - `stack`: stacks of operands; `list`: lists that loops iterate over
 //! - [`laws`]: what holds of all runs
 //!
-//! What takes no states and no code is public, and `ar_explain`, which evaluates trees, uses it, too. It is total, but
-//! for `found::answer_of`, which asks for a number of items below 2^63.
-//! `specs/Operand` says what operands represent, `specs/Private` what states in memory do. Of the items that a
-//! loop found, memory keeps what its answer takes, so a state in memory represents one of the machine by a
-//! relation (`ar_machine/specs/Same`).
+//! Operands are those of `ar_operand`. `specs/Private` says what states in memory do. Of the items that a loop found,
+//! memory keeps what its answer takes, so a state in memory represents one of the machine by a relation
+//! (`ar_machine/specs/Same`).
 #![tactic(auto)]
 
-pub mod effect;
-pub mod found;
+mod effect;
 pub mod laws;
-pub mod list;
+mod list;
 mod loops;
 mod machine;
-pub mod operand;
-mod operators;
 pub mod outcome;
 mod runs;
 mod stack;

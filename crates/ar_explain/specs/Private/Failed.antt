@@ -2,7 +2,7 @@
 use Rattle.std.specs.Prelude.{◌≡◌, string_bytes, Option, None, option_map, Result, Ok, Err}
 use Rattle.ar_value.specs.Operators.{Failure}
 use Rattle.ar_value.specs.Terms.{Text}
-use Rattle.ar_tested.specs.Failures.{failure_of}
+use Rattle.ar_operand.specs.Failures.{failure_of}
 use Rattle.ar_explain.specs.declared.failed.Failed.{Failed as FailedCode}
 
 -- on which operands a failure arises

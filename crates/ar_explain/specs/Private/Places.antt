@@ -13,8 +13,8 @@ use Rattle.ar_tree.specs.Typed.{Typed, Typeds, typeds}
 use Rattle.ar_tree.specs.Views.{typed_view}
 use Rattle.ar_tree.specs.declared.typed.Typed.{Typed as TypedCode}
 use Rattle.ar_machine.specs.Operand.{value_of}
-use Rattle.ar_tested.specs.Operand.{Meets, failure_of, operand_view}
-use Rattle.ar_tested.specs.declared.operand.Failure.{Failure as FailureCode}
+use Rattle.ar_operand.specs.Operand.{Meets, failure_of, operand_view}
+use Rattle.ar_operand.specs.declared.operand.Failure.{Failure as FailureCode}
 use Rattle.ar_explain.specs.Lines.{Explanation, Line, Outcome, each_item_lines, earlier_lines, failed, items_lines, unneeded, valued, with_own}
 use Rattle.ar_explain.specs.Operands.{failed_on, item_failed_on, two_operands, on_value, refused_or}
 use Rattle.ar_explain.specs.Private.Failed.{MeetsOn}

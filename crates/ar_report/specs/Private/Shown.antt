@@ -1,6 +1,6 @@
 -- Conditions as they are gathered in memory.
 use Rattle.std.specs.Prelude.{List, map}
-use Rattle.ar_report.specs.Facts.{ConditionFacts, condition_facts}
+use Rattle.ar_facts.specs.Facts.{ConditionFacts, condition_facts}
 use Rattle.ar_report.specs.declared.conditions.NamedCondition.{NamedCondition}
 
 abbrev pub condition_seen : NamedCondition → ConditionFacts

@@ -10,7 +10,7 @@ use Rattle.ar_tree.specs.Meaning.{over}
 use Rattle.ar_tree.specs.Typed as typed
 use Rattle.ar_tree.specs.Views.{typed_view}
 use Rattle.ar_tree.specs.declared.typed.Typed.{the_lemmas}
-use Rattle.ar_tested.specs.Operand.{failure_of, operand_view}
+use Rattle.ar_operand.specs.Operand.{failure_of, operand_view}
 use Rattle.ar_explain.specs.Lines.{each_item_lines, lines_on_item, unneeded_line}
 use Rattle.ar_explain.specs.Private.Failed.{on_of}
 use Rattle.ar_explain.specs.Private.Keeping.{with_lines}

@@ -1,7 +1,7 @@
 use Rattle.std.proofs.Common.{◌∙◌}
 use Rattle.ar_value.specs.View.{value_view}
 use Rattle.ar_tree.specs.Views.{typed_view}
-use Rattle.ar_tested.specs.Operand.{operand_view}
+use Rattle.ar_operand.specs.Operand.{operand_view}
 use Rattle.ar_explain.specs.Private.Places.{place_view}
 use Rattle.ar_explain.proofs.Walks.{answer_said, parts_explained}
 use Rattle.ar_explain.proofs.walk.tell.Goals as goal

@@ -1,6 +1,6 @@
 use Rattle.std.proofs.Common.{◌≡◌, ◌++◌, drop, map}
 use Rattle.serde_json.specs.View.{view}
-use Rattle.ar_report.specs.Facts.{facts_of_metrics}
+use Rattle.ar_facts.specs.Facts.{facts_of_metrics}
 use Rattle.ar_reason.specs.ReasonData.{waiting_data}
 use Rattle.ar_reason.proofs.data.metrics_list.Given as goal
 

@@ -1,5 +1,5 @@
 use Rattle.std.proofs.Common.{◌≡◌, ◌++◌, drop, flat_map, string_bytes}
-use Rattle.ar_report.specs.Facts.{facts_of_metrics}
+use Rattle.ar_facts.specs.Facts.{facts_of_metrics}
 use Rattle.ar_reason.specs.ReasonText.{metric_lines}
 use Rattle.ar_reason.proofs.lines.push_metrics.Given as goal
 

@@ -1,7 +1,7 @@
 use Rattle.std.proofs.Common.{rules, ◌≡◌, ◌++◌, ◌∙◌, ap, string_bytes, subst}
 use Rattle.std.specs.Prelude.{slice_index_or}
 use Rattle.serde_json.specs.View.{view}
-use Rattle.ar_report.proofs.Lines.{found_inside, on_ok}
+use Rattle.ar_facts.proofs.Lines.{found_inside, on_ok}
 use Rattle.ar_reason.specs.ReasonText.{given_line}
 use Rattle.ar_reason.proofs.Events.{reason_written}
 use Rattle.ar_reason.proofs.lines.push_reason.Goals as goal

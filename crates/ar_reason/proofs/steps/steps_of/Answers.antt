@@ -1,5 +1,5 @@
 use Rattle.std.proofs.Common.{rules, ◌+◌, ◌∙◌, ap}
-use Rattle.ar_report.proofs.Replaying.{next_read}
+use Rattle.ar_facts.proofs.Replaying.{next_read}
 use Rattle.ar_reason.proofs.Histories.{closer_read, next_step}
 use Rattle.ar_reason.proofs.steps.steps_of.Goals as goal
 

@@ -1,6 +1,6 @@
 use Rattle.std.proofs.Common.{rules, arith}
 use Rattle.std.proofs.lemmas.Grind.{common_steps}
-use Rattle.ar_report.proofs.Runs.{run_is_run}
+use Rattle.ar_facts.proofs.Runs.{run_is_run}
 use Rattle.ar_report.proofs.Shown.{next_of_runs, no_run_left}
 use Rattle.ar_report.proofs.conditions.conditions.Goals as goal
 

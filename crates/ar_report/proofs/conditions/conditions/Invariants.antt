@@ -1,5 +1,5 @@
 use Rattle.std.proofs.Common.{◌≡◌, ◌++◌, drop}
-use Rattle.ar_report.specs.Facts.{check_facts, facts_of_conditions}
+use Rattle.ar_facts.specs.Facts.{check_facts, facts_of_conditions}
 use Rattle.ar_report.specs.Private.Shown.{conditions_seen}
 use Rattle.ar_report.proofs.conditions.conditions.Given as goal
 

@@ -1,6 +1,6 @@
 use Rattle.std.proofs.Common.{◌≡◌, ◌++◌, drop, flat_map, string_bytes}
 use Rattle.ar_report.specs.Check.{listed_text}
-use Rattle.ar_report.specs.Facts.{check_facts}
+use Rattle.ar_facts.specs.Facts.{check_facts}
 use Rattle.ar_report.specs.Private.Shown.{conditions_seen}
 use Rattle.ar_report.proofs.conditions.list_text.Given as goal
 

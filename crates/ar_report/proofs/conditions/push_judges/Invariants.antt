@@ -1,5 +1,5 @@
 use Rattle.std.proofs.Common.{◌≡◌, ◌++◌, drop}
-use Rattle.ar_report.specs.Facts.{facts_of_judges}
+use Rattle.ar_facts.specs.Facts.{facts_of_judges}
 use Rattle.ar_report.specs.Private.Shown.{conditions_seen}
 use Rattle.ar_report.proofs.conditions.push_judges.Given as goal
 

@@ -1,7 +1,7 @@
 use Rattle.std.proofs.Common.{◌≡◌, ◌++◌, drop, map}
 use Rattle.serde_json.specs.View.{view}
 use Rattle.ar_report.specs.Private.Shown.{conditions_seen}
-use Rattle.ar_report.specs.ReportData.{condition_data}
+use Rattle.ar_facts.specs.ReportData.{condition_data}
 use Rattle.ar_report.proofs.json.conditions_json.Given as goal
 
 -- the conditions so far come before those that are left

@@ -1,5 +1,5 @@
 use Rattle.std.proofs.Common.{rules}
-use Rattle.ar_report.proofs.Objects.{next_metric}
+use Rattle.ar_facts.proofs.Objects.{next_metric}
 use Rattle.ar_report.proofs.json.metrics_json.Goals as goal
 
 pub loop-number-preserved : goal.loop-number-preserved

@@ -1,7 +1,7 @@
 use Rattle.std.proofs.Common.{◌≡◌, ◌++◌, drop, map}
 use Rattle.serde_json.specs.View.{view}
-use Rattle.ar_report.specs.Facts.{facts_of_metrics}
-use Rattle.ar_report.specs.ReportData.{metric_data}
+use Rattle.ar_facts.specs.Facts.{facts_of_metrics}
+use Rattle.ar_facts.specs.ReportData.{metric_data}
 use Rattle.ar_report.proofs.json.metrics_json.Given as goal
 
 -- the metrics so far come before those that are left

@@ -4,9 +4,9 @@ use Rattle.serde_json.specs.Read.{max_depth}
 use Rattle.serde_json.specs.Written.{has_float}
 use Rattle.std.proofs.lemmas.Result.{IfOk-weaker}
 use Rattle.ar_bundle.specs.Lawful.{numbers_of}
-use Rattle.ar_report.specs.Facts.{report_facts}
-use Rattle.ar_report.specs.ReportData.{IsJsonLine, named_list}
-use Rattle.ar_report.proofs.Objects.{report_exact, report_flat}
+use Rattle.ar_facts.specs.Facts.{report_facts}
+use Rattle.ar_facts.specs.ReportData.{IsJsonLine, named_list}
+use Rattle.ar_facts.proofs.Objects.{report_exact, report_flat}
 use Rattle.ar_report.proofs.json.report_json.Goals as goal
 
 pub json_line-requires-clause-exact : goal.json_line-requires-clause-exact

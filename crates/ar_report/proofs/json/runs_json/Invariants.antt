@@ -1,8 +1,8 @@
 use Rattle.std.proofs.Common.{◌≡◌, ◌++◌, drop, map}
 use Rattle.serde_json.specs.View.{view}
 use Rattle.ar_bundle.specs.Lawful.{numbers_of}
-use Rattle.ar_report.specs.Facts.{facts_of_runs, report_facts}
-use Rattle.ar_report.specs.ReportData.{run_data}
+use Rattle.ar_facts.specs.Facts.{facts_of_runs, report_facts}
+use Rattle.ar_facts.specs.ReportData.{run_data}
 use Rattle.ar_report.proofs.json.runs_json.Given as goal
 
 -- the runs so far come before those that are left

@@ -1,5 +1,5 @@
 use Rattle.std.proofs.Common.{rules}
-use Rattle.ar_report.proofs.Lines.{is_found, next_event, no_event}
+use Rattle.ar_facts.proofs.Lines.{is_found, next_event, no_event}
 use Rattle.ar_report.proofs.reports.put_events.Goals as goal
 
 pub put_event-requires : goal.put_event-requires

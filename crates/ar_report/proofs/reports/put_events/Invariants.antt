@@ -1,6 +1,6 @@
 use Rattle.std.proofs.Common.{◌≡◌, ◌++◌, drop, flat_map, string_bytes}
-use Rattle.ar_report.specs.Private.Entries.{facts_of_entries}
-use Rattle.ar_report.specs.Report.{event_line}
+use Rattle.ar_facts.specs.Private.Entries.{facts_of_entries}
+use Rattle.ar_facts.specs.Report.{event_line}
 use Rattle.ar_report.proofs.reports.put_events.Given as goal
 
 -- the lines so far come before those of the entries that are left

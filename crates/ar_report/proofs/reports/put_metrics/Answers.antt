@@ -1,5 +1,5 @@
 use Rattle.std.proofs.Common.{rules, string_bytes}
-use Rattle.ar_report.proofs.Lines.{next_metric}
+use Rattle.ar_facts.proofs.Lines.{next_metric}
 use Rattle.ar_report.proofs.reports.put_metrics.Goals as goal
 
 pub loop-number-preserved : goal.loop-number-preserved

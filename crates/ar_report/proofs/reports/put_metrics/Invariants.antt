@@ -1,6 +1,6 @@
 use Rattle.std.proofs.Common.{◌≡◌, ◌++◌, drop, flat_map, string_bytes}
-use Rattle.ar_report.specs.Facts.{facts_of_metrics}
-use Rattle.ar_report.specs.Report.{metric_line}
+use Rattle.ar_facts.specs.Facts.{facts_of_metrics}
+use Rattle.ar_facts.specs.Report.{metric_line}
 use Rattle.ar_report.proofs.reports.put_metrics.Given as goal
 
 -- the lines so far come before those of the metrics that are left

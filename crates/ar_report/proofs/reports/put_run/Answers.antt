@@ -1,7 +1,7 @@
 use Rattle.std.proofs.Common.{◌≡◌, ◌++◌, flat_map, string_bytes, subst}
-use Rattle.ar_report.specs.Facts.{facts_of_metrics}
-use Rattle.ar_report.specs.Report.{metric_line, run_line}
-use Rattle.ar_report.proofs.Lines.{on_ok, run_is}
+use Rattle.ar_facts.specs.Facts.{facts_of_metrics}
+use Rattle.ar_facts.specs.Report.{metric_line, run_line}
+use Rattle.ar_facts.proofs.Lines.{on_ok, run_is}
 use Rattle.ar_report.proofs.reports.put_run.Goals as goal
 
 pub returns : goal.returns

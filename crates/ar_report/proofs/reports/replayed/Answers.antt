@@ -1,6 +1,6 @@
 use Rattle.std.proofs.Common.{rules, ◌+◌, ◌∙◌, ap}
-use Rattle.ar_report.proofs.Lines.{is_found}
-use Rattle.ar_report.proofs.Replaying.{next_entry, no_entry_left, of_metric, room_left, next_read}
+use Rattle.ar_facts.proofs.Lines.{is_found}
+use Rattle.ar_facts.proofs.Replaying.{next_entry, no_entry_left, of_metric, room_left, next_read}
 use Rattle.ar_report.proofs.reports.replayed.Goals as goal
 
 pub loop-entry-preserved : goal.loop-entry-preserved

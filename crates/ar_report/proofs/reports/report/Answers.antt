@@ -1,6 +1,6 @@
 use Rattle.std.proofs.Common.{arith, rules}
 use Rattle.std.proofs.lemmas.Grind.{common_steps}
-use Rattle.ar_report.proofs.Runs.{next_run, no_run, has_history, run_is_run}
+use Rattle.ar_facts.proofs.Runs.{next_run, no_run, has_history, run_is_run}
 use Rattle.ar_report.proofs.reports.report.Goals as goal
 
 pub bounds-histories-number : goal.bounds-histories-number

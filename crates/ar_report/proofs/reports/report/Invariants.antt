@@ -1,7 +1,7 @@
 use Rattle.std.proofs.Common.{◌≡◌, ◌++◌, drop, flat_map, map, string_bytes}
 use Rattle.ar_bundle.specs.Lawful.{numbers_of}
-use Rattle.ar_report.specs.Facts.{facts_of_runs, report_facts}
-use Rattle.ar_report.specs.Report.{report_text, run_text}
+use Rattle.ar_facts.specs.Facts.{facts_of_runs, report_facts}
+use Rattle.ar_facts.specs.Report.{report_text, run_text}
 use Rattle.ar_report.proofs.reports.report.Given as goal
 
 -- the lines so far come before those of the runs that are left

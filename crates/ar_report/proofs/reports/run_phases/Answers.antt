@@ -1,6 +1,6 @@
 use Rattle.std.proofs.Common.{arith, rules}
 use Rattle.std.proofs.lemmas.Grind.{common_steps}
-use Rattle.ar_report.proofs.Runs.{has_history, next_phase, no_phase, run_is_run}
+use Rattle.ar_facts.proofs.Runs.{has_history, next_phase, no_phase, run_is_run}
 use Rattle.ar_report.proofs.reports.run_phases.Goals as goal
 
 pub bounds-histories-number : goal.bounds-histories-number

@@ -1,6 +1,6 @@
 use Rattle.std.proofs.Common.{◌≡◌, ◌++◌, drop, map}
 use Rattle.ar_bundle.specs.Lawful.{numbers_of}
-use Rattle.ar_report.specs.Facts.{facts_of_runs, phases_of, report_facts}
+use Rattle.ar_facts.specs.Facts.{facts_of_runs, phases_of, report_facts}
 use Rattle.ar_report.proofs.reports.run_phases.Given as goal
 
 -- the phases so far come before those of the runs that are left

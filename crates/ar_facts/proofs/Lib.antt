@@ -1,0 +1,4 @@
+pub mod Lines
+pub mod Objects
+pub mod Replaying
+pub mod Runs

@@ -1,6 +1,0 @@
-use Rattle.std.proofs.Common.{arith}
-use Rattle.std.proofs.lemmas.Grind.{common_steps}
-use Rattle.ar_report.proofs.names.put_verdict.Goals as goal
-
-pub returns-in_ok-push_str-in-Error : goal.returns-in_ok-push_str-in-Error
-returns-in_ok-push_str-in-Error c = grind (arith, common_steps)
