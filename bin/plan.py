@@ -67,7 +67,7 @@ def seconds_of(crate: str, costs: dict[str, Cost]) -> int:
 
 
 def chains(uses: Uses, costs: dict[str, Cost]) -> dict[str, list[str]]:
-    """The longest chain of crates that begins with each and goes up, each of which uses the one before it."""
+    """For each crate the longest chain that begins with it, in which each crate uses the one before."""
     longest: dict[str, list[str]] = {}
     for crate in reversed(uses):
         above = [longest[it] for it in uses if it in longest and crate in uses[it]]

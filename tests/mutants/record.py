@@ -68,7 +68,7 @@ def functions(text: str) -> Iterator[tuple[str, int, int]]:
 
 def without_bodies(text: str) -> str:
     """A source without the bodies of its functions: a body begins after the brace that ends the signature's line, or
-    that stands alone after a contract."""
+    that is a line of its own after a contract."""
     kept, ends = [], None
     indent = None
     for line in text.splitlines():

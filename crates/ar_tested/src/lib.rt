@@ -11,8 +11,8 @@
 //!
 //! - [`outcome`]: how runs end
 //! - `runs`: runs, loops over states; `state`: those
-//! - `machine`: operations on states; `effect`: those that take operands and give one; `loops`: the begin and the step of
-//!   a loop
+//! - `machine`: operations on states; `effect`: those that take operands and give one; `loops`: the begin and the
+//!   step of a loop
 //! - `stack`: stacks of operands; `list`: lists that loops iterate over
 //! - [`laws`]: what holds of all runs
 //!
