@@ -6,20 +6,20 @@
 //! object, which reads back as what was written (`specs/ReportData`). Here are the parts: a run's line, a metric's and
 //! an event's, and their objects. `ar_report` prints whole runs by them, and `ar_reason` what led to each event.
 //!
-//! - `lines`: the lines of runs, metrics and events
+//! - `data`: the objects of runs, metrics and events
 //! - `making`: an object that is being made, member by member
 //! - `names`: phases, verdicts and effects as they are printed
-//! - `objects`: the objects of runs, metrics and events
+//! - `text`: the lines of runs, metrics and events
 #![tactic(auto)]
 
-mod lines;
+mod data;
 mod making;
 mod names;
-mod objects;
+mod text;
 
-pub use lines::{put_counted, put_event, put_metric, put_run_line};
-pub use making::Object;
-pub use names::{phase_name, put_verdict};
-pub use objects::{
+pub use data::{
     VERSION, counts_json, event_json, json_line, limits_json, metric_json, run_object, runs_object,
 };
+pub use making::Object;
+pub use names::{phase_name, put_verdict};
+pub use text::{put_counted, put_event, put_metric, put_run_line};

@@ -9,11 +9,11 @@ ghost use Rattle.ar_bundle.specs.Bundle.{finding_at};
 ghost use Rattle.ar_facts.specs.Facts.{event_facts, finding_facts, judged, metric_facts, stopped};
 ghost use Rattle.ar_facts.specs.ReportData.{IsJsonLine, counts_data, event_data, finding_data, limits_data, metric_data, named_list, run_with};
 
-use crate::lines::name_at;
 use crate::making::Object;
 use crate::names::{
     cause_if_error, closed_as, effect_name, fault_if_error, phase_name, verdict_name,
 };
+use crate::text::name_at;
 use ar_bundle::{Bundle, Entry, Finding, MetricPart, What};
 use ar_judge::Verdict;
 use ar_limits::{Counts, Effect, Limits, Phase};

@@ -4,7 +4,7 @@ use Rattle.std.specs.Prelude.{slice_index_or}
 use Rattle.ar_facts.specs.Names.{effect_text}
 use Rattle.ar_facts.specs.Facts.{facts_found}
 use Rattle.ar_facts.specs.Report.{finding_text}
-use Rattle.ar_facts.proofs.lines.put_event.Goals as goal
+use Rattle.ar_facts.proofs.text.put_event.Goals as goal
 
 pub returns : goal.returns
 returns c =

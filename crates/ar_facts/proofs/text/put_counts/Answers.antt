@@ -1,7 +1,7 @@
 use Rattle.std.proofs.Common.{codes, string_bytes}
 use Rattle.ar_facts.specs.Report.{figure_text, errors_text}
 use Rattle.ar_facts.proofs.Lines.{four, on_ok}
-use Rattle.ar_facts.proofs.lines.put_counts.Goals as goal
+use Rattle.ar_facts.proofs.text.put_counts.Goals as goal
 
 pub returns : goal.returns
 returns c =
