@@ -19,7 +19,7 @@ use ar_value::shape::Shape;
 use std::alloc::{AllocError, Global};
 
 /// What an operand was found to be, whether or not it may be nil as well.
-#[derive(Clone, Copy, Debug)]
+#[derive(Clone, Copy)]
 pub enum OperandKind {
     Nil,
     Bool,
@@ -31,7 +31,7 @@ pub enum OperandKind {
 }
 
 /// What was found where an operand isn't of a kind that is taken.
-#[derive(Clone, Copy, Debug)]
+#[derive(Clone, Copy)]
 pub enum Operands {
     /// What is before a field's name.
     Before(OperandKind),

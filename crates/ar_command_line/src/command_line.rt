@@ -170,8 +170,12 @@ fn named<'w>(name: &str, matches: &ArgMatches<'w>) -> Result<Command<'w>, UsageE
 fn run_command<'w>(matches: &ArgMatches<'w>) -> Result<Command<'w>, UsageError>
     ensures { asked result ≡ run_command (rows_of (found_of matches.now)) }
 {
-    let workers = workers_of(matches).ok_or(UsageError::Workers)?;
-    let format = format_of(matches).ok_or(UsageError::Output)?;
+    let Some(workers) = workers_of(matches) else {
+        return Err(UsageError::Workers);
+    };
+    let Some(format) = format_of(matches) else {
+        return Err(UsageError::Output);
+    };
     match (has_flag(matches, "plain"), has_flag(matches, "ordered")) {
         (false, false) => Ok(Command::Run(workers, format)),
         (true, false) => Ok(Command::Plain(format)),
@@ -185,12 +189,18 @@ fn run_command<'w>(matches: &ArgMatches<'w>) -> Result<Command<'w>, UsageError>
 fn explain_command<'w>(matches: &ArgMatches<'w>) -> Result<Command<'w>, UsageError>
     ensures { asked result ≡ explain_command (rows_of (found_of matches.now)) }
 {
-    let event = event_of(matches).ok_or(UsageError::Event)?;
-    let format = format_of(matches).ok_or(UsageError::Output)?;
+    let Some(event) = event_of(matches) else {
+        return Err(UsageError::Event);
+    };
+    let Some(format) = format_of(matches) else {
+        return Err(UsageError::Output);
+    };
     let run = matches.get_str("run");
     let metric = matches.get_str("metric");
-    let selection = selection_of(event, run, metric).ok_or(UsageError::Several)?;
-    Ok(Command::Explain(selection, format))
+    match selection_of(event, run, metric) {
+        Some(selection) => Ok(Command::Explain(selection, format)),
+        None => Err(UsageError::Several),
+    }
 }
 
 /// The number of workers that `run` is given, and `DEFAULT_WORKERS` where it is given none.

@@ -7,7 +7,7 @@ use ar_quote::push_quoted;
 use std::alloc::{AllocError, Global};
 
 /// The options that a command was given.
-#[derive(Clone, Copy, Debug)]
+#[derive(Clone, Copy)]
 pub struct Given {
     pub workers: bool,
     pub plain: bool,
@@ -19,7 +19,7 @@ pub struct Given {
 }
 
 /// An option that has a value.
-#[derive(Clone, Copy, Debug)]
+#[derive(Clone, Copy)]
 pub enum Valued {
     Workers,
     Output,
@@ -29,7 +29,7 @@ pub enum Valued {
 }
 
 /// A command that takes options.
-#[derive(Clone, Copy, Debug)]
+#[derive(Clone, Copy)]
 pub enum Taker {
     EvalOrCheck,
     Run,
@@ -37,7 +37,7 @@ pub enum Taker {
 }
 
 /// What may come next on a command line.
-#[derive(Clone, Copy, Debug)]
+#[derive(Clone, Copy)]
 pub enum Next {
     Command,
     Nothing,

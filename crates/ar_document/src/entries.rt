@@ -161,8 +161,12 @@ fn measurement_of(
         (measurement_of (opened_view opened.now) number name.now (view item.now)) }
     ensures entry { IfOk result (FitsBundle opened.now.metrics.items (length opened.now.runs.items)) }
 {
-    let metric = text_of(item, "metric").ok_or(BundleError::BadEntry(number))?;
-    let found = given(item.get("value"), item.get("error")).ok_or(BundleError::BadEntry(number))?;
+    let Some(metric) = text_of(item, "metric") else {
+        return Err(BundleError::BadEntry(number));
+    };
+    let Some(found) = given(item.get("value"), item.get("error")) else {
+        return Err(BundleError::BadEntry(number));
+    };
     let run = run_number(opened, number, name)?;
     measured_of(alloc, opened, number, run, metric, found)
 }
@@ -180,7 +184,9 @@ fn entry_of(
         → Gives is_bundle_memory entry_view result (entry_in (opened_view opened.now) earlier (view item.now)) }
     ensures entry { IfOk result (FitsBundle opened.now.metrics.items (length opened.now.runs.items)) }
 {
-    let name = text_of(item, "run").ok_or(BundleError::BadEntry(number))?;
+    let Some(name) = text_of(item, "run") else {
+        return Err(BundleError::BadEntry(number));
+    };
     if is_true(item.get("stop")) {
         stop_of(opened, number, name)
     } else {

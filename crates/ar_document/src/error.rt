@@ -11,7 +11,7 @@ use thiserror::Error;
 /// Why an input is no bundle, in the order of the checks; but `ShapeMissing` and `Shapes` are
 /// checked metric by metric, `Bind` and `Build` run by run, and the last three entry by entry, of which
 /// `BadEntry` comes before the names. Numbers of metrics, runs and entries count from 0.
-#[derive(Clone, Copy, Debug, Error)]
+#[derive(Clone, Copy, Error)]
 pub enum BundleError {
     /// It has more than 16,777,216 bytes.
     TooLarge,
@@ -64,6 +64,26 @@ impl BundleError {
         }
     }
 
+    /// The variant's name.
+    fn name(self) -> &'static str {
+        match self {
+            BundleError::TooLarge => "TooLarge",
+            BundleError::Utf8OrJson => "Utf8OrJson",
+            BundleError::Manifest(_) => "Manifest",
+            BundleError::ShapeMissing(_) => "ShapeMissing",
+            BundleError::Shapes(..) => "Shapes",
+            BundleError::Runs => "Runs",
+            BundleError::DoubleRun(_) => "DoubleRun",
+            BundleError::Bind(..) => "Bind",
+            BundleError::Build(..) => "Build",
+            BundleError::TooManyMeasurements => "TooManyMeasurements",
+            BundleError::BadEntry(_) => "BadEntry",
+            BundleError::UnknownRun(_) => "UnknownRun",
+            BundleError::UnknownMetric(_) => "UnknownMetric",
+            BundleError::OutOfMemory => "OutOfMemory",
+        }
+    }
+
     /// The words before the number.
     fn before(self) -> &'static str {
         match self {
@@ -109,6 +129,28 @@ impl BundleError {
             BundleError::Build(_, metric, error) => write!(f, "{metric}, {error}"),
             _ => Ok(()),
         }
+    }
+}
+
+impl fmt::Debug for BundleError {
+    fn fmt<W: fmt::Write>(&self, f: &mut fmt::Formatter<W>) -> fmt::Result {
+        let mut shown = f.debug_tuple(self.name());
+        if let Some(number) = self.number() {
+            shown.field(&number);
+        }
+        match self {
+            BundleError::Manifest(error) | BundleError::Bind(_, error) => {
+                shown.field(error);
+            }
+            BundleError::Shapes(_, error) => {
+                shown.field(error);
+            }
+            BundleError::Build(_, metric, error) => {
+                shown.field(metric).field(error);
+            }
+            _ => {}
+        }
+        shown.finish()
     }
 }
 

@@ -95,7 +95,9 @@ fn metric_of(
         (with_shape (option_map (λ json. view json.now) shapes.entry) earlier metric.now) }
 {
     let name = metric.name.as_str();
-    let declared = declared(shapes, name).ok_or(BundleError::ShapeMissing(number))?;
+    let Some(declared) = declared(shapes, name) else {
+        return Err(BundleError::ShapeMissing(number));
+    };
     let shape = shape_of(alloc, declared, number)?;
     Ok(MetricPart {
         name: Text::of(alloc, name)?,

@@ -81,10 +81,9 @@ pub fn own_arguments(alloc: Global, found: Option<&Json>) -> Result<Args, Bundle
 fn run_of(alloc: Global, item: &Json) -> Result<Run, BundleError>
     ensures { Gives is_bundle_memory (λ run. run) result (run_of (view item.now)) }
 {
-    let name = item
-        .get("name")
-        .and_then(Json::as_str)
-        .ok_or(BundleError::Runs)?;
+    let Some(name) = item.get("name").and_then(Json::as_str) else {
+        return Err(BundleError::Runs);
+    };
     let own = own_arguments(alloc, item.get("args"))?;
     let (own, name) = zip_ok(own, Text::of(alloc, name))?;
     Ok(Run { name, own })

@@ -9,7 +9,7 @@ use thiserror::Error;
 
 /// Why a document is no template that can be judged, or why its texts can't be bound. A
 /// number is that of an argument, a metric or an item of `dryRun`, counted from 0.
-#[derive(Clone, Copy, Debug, Error)]
+#[derive(Clone, Copy, Error)]
 pub enum ManifestError {
     /// `apiVersion` is another value.
     WrongVersion,
@@ -76,6 +76,30 @@ impl ManifestError {
         }
     }
 
+    /// The variant's name.
+    fn name(self) -> &'static str {
+        match self {
+            ManifestError::WrongVersion => "WrongVersion",
+            ManifestError::WrongKind => "WrongKind",
+            ManifestError::NameMissing => "NameMissing",
+            ManifestError::BadArgs(_) => "BadArgs",
+            ManifestError::NoMetrics => "NoMetrics",
+            ManifestError::TooManyMetrics => "TooManyMetrics",
+            ManifestError::MetricNameMissing(_) => "MetricNameMissing",
+            ManifestError::DoubleMetric(_) => "DoubleMetric",
+            ManifestError::BadField(_) => "BadField",
+            ManifestError::Unsupported(_) => "Unsupported",
+            ManifestError::BadDryRun(_) => "BadDryRun",
+            ManifestError::UnknownDryRun(_) => "UnknownDryRun",
+            ManifestError::OpenBraces(_) => "OpenBraces",
+            ManifestError::UnknownArg(_) => "UnknownArg",
+            ManifestError::NoValue(_) => "NoValue",
+            ManifestError::BadLimit(_) => "BadLimit",
+            ManifestError::IntervalMissing(_) => "IntervalMissing",
+            ManifestError::OutOfMemory => "OutOfMemory",
+        }
+    }
+
     /// The words before the number.
     fn before(self) -> &'static str {
         match self {
@@ -120,6 +144,16 @@ impl ManifestError {
                 ": IntervalMissing: expected an `interval` with a `count` above 1",
             ManifestError::OutOfMemory => "out of memory",
         }
+    }
+}
+
+impl fmt::Debug for ManifestError {
+    fn fmt<W: fmt::Write>(&self, f: &mut fmt::Formatter<W>) -> fmt::Result {
+        let mut shown = f.debug_tuple(self.name());
+        if let Some(number) = self.number() {
+            shown.field(&number);
+        }
+        shown.finish()
     }
 }
 

@@ -24,7 +24,7 @@ pub struct RefusedLimit {
 }
 
 /// The field of a limit.
-#[derive(Clone, Copy, Debug)]
+#[derive(Clone, Copy)]
 pub enum LimitField {
     Count,
     Failure,

@@ -10,7 +10,7 @@ use std::fmt;
 use thiserror::Error;
 
 /// Why a text is no condition. A number is the offset of the fault in bytes, from 0.
-#[derive(Clone, Copy, Debug, Error)]
+#[derive(Clone, Copy, Error)]
 pub enum SyntaxError {
     /// The text has more than 4,096 bytes.
     TooLong,
@@ -67,6 +67,26 @@ impl SyntaxError {
         }
     }
 
+    /// The variant's name.
+    fn name(self) -> &'static str {
+        match self {
+            SyntaxError::TooLong => "TooLong",
+            SyntaxError::BadCharacter(_) => "BadCharacter",
+            SyntaxError::OpenText(_) => "OpenText",
+            SyntaxError::OpenComment(_) => "OpenComment",
+            SyntaxError::BadEscape(_) => "BadEscape",
+            SyntaxError::LiteralTooFine(_) => "LiteralTooFine",
+            SyntaxError::NumberTooLarge(_) => "NumberTooLarge",
+            SyntaxError::Unexpected(_) => "Unexpected",
+            SyntaxError::UnknownName(_) => "UnknownName",
+            SyntaxError::WrongCount(_) => "WrongCount",
+            SyntaxError::ItemOutside(_) => "ItemOutside",
+            SyntaxError::TooManyItems(_) => "TooManyItems",
+            SyntaxError::TooDeep(_) => "TooDeep",
+            SyntaxError::OutOfMemory => "OutOfMemory",
+        }
+    }
+
     /// What was expected.
     fn words(self) -> &'static str {
         match self {
@@ -94,6 +114,22 @@ impl SyntaxError {
                 "TooDeep: at most 64 levels may be open at once, and a tree has at most 64",
             SyntaxError::OutOfMemory => "out of memory",
         }
+    }
+}
+
+impl fmt::Debug for SyntaxError {
+    fn fmt<W: fmt::Write>(&self, f: &mut fmt::Formatter<W>) -> fmt::Result {
+        let mut shown = f.debug_tuple(self.name());
+        match self {
+            // It has no number of its own.
+            SyntaxError::TooLong => {}
+            _ => {
+                if let Some(at) = self.offset() {
+                    shown.field(&at);
+                }
+            }
+        }
+        shown.finish()
     }
 }
 

@@ -23,3 +23,15 @@ module _ {A B : Type 0} (view : A → B) (items copies : List A) (i : ℕ) where
 
   pub all_copied : length items ≤ i → map view copies ≡ map view (take i items) → map view copies ≡ map view items
   all_copied past so_far = so_far ∙ ap (map view) (all_taken items i past)
+
+-- what is made of the items before an index, by views
+module _ {A B C : Type 0} (view : A → B) (made : C → B) (of : B → B) (items : List A) (all : List C) (i : ℕ) where
+  pub one_made : (item : A) (one : C) (after : List C) → i < length items → item ≡ slice_index_or items i item → after ≡ all ++ one ∷ [] → made one ≡ of (view item) → map made all ≡ map of (map view (take i items))
+      → map made after ≡ map of (map view (take (i + 1) items))
+  one_made item one after within is longer same so_far =
+      rw (add-one i) (ap (map made) longer ∙ map-append made all (one ∷ []) ∙ ap (λ last. map made all ++ last ∷ []) same ∙ ap (λ before. before ++ of (view item) ∷ []) so_far
+      ∙ ap (λ last. map of (map view (take i items)) ++ of (view last) ∷ []) is ∙ sym (map-append of (map view (take i items)) (view (slice_index_or items i item) ∷ []))
+      ∙ ap (map of) (sym (map-append view (take i items) (slice_index_or items i item ∷ []))) ∙ ap (λ before. map of (map view before)) (sym (take-suc items i item within)))
+
+  pub all_made : length items ≤ i → map made all ≡ map of (map view (take i items)) → map made all ≡ map of (map view items)
+  all_made past so_far = so_far ∙ ap (λ before. map of (map view before)) (all_taken items i past)

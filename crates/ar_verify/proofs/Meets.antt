@@ -4,9 +4,10 @@ use Rattle.std.specs.Bool.{Decides}
 use Rattle.std.specs.Prelude.{◌||◌, slice_index_or}
 use Rattle.std.proofs.Math.ListN.{drop_of_length-le}
 use Rattle.std.proofs.lemmas.List.{map-append}
-use Rattle.ar_value.specs.Kind.{is_optional, merge, or_nil, plain, shaped, widest}
+use Rattle.ar_value.specs.Kind.{Kind, nil, is_optional, merge, or_nil, plain, shaped, widest}
 use Rattle.ar_value.specs.Shape.{Shape, optional}
 use Rattle.ar_value.proofs.Merges.{merge_either_way}
+use Rattle.ar_safety.specs.Effects.{default_kind, needed_kind}
 use Rattle.ar_verify.specs.Private.Forms.{all_alike, form, longest_of, wider, widest_of}
 use Rattle.ar_verify.specs.Private.Lists.{longest}
 use Rattle.ar_verify.specs.Private.Roots.{child}
@@ -133,3 +134,15 @@ pub all_together : (first other : Shape) (lefts rights all one more : List Shape
 all_together first other lefts rights all one more same alike left next right =
     right ∙ ap (λ shape. widest_of shape rights) (next ∙ ap (λ shape. wider shape other) left)
     ∙ sym (wider_of_widest (widest_of first lefts) other rights (same ∙ form_widest other rights) alike)
+
+-- ---- what replaces nil
+
+-- what is needed of an operand is merged with its replacement
+pub needed_merge : (operand other needed : Kind) → Some needed ≡ needed_kind operand → merge needed other ≡ default_kind operand other
+needed_merge nil other needed is = absurd cc
+needed_merge (shaped shape) other needed is = cc
+
+-- nil is replaced
+pub nil_replaced : (operand other : Kind) → None ≡ needed_kind operand → Some other ≡ default_kind operand other
+nil_replaced nil other is = refl
+nil_replaced (shaped shape) other is = absurd cc

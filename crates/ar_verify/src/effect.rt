@@ -172,7 +172,7 @@ pub(crate) fn takes_scalar<M: ShapeName>(scalar: Scalar, kinds: &mut Vec<Kind<M>
 }
 
 /// Takes n scalars of a kind and gives the list of them.
-#[tactic(auto, using(crate::proofs::Tops::scalar_refused, crate::proofs::Tops::all_taken))]
+#[tactic(auto, using(crate::proofs::Tops::all_taken))]
 fn make_list<M: ShapeName>(
     alloc: Global,
     scalar: Scalar,

@@ -105,10 +105,9 @@ fn default<M: ShapeName>(
     ensures { IfOk result
         (λ given. option_map parts_kind given ≡ default_kind (parts_kind operand.now) (parts_kind other.now)) }
 {
-    match operand {
-        Kind::Nil => given_again(other),
-        Kind::Shape(shape) => merge(alloc, &Kind::Shape(plain(alloc, shape)?), other),
-        Kind::OrNil(shape) => merge(alloc, &Kind::Shape(shape.clone()?), other),
+    match needed(alloc, operand)? {
+        Some(needed) => merge(alloc, &needed, other),
+        None => given_again(other),
     }
 }
 

@@ -288,7 +288,9 @@ fn end_loop<M: ShapeName>(
 ) -> Result<Sends<M>, Failure>
     ensures { Meets sends_view result (ending predicate next [] (from_innermost loops.items)) }
 {
-    let Around { list, below } = pop_loop(&mut loops).ok_or(Reason::BadMerge)?;
+    let Some(Around { list, below }) = pop_loop(&mut loops) else {
+        return Err(Failure::Fault(Reason::BadMerge));
+    };
     let kinds = later(alloc, predicate, &list, below)?;
     Ok(Sends::One(Sent {
         target: next,
@@ -323,7 +325,9 @@ fn push_given<M: ShapeName>(kinds: &mut Vec<Kind<M>>, given: Option<Kind<M>>) ->
     ensures { Meets (λ _. from_top kinds.new.items) result
         (given_on_top (option_map parts_kind given) (from_top kinds.old.items)) }
 {
-    let given = given.ok_or(Reason::IllKinded)?;
+    let Some(given) = given else {
+        return Err(Failure::Fault(Reason::IllKinded));
+    };
     Ok(push(kinds, given)?)
 }
 
