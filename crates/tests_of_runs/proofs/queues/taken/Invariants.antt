@@ -1,7 +1,7 @@
 use Rattle.std.proofs.Common.{◌≡◌, ℕ, []}
 use Rattle.crossbeam_queue.specs.Passes.{IsPassOf, view}
 use Rattle.ar_queue.specs.declared.queue.View.{View}
-use Rattle.tests_of_boards.proofs.queues.taken.Given as goal
+use Rattle.tests_of_runs.proofs.queues.taken.Given as goal
 
 abbrev pub put_so_far : (numbers : ℕ) → View
 put_so_far numbers = record { feeds = 1; live = 1; put = numbers; marks = 0; out = 0; ended = 0; taken = [] }

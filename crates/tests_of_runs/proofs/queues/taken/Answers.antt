@@ -3,7 +3,7 @@ use Rattle.ar_queue.specs.declared.queue.Item.TheVariants.{Number}
 use Rattle.ar_queue.specs.Rule.{CanPut}
 use Rattle.ar_queue.specs.declared.queue.View.{View}
 use Rattle.ar_queue.proofs.Steps.{puts}
-use Rattle.tests_of_boards.proofs.queues.taken.Goals as goal
+use Rattle.tests_of_runs.proofs.queues.taken.Goals as goal
 
 pub try_push_as-requires-clause-rule : goal.try_push_as-requires-clause-rule
 try_push_as-requires-clause-rule g c =

@@ -1,5 +1,5 @@
 use Rattle.ar_board.specs.Locks.{lock_names}
-use Rattle.tests_of_boards.proofs.boards.put_document.Given as goal
+use Rattle.tests_of_runs.proofs.boards.put_document.Given as goal
 
 -- the board is of the bundle, for n workers, and its ledgers are those of the blanks
 abbrev pub ghosts-put_board-M-BundleName : goal.ghosts-put_board-M-BundleName

@@ -4,15 +4,14 @@
 ghost use Rattle.std.specs.Prelude.{◌≡◌, ◌<◌, ◌≤◌, length};
 ghost use Rattle.ar_board.specs.Locks.{AreOf};
 
-use crate::cells::TWO_RUNS;
-use crate::lines::put_line;
+use crate::gates::TWO_RUNS;
 use ar_board::locks::First;
 use ar_board::{Blanks, Board, LockNames, Lost, Receipt, RunCell, Seat};
 use ar_bundle::{Bundle, BundleName, Finding, Histories};
 use ar_document::read_bundle;
 use ar_judge::Verdict;
 use std::alloc::{AllocError, Global};
-use std::fmt::Write;
+use std::fmt::{Debug, Write};
 use std::marker::Brand;
 use std::process::Abort;
 use std::sync::Wait;
@@ -38,6 +37,28 @@ const THREE_EACH: &str =
     {"run":"r0","metric":"m","value":2},{"run":"r0","metric":"m","value":0},
     {"run":"r1","metric":"m","value":0},{"run":"r1","metric":"m","value":5}]}"#;
 
+/// A run with a measurement, a stop, and another measurement, and one with a measurement.
+const STOPPED: &str =
+    r#"{"manifest":{"apiVersion":"argoproj.io/v1alpha1","kind":"AnalysisTemplate","metadata":{"name":"t"},
+    "spec":{"metrics":[{"name":"m","interval":"1m","successCondition":"result > 0"}]}},
+    "shapes":{"m":"whole"},"runs":[{"name":"r0"},{"name":"r1"}],
+    "measurements":[{"run":"r0","metric":"m","value":1},{"run":"r1","metric":"m","value":1},
+    {"run":"r0","stop":true},{"run":"r0","metric":"m","value":0}]}"#;
+
+/// Receipts of `STOPPED` in another order than that of the posts.
+const OUT_OF_ORDER: &[Receipt] = &[
+    Receipt {
+        run: 0,
+        number: 3,
+        place: 1,
+    },
+    Receipt {
+        run: 0,
+        number: 2,
+        place: 0,
+    },
+];
+
 /// A receipt that no seat has.
 const ELSEWHERE: &[Receipt] = &[Receipt {
     run: 0,
@@ -45,8 +66,13 @@ const ELSEWHERE: &[Receipt] = &[Receipt {
     place: 1,
 }];
 
-/// Writes what the cell of the first lock shows of run 0 to a worker: with these receipts, with none, and
-/// one of another position.
+/// Writes an answer, a line. What there is no memory for is left out, so a comparison fails.
+fn put_line<T: Debug>(text: &mut String, answer: &T) {
+    let _ = writeln!(text, "{answer:?}");
+}
+
+/// Writes what the cell of the first lock shows of run 0 to a worker: with these receipts, with none, with one of
+/// another position, and with some that are out of order.
 fn put_shown<M: BundleName, L: LockNames>(
     alloc: Global,
     cell: &RunCell<'_, M, First<L>>,
@@ -60,6 +86,7 @@ fn put_shown<M: BundleName, L: LockNames>(
     put_line(text, &cell.show(alloc, 0, worker, receipts));
     put_line(text, &cell.show(alloc, 0, worker, &[]));
     put_line(text, &cell.show(alloc, 0, worker, ELSEWHERE));
+    put_line(text, &cell.show(alloc, 0, worker, OUT_OF_ORDER));
 }
 
 /// Writes the result of posting a number that is there.
@@ -299,10 +326,30 @@ Ok(Snapshot { phase: Successful, metrics: [Successful], posts: [1] })
 Ok(Snapshot { phase: Successful, metrics: [Successful], posts: [1] })
 Err(Stale(1))
 Err(Stale(1))
+Err(Stale(1))
 Ok(Posted { place: 0, effect: Closed(Successful) })
 Ok(Snapshot { phase: Successful, metrics: [Successful], posts: [1] })
 0 Successful Closed(Successful), / 1 Successful Closed(Successful), / ";
     assert_board(&rt, rt.alloc(), TWO_RUNS, 1, CALLS, expected);
+}
+
+/// What is posted after a stop is late, and is shown among the posts; receipts out of order are stale.
+#[test]
+fn stopped(rt: HostRuntime) {
+    const CALLS: &[(usize, Call)] = &[(0, Call::Post(2)), (0, Call::Post(3)), (0, Call::Hold)];
+    let expected = "Ok(Posted { place: 0, effect: Closed(Successful) })
+Ok(Posted { place: 1, effect: Late })
+Ok(Snapshot { phase: Successful, metrics: [Successful], posts: [2] })
+Err(Stale(2))
+Err(Stale(2))
+Err(Stale(2))
+Ok(Posted { place: 0, effect: Applied })
+Ok(Snapshot { phase: Running, metrics: [Running], posts: [1] })
+lost 0: 2 stop Closed(Successful), 3 Failed Late, / 1 Successful Applied, / \
+    [[Receipt { run: 0, number: 2, place: 0 }, Receipt { run: 0, number: 3, place: 1 }, \
+    Receipt { run: 1, number: 1, place: 0 }]]
+";
+    assert_board(&rt, rt.alloc(), STOPPED, 1, CALLS, expected);
 }
 
 /// Two seats post three numbers to each of two runs under different locks; after each post both see it.

@@ -1,7 +1,15 @@
 //! Laws. A law does nothing but hold, so a call returns.
 
 #[test]
-fn can_be_called(_: HostRuntime) {
+fn of_workers_and_commands(_: HostRuntime) {
+    ar_workers::laws::lost_is_double_or_unmet();
+    ar_command::laws::one_bundle();
+    ar_command::laws::one_text();
+    ar_command::laws::ordered_is_plain();
+}
+
+#[test]
+fn of_libraries(_: HostRuntime) {
     ar_value::laws::merge_has_both();
     ar_value::laws::merge_with_itself();
     ar_value::laws::merge_either_way();
