@@ -4,10 +4,10 @@ ghost use Rattle.std.specs.Prelude.{◌≤◌};
 ghost use Rattle.ar_command.specs.Serving.{RunsWith};
 
 use crate::gates::{FAILING, Meeting, TWO_RUNS};
-use ar_bundle::Histories;
+use ar_bundle::{Bundle, Histories};
 use ar_command::{Closing, Command, Device, Format, Kept, serve};
 use ar_document::read_bundle;
-use ar_workers::{run_all, run_ordered};
+use ar_workers::{WorkError, run_all, run_ordered};
 use std::alloc::Global;
 use std::fmt::Write;
 use std::process::Abort;
@@ -101,16 +101,7 @@ const CASES: &[Case] = &[
     },
 ];
 
-/// The numbers of each run's history, if there are histories. What there is no memory for is left out, so a
-/// comparison fails.
-fn numbers_of<E: Drop>(alloc: Global, outcome: Result<Histories, E>) -> String {
-    let mut text = String::new(alloc);
-    if let Ok(histories) = outcome {
-        put_numbers(&mut text, &histories);
-    }
-    text
-}
-
+/// Writes the numbers of each run's history. What there is no memory for is left out, so a comparison fails.
 fn put_numbers(text: &mut String, histories: &Histories) {
     for history in histories.runs() {
         for entry in history.entries() {
@@ -120,21 +111,40 @@ fn put_numbers(text: &mut String, histories: &Histories) {
     }
 }
 
-/// The numbers in the histories of a document's run by n workers, ordered or not.
-fn numbers<R: Threads + Wait + Sync>(
+/// What comes of a run by n workers, ordered or not.
+fn outcome_of<R: Threads + Wait + Sync>(
+    rt: &R,
+    alloc: Global,
+    bundle: &Bundle,
+    workers: usize,
+    ordered: bool,
+    gate: &Meeting,
+) -> Result<Histories, WorkError>
+    requires { (1 ≤ workers) × (workers ≤ 16) }
+{
+    if ordered {
+        run_ordered(rt, alloc, bundle, workers, gate)
+    } else {
+        run_all(rt, alloc, bundle, workers, gate)
+    }
+}
+
+/// Writes the numbers in the histories of a document's run, if there are histories.
+fn put_run<R: Threads + Wait + Sync>(
     rt: &R,
     alloc: Global,
     document: &str,
     workers: usize,
     ordered: bool,
     gate: &Meeting,
-) -> String
+    text: &mut String,
+)
     requires { (1 ≤ workers) × (workers ≤ 16) }
 {
-    match read_bundle(alloc, document.as_bytes()) {
-        Ok(bundle) if ordered => numbers_of(alloc, run_ordered(rt, alloc, &bundle, workers, gate)),
-        Ok(bundle) => numbers_of(alloc, run_all(rt, alloc, &bundle, workers, gate)),
-        Err(_) => String::new(alloc),
+    if let Ok(bundle) = read_bundle(alloc, document.as_bytes()) {
+        if let Ok(histories) = outcome_of(rt, alloc, &bundle, workers, ordered, gate) {
+            put_numbers(text, &histories);
+        }
     }
 }
 
@@ -145,7 +155,16 @@ fn holds<R: Threads + Wait + Sync>(rt: &R, alloc: Global, case: &Case) -> bool {
         return false;
     }
     let gate = Meeting::new(case.waiting, case.wanted);
-    let numbers = numbers(rt, alloc, case.document, case.workers, case.ordered, &gate);
+    let mut numbers = String::new(alloc);
+    put_run(
+        rt,
+        alloc,
+        case.document,
+        case.workers,
+        case.ordered,
+        &gate,
+        &mut numbers,
+    );
     gate.is_held()
         && (case.waiting < 3 || gate.has_three())
         && case.shown.iter().any(|shown| numbers.as_str() == *shown)
