@@ -14,7 +14,7 @@ from program import HERE, Ended
 RUNS = ('run --plain', 'run --ordered', 'run --workers 2')
 ALL = RUNS + ('check', 'list')
 WIDTHS = (1, 2, 7, 100)
-# Of a document that fails to be read, this many bytes are read at a time.
+# Of a document that fails to be read, this many bytes are read at a time; of one document it is a byte.
 PIECE = 50
 MOST_READS = 1_000
 MOST_BYTES = 16_777_216
@@ -24,7 +24,8 @@ def jobs(program):
     """What is done to reads and writes, each as a job that can run at the same time as the others."""
     made = [partial(cut_output, program, *case) for case in outputs(program)]
     made += [partial(job, program) for job in (take_nothing, interrupt, give_little)]
-    made += [partial(fail_reads, program, *case) for case in cases()]
+    made += [partial(fail_reads, program, PIECE, *case) for case in cases()]
+    made += [partial(fail_reads, program, 1, words, STOPPED.text, STOPPED.answer(words)) for words in ALL]
     made += [partial(read_largest, program, *case) for case in (('eval', DECIMAL, Answer(0, 'true\n')),
                                                                 ('run --plain', RATES.text, RATES.run))]
     made += [partial(job, program) for job in (read_folder, fill_output, close_streams, read_slowly)]
@@ -163,14 +164,14 @@ def close_streams(program, counts):
 # Inputs that fail
 
 
-def fail_reads(program, words, document, answer, counts):
+def fail_reads(program, piece, words, document, answer, counts):
     """The first read fails, then the second, and so on until no read fails: nothing is written."""
     for read in range(1, MOST_READS):
-        ended = program.run(words, document, FAIL_READ=read, READ_AT_MOST=PIECE)
+        ended = program.run(words, document, FAIL_READ=read, READ_AT_MOST=piece)
         if not ended.refused:
             counts.expect(is_answer(ended, answer, words), f'{words}, read {read} is none: {ended}')
             # The last read meets the end of the document.
-            counts.expect(read > len(document) // PIECE + 1, f'{words}: only {read - 1} reads failed')
+            counts.expect(read > len(document) // piece + 1, f'{words}: only {read - 1} reads failed')
             return
         counts.expect(has_failed_to_read(ended, errno.EIO), f'{words}, read {read} fails: {ended} of {document}')
     counts.expect(False, f'{words}: no run was without a failed read')

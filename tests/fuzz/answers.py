@@ -12,7 +12,7 @@ from kinds import check
 from meaning import meaning
 from printing import shown_kind, shown_text, shown_tokens, shown_tree, shown_typed, shown_value
 from refused import Refused
-from reports import bounds_lines, findings, limits_of, list_lines, report, run_phases, verdict
+from reports import findings, limits_of, verdict
 from rules import run, verify
 from shapes import read_shape, read_value
 from templates import bind, read_template
@@ -66,10 +66,6 @@ DOCUMENTS = {
     'read_bundle': shown_bundle,
     'findings': lambda bundle: joined(shown_finding(found) for found in findings(bundle)),
     'limits': lambda bundle: joined(shown_limits(one) for one in bundle['runs']),
-    'report': lambda bundle: joined(report(bundle)),
-    'run_phases': lambda bundle: ', '.join(run_phases(bundle)),
-    'bounds': lambda bundle: joined(bounds_lines(bundle)),
-    'list': lambda bundle: joined(list_lines(bundle)),
 }
 
 
@@ -157,7 +153,8 @@ CONDITIONS = {
     'check': lambda case: shown_typed(check(case['condition'], read_shape(case['shape']))),
     'compile': lambda case: joined(listing(image_of(code_of(case, read_shape(case['shape']))))),
     'condition': condition_answer,
-    'run_condition': lambda case: eval_answer(case['condition'], case['shape'], case['value'])[0],
+    # No call of the suite, but the command.
+    'eval': lambda case: eval_answer(case['condition'], case['shape'], case['value'])[0],
 }
 
 

@@ -23,8 +23,8 @@ CONDITIONS, TOKENS, IMAGES, DOCUMENTS, TEMPLATES, VALUES, TEXTS = 40, 20, 25, 60
 FUEL = 200
 WHOLES = [sign * (near + step) for near in (0, 9_223_372_036_854, 2**63, 2**64) for step in (-1, 0, 1)
           for sign in (1, -1)]
-CALLS = ('report',) * 8 + ('read_bundle', 'read_bundle', 'findings', 'limits', 'run_phases', 'bounds', 'list')
-JSON_CALLS = {'bind', 'read_shape', 'read_value', 'run_condition'}
+CALLS = ('findings',) * 9 + ('read_bundle',) * 4 + ('limits',) * 2
+JSON_CALLS = {'bind', 'read_shape', 'read_value'}
 
 
 def answered(case):
@@ -51,13 +51,11 @@ def condition_of(source, corpus):
 
 
 def condition_cases(source, corpus):
-    text, declared, value = condition_of(source, corpus)
+    text, declared, _ = condition_of(source, corpus)
     shape = read_shape(declared)
     about = {'condition': text, 'shape': declared}
     yield answered({'call': 'parse', 'condition': text})
     yield answered({'call': 'check', **about})
-    if fits_a_line(value):
-        yield answered({'call': 'run_condition', **about, 'value': value})
     if source.random() < 0.2:
         yield answered({'call': 'tokens', 'condition': text})
     if not isinstance(built(text, shape), Refused):
@@ -65,7 +63,7 @@ def condition_cases(source, corpus):
         yield answered({'call': 'compile', **about})
         yield answered({'call': 'verify', **about, 'values': values, 'fuel': FUEL})
         for other in values:
-            yield answered({'call': 'run_condition', **about, 'value': other})
+            yield answered({'call': 'condition', **about, 'value': other})
 
 
 def token_cases(source, corpus):

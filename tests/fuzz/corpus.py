@@ -27,7 +27,7 @@ def stored_cases():
             yield path, case
     for path in sorted((ROOT / 'examples/conditions').glob('*.jsonl')):
         for case in lines_of(path):
-            yield path, {'call': 'run_condition', **case}
+            yield path, {'call': 'eval', **case}
 
 
 def own_cases():

@@ -17,7 +17,7 @@ AT_A_TIME = 8_000
 def prefixes():
     """Each proper prefix, which is refused."""
     for length in range(len(DOCUMENT)):
-        yield {'call': 'report', 'bytes': DOCUMENT[:length].hex()}, 'Utf8OrJson'
+        yield {'call': 'findings', 'bytes': DOCUMENT[:length].hex()}, 'Utf8OrJson'
 
 
 def changes():
@@ -25,7 +25,7 @@ def changes():
     for place, byte in enumerate(DOCUMENT):
         for other in range(256):
             if other != byte:
-                case = in_document({'call': 'report'}, DOCUMENT[:place] + bytes([other]) + DOCUMENT[place + 1:])
+                case = in_document({'call': 'findings'}, DOCUMENT[:place] + bytes([other]) + DOCUMENT[place + 1:])
                 yield case, answer_of(case)
 
 

@@ -1,16 +1,10 @@
 //! The outcome of an image when one of its bytes is changed.
 
-ghost use Rattle.std.specs.Prelude.{◌≡◌, ◌<◌, IfOk, length, true};
-ghost use Rattle.ar_value.specs.Fits.{fits};
-ghost use Rattle.ar_value.specs.View.{shape_view, value_view};
+ghost use Rattle.std.specs.Prelude.{◌<◌, IfOk, length};
 
-use crate::endings::{put_code_fault, put_ended};
-use crate::judges::put_bounds_of;
+use crate::codes::{OUT_OF_MEMORY, put_accepted};
+use crate::endings::put_code_fault;
 use ar_code::{Code, decode, encode};
-use ar_machine::{Outcome, run};
-use ar_safety::Verified;
-use ar_tested::{Ended, run_tested};
-use ar_value::Value;
 use ar_value::holding::try_push;
 use ar_verify::verify;
 use cases_of_values::fault::{CaseFault, Written};
@@ -92,7 +86,11 @@ fn changed_outcome(
     changed[offset] = byte;
     let mut out = Output::new(alloc);
     let written = put_outcome(alloc, case, &changed, &mut out);
-    out.finish(written)
+    let outcome = out.finish(written)?;
+    if outcome.contains(OUT_OF_MEMORY) {
+        return Err(CaseFault::OutOfMemory);
+    }
+    Ok(outcome)
 }
 
 /// The refusal of an image, or the outcome of its code.
@@ -117,7 +115,7 @@ fn put_code(
     put_encoding(alloc, image, &code, out);
     let shape = members::shape(alloc, case, "shape")?;
     match verify(alloc, Box::into_inner(code), shape) {
-        Ok(verified) => put_accepted(alloc, case, &verified, out),
+        Ok(verified) => put_accepted(alloc, case, &verified, ", ", out),
         Err(refused) => {
             put_code_fault(out, refused.cause);
             Ok(())
@@ -127,52 +125,8 @@ fn put_code(
 
 fn put_encoding(alloc: Global, image: &[u8], code: &Code, out: &mut Output) {
     match encode(alloc, code) {
-        Ok(bytes) => put_difference(image, &bytes, out),
-        Err(_) => out.lose(),
-    }
-}
-
-fn put_difference(image: &[u8], encoded: &[u8], out: &mut Output) {
-    if encoded != image {
-        out.put("encoded otherwise, ");
-    }
-}
-
-/// The bounds of accepted code, and how the runs of the values end.
-fn put_accepted(alloc: Global, case: &Json, verified: &Verified, out: &mut Output) -> Written {
-    write!(out, "accepted operations={}", verified.code().ops().len());
-    put_bounds_of(out, verified);
-    for json in members::list_or_none(case, "values")? {
-        let value = members::value_of(alloc, json, verified.shape())?;
-        put_run(alloc, verified, &value, out);
-    }
-    Ok(())
-}
-
-/// How a run on a value ends.
-fn put_run(alloc: Global, verified: &Verified, value: &Value, out: &mut Output)
-    requires { fits (value_view value.now) (shape_view verified.now.shape) ≡ true }
-{
-    out.put(", ");
-    match run(alloc, verified, value) {
-        Ok(outcome) => put_ending(alloc, verified, value, outcome, out),
-        Err(_) => out.lose(),
-    }
-}
-
-/// How a run ended, and whether the machine that is tested ends otherwise with the budget as its fuel.
-fn put_ending(
-    alloc: Global,
-    verified: &Verified,
-    value: &Value,
-    outcome: Outcome,
-    out: &mut Output,
-) {
-    let ended = Ended::Done(outcome);
-    put_ended(out, ended);
-    match run_tested(alloc, verified.code(), value, verified.budget()) {
-        Ok(tested) if tested == ended => {}
-        Ok(_) => out.put(" run otherwise"),
+        Ok(bytes) if bytes.as_slice() == image => {}
+        Ok(_) => out.put("encoded otherwise, "),
         Err(_) => out.lose(),
     }
 }

@@ -1,10 +1,8 @@
 //! Calls on the code of the stack machine.
 
-ghost use Rattle.std.specs.Prelude.{◌≡◌, is_some, true};
+ghost use Rattle.std.specs.Prelude.{◌≡◌, true};
 ghost use Rattle.ar_value.specs.Fits.{fits};
 ghost use Rattle.ar_value.specs.View.{shape_view, value_view};
-ghost use Rattle.cases_of_values.specs.Calls.{is_one_of};
-ghost use Rattle.cases_of_conditions.specs.Calls.{code_calls};
 
 use crate::changes::put_changes;
 use crate::endings::{put_code_fault, put_ended};
@@ -27,22 +25,11 @@ use cases_of_values::printing::{put_between, put_lines, put_quoted, put_refusal}
 use serde_json::Value as Json;
 use std::alloc::{AllocError, Global};
 
-/// Writes what a call on this subject returns; `None` for a call on another one.
-pub(crate) fn put(alloc: Global, call: &str, case: &Json, out: &mut Output) -> Option<Written>
-    ensures known { is_some result ≡ is_one_of code_calls call.now }
-{
-    match call {
-        "decode" => Some(put_decoded(alloc, case, out)),
-        "compile" => Some(put_compiled(alloc, case, out)),
-        "verify" => Some(put_verified(alloc, case, out)),
-        "run_tested" => Some(put_tested(alloc, case, out)),
-        "change_byte" => Some(put_changes(alloc, case, out)),
-        _ => None,
-    }
-}
+/// How a run without memory is printed.
+pub(crate) const OUT_OF_MEMORY: &str = "out of memory";
 
 /// The code of an image: its own image, its texts, its names and its listing, or the refusal.
-fn put_decoded(alloc: Global, case: &Json, out: &mut Output) -> Written {
+pub(crate) fn put_decoded(alloc: Global, case: &Json, out: &mut Output) -> Written {
     let made = decode(alloc, &members::bytes(alloc, case, "image")?);
     put_made(alloc, case, out, made)
 }
@@ -106,7 +93,7 @@ fn compiled(alloc: Global, case: &Json) -> Result<Result<Code, CompileError>, Ca
     }
 }
 
-fn put_compiled(alloc: Global, case: &Json, out: &mut Output) -> Written {
+pub(crate) fn put_compiled(alloc: Global, case: &Json, out: &mut Output) -> Written {
     match compiled(alloc, case)? {
         Ok(code) => put_listing(alloc, out, &code),
         Err(refusal) => put_refusal(alloc, case, out, refusal),
@@ -127,20 +114,28 @@ fn code_of(alloc: Global, case: &Json) -> Result<Box<Code>, CaseFault> {
 /// The verdict on code, and how the runs of the values end, where there are any: of verified code as `run`
 /// ends them, which has to be how `run_tested` ends with just the fuel that they cost; of other code with
 /// the case's fuel.
-fn put_verified(alloc: Global, case: &Json, out: &mut Output) -> Written {
+pub(crate) fn put_verified(alloc: Global, case: &Json, out: &mut Output) -> Written {
     let code = code_of(alloc, case)?;
     let shape = members::shape(alloc, case, "shape")?;
     match verify(alloc, Box::into_inner(code), shape) {
-        Ok(verified) => put_accepted(alloc, case, &verified, out),
+        Ok(verified) => put_accepted(alloc, case, &verified, " / ", out),
         Err(refused) => put_refused(alloc, case, &refused, out),
     }
 }
 
-fn put_accepted(alloc: Global, case: &Json, verified: &Verified, out: &mut Output) -> Written {
+/// The bounds of accepted code, and how the runs of the values end, each after a separator.
+pub(crate) fn put_accepted(
+    alloc: Global,
+    case: &Json,
+    verified: &Verified,
+    separator: &str,
+    out: &mut Output,
+) -> Written {
     write!(out, "accepted operations={}", verified.code().ops().len());
     put_bounds_of(out, verified);
     for json in members::list_or_none(case, "values")? {
         let value = members::value_of(alloc, json, verified.shape())?;
+        out.put(separator);
         put_run(alloc, verified, &value, out);
     }
     Ok(())
@@ -152,7 +147,7 @@ fn put_refused(alloc: Global, case: &Json, refused: &Refused, out: &mut Output) 
 }
 
 /// How a run of any code ends with so much fuel.
-fn put_tested(alloc: Global, case: &Json, out: &mut Output) -> Written {
+pub(crate) fn put_tested(alloc: Global, case: &Json, out: &mut Output) -> Written {
     let code = code_of(alloc, case)?;
     let shape = members::shape(alloc, case, "shape")?;
     let value = members::value(alloc, case, shape.get())?;
@@ -163,10 +158,9 @@ fn put_tested(alloc: Global, case: &Json, out: &mut Output) -> Written {
 fn put_run(alloc: Global, verified: &Verified, value: &Value, out: &mut Output)
     requires { fits (value_view value.now) (shape_view verified.now.shape) ≡ true }
 {
-    out.put(" / ");
     match run(alloc, verified, value) {
         Ok(outcome) => put_outcome(alloc, verified.code(), value, outcome, out),
-        Err(_) => out.put("out of memory"),
+        Err(_) => out.put(OUT_OF_MEMORY),
     }
 }
 

@@ -1,9 +1,5 @@
 //! Calls on conditions as texts: tokens, trees, and trees whose kinds are known.
 
-ghost use Rattle.std.specs.Prelude.{◌≡◌, is_some};
-ghost use Rattle.cases_of_values.specs.Calls.{is_one_of};
-ghost use Rattle.cases_of_conditions.specs.Calls.{condition_calls};
-
 use crate::made::{Made, put_made};
 use crate::trees::put_tree;
 use crate::typed::put_typed;
@@ -17,19 +13,7 @@ use cases_of_values::printing::{put_between, put_pair, put_quoted, put_refusal};
 use serde_json::Value as Json;
 use std::alloc::Global;
 
-/// Writes what a call on this subject returns; `None` for a call on another one.
-pub(crate) fn put(alloc: Global, call: &str, case: &Json, out: &mut Output) -> Option<Written>
-    ensures known { is_some result ≡ is_one_of condition_calls call.now }
-{
-    match call {
-        "tokens" => Some(put_tokens(alloc, case, out)),
-        "parse" => Some(put_parsed(alloc, case, out)),
-        "check" => Some(put_checked(alloc, case, out)),
-        _ => None,
-    }
-}
-
-fn put_tokens(alloc: Global, case: &Json, out: &mut Output) -> Written {
+pub(crate) fn put_tokens(alloc: Global, case: &Json, out: &mut Output) -> Written {
     let made = tokens(alloc, members::text(case, "condition")?);
     put_made(alloc, case, out, made)
 }
@@ -67,7 +51,7 @@ fn put_kind(out: &mut Output, kind: &TokenKind) {
     }
 }
 
-fn put_parsed(alloc: Global, case: &Json, out: &mut Output) -> Written {
+pub(crate) fn put_parsed(alloc: Global, case: &Json, out: &mut Output) -> Written {
     let made = parse(alloc, members::text(case, "condition")?);
     put_made(alloc, case, out, made)
 }
@@ -80,7 +64,7 @@ impl Made for Tree {
 }
 
 /// The typed tree of a condition that can be parsed. The shape is checked after the condition.
-fn put_checked(alloc: Global, case: &Json, out: &mut Output) -> Written {
+pub(crate) fn put_checked(alloc: Global, case: &Json, out: &mut Output) -> Written {
     match parse(alloc, members::text(case, "condition")?) {
         Ok(tree) => put_typed_of(alloc, case, Box::new(alloc, tree)?, out),
         Err(refusal) => {

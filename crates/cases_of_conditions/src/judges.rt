@@ -1,40 +1,25 @@
 //! Calls on conditions that can be run, and on judges.
 
-ghost use Rattle.std.specs.Prelude.{◌≡◌, IfOk, is_some};
-ghost use Rattle.cases_of_values.specs.Calls.{is_one_of};
-ghost use Rattle.cases_of_conditions.specs.Calls.{judge_calls};
+ghost use Rattle.std.specs.Prelude.{IfOk};
 ghost use Rattle.ar_bundle.specs.Sound.{JudgesShape, SampleSuits};
 ghost use Rattle.ar_judge.specs.Verdict.{sample_view};
 ghost use Rattle.ar_value.specs.View.{shape_view};
 
 use crate::made::{Made, put_made};
-use ar_json::{ShapeError, ShapeFault, read_shape, read_value};
-use ar_judge::{BuildCause, Cause, Condition, Judge, Sample, Verdict};
+use ar_json::{ShapeFault, read_value};
+use ar_judge::{Cause, Condition, Judge, Sample, Verdict};
 use ar_manifest::BoundMetric;
 use ar_safety::Verified;
-use ar_tested::{Ended, run_tested};
-use ar_value::{Fault, Shape, SharedShape, Text, Value};
+use ar_value::{Shape, SharedShape, Text};
 use cases_of_values::fault::{CaseFault, Written};
 use cases_of_values::members;
 use cases_of_values::output::Output;
-use cases_of_values::printing::{put_answer, put_quoted, put_refusal};
+use cases_of_values::printing::{put_answer, put_pair, put_quoted, put_refusal};
 use serde_json::Value as Json;
 use std::alloc::Global;
 
-/// Writes what a call on this subject returns; `None` for a call on another one.
-pub(crate) fn put(alloc: Global, call: &str, case: &Json, out: &mut Output) -> Option<Written>
-    ensures { is_some result ≡ is_one_of judge_calls call.now }
-{
-    match call {
-        "condition" => Some(put_condition(alloc, case, out)),
-        "run_condition" => Some(put_run(alloc, case, out)),
-        "judge" | "judge_code" => Some(put_judge(alloc, call, case, out)),
-        _ => None,
-    }
-}
-
 /// A condition that can be run: its text, and what it says of the value.
-fn put_condition(alloc: Global, case: &Json, out: &mut Output) -> Written {
+pub(crate) fn put_condition(alloc: Global, case: &Json, out: &mut Output) -> Written {
     let text = members::text(case, "condition")?;
     let shape = members::shape(alloc, case, "shape")?;
     put_made(alloc, case, out, Condition::build(alloc, text, shape))
@@ -47,47 +32,6 @@ impl Made for Condition {
         out.put(" ");
         put_answer(out, self.answer(alloc, &value)?);
         Ok(())
-    }
-}
-
-/// What a condition says of a value, by the result of its code on the machine that is tested, with its budget
-/// as fuel; or which part of the case is refused, and why.
-fn put_run(alloc: Global, case: &Json, out: &mut Output) -> Written {
-    match read_shape(alloc, members::json(case, "shape")?) {
-        Ok(shape) => put_run_under(alloc, case, SharedShape::new(alloc, shape)?, out),
-        Err(ShapeError::OutOfMemory) => Err(CaseFault::OutOfMemory),
-        Err(refusal) => {
-            write!(out, "shape: {refusal}");
-            Ok(())
-        }
-    }
-}
-
-fn put_run_under(alloc: Global, case: &Json, shape: SharedShape, out: &mut Output) -> Written {
-    match Condition::build(alloc, members::text(case, "condition")?, shape) {
-        Ok(condition) => put_run_of(alloc, case, condition.verified(), out),
-        Err(BuildCause::OutOfMemory) => Err(CaseFault::OutOfMemory),
-        Err(refusal) => {
-            write!(out, "condition{refusal}");
-            Ok(())
-        }
-    }
-}
-
-fn put_run_of(alloc: Global, case: &Json, verified: &Verified, out: &mut Output) -> Written {
-    match read_value(alloc, members::json(case, "value")?, verified.shape()) {
-        Ok(value) => put_run_on(alloc, verified, &value, out),
-        Err(ShapeFault::OutOfMemory) => out.lose(),
-        Err(fault) => write!(out, "value: {fault}"),
-    }
-    Ok(())
-}
-
-fn put_run_on(alloc: Global, verified: &Verified, value: &Value, out: &mut Output) {
-    match run_tested(alloc, verified.code(), value, verified.budget()) {
-        Ok(Ended::Done(outcome)) => put_answer(out, outcome.answer),
-        Ok(Ended::Stuck(_) | Ended::Spent) => out.put("no answer within the budget"),
-        Err(_) => out.lose(),
     }
 }
 
@@ -127,7 +71,7 @@ fn sample_of(alloc: Global, case: &Json, shape: &Shape) -> Result<Sample, CaseFa
     }
 }
 
-fn put_judge(alloc: Global, call: &str, case: &Json, out: &mut Output) -> Written {
+pub(crate) fn put_judge(alloc: Global, call: &str, case: &Json, out: &mut Output) -> Written {
     let shape = members::shape(alloc, case, "shape")?;
     let metric = metric_of(alloc, case)?;
     put_built(alloc, call, case, &shape, &metric, out)
@@ -184,7 +128,8 @@ fn put_verdict_of(
     Ok(())
 }
 
-fn put_verdict(out: &mut Output, verdict: Verdict) {
+/// A verdict as reports write it.
+pub fn put_verdict(out: &mut Output, verdict: Verdict) {
     match verdict {
         Verdict::Successful => out.put("Successful"),
         Verdict::Failed => out.put("Failed"),
@@ -197,14 +142,9 @@ fn put_cause(out: &mut Output, cause: Cause) {
     match cause {
         Cause::Provider => out.put("Error provider"),
         Cause::Shape(fault) => write!(out, "Error shape {fault:?}"),
-        Cause::Success(fault) => put_fault(out, "Error success ", fault),
-        Cause::Failure(fault) => put_fault(out, "Error failure ", fault),
+        Cause::Success(fault) => put_pair(out, "Error success", fault.name()),
+        Cause::Failure(fault) => put_pair(out, "Error failure", fault.name()),
     }
-}
-
-fn put_fault(out: &mut Output, condition: &str, fault: Fault) {
-    out.put(condition);
-    out.put(fault.name());
 }
 
 fn put_both_bounds(out: &mut Output, judge: &Judge) {

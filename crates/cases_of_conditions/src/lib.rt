@@ -9,8 +9,8 @@
 //! - `changes`: the outcome of an image when one of its bytes is changed
 //! - `made`: what a call made of a case, or why it refused it
 //!
-//! Which names are those of calls is proved of every case (`specs/Calls`), and how runs end is printed
-//! (`specs/Endings`). What these calls return is only tested, by the suite.
+//! Which names are those of calls is proved of every case (`specs/Calls`). What these calls return is only tested,
+//! by the suite.
 #![tactic(auto)]
 
 ghost use Rattle.std.specs.Prelude.{◌≡◌, is_some};
@@ -26,8 +26,14 @@ mod templates;
 mod trees;
 mod typed;
 
+use crate::changes::put_changes;
+use crate::codes::{put_compiled, put_decoded, put_tested, put_verified};
+use crate::conditions::{put_checked, put_parsed, put_tokens};
+use crate::judges::{put_condition, put_judge};
+use crate::templates::{put_arguments, put_bound};
 use cases_of_values::fault::{CaseFault, Written};
 use cases_of_values::output::Output;
+pub use judges::put_verdict;
 use serde_json::Value as Json;
 use std::alloc::Global;
 
@@ -43,14 +49,19 @@ pub fn answer(alloc: Global, call: &str, case: &Json) -> Option<Result<String, C
 fn put(alloc: Global, call: &str, case: &Json, out: &mut Output) -> Option<Written>
     ensures { is_some result ≡ is_library_call call.now }
 {
-    if let Some(written) = templates::put(alloc, call, case, out) {
-        return Some(written);
+    match call {
+        "bind" => Some(put_bound(alloc, case, out)),
+        "arguments" => Some(put_arguments(alloc, case, out)),
+        "tokens" => Some(put_tokens(alloc, case, out)),
+        "parse" => Some(put_parsed(alloc, case, out)),
+        "check" => Some(put_checked(alloc, case, out)),
+        "decode" => Some(put_decoded(alloc, case, out)),
+        "compile" => Some(put_compiled(alloc, case, out)),
+        "verify" => Some(put_verified(alloc, case, out)),
+        "run_tested" => Some(put_tested(alloc, case, out)),
+        "change_byte" => Some(put_changes(alloc, case, out)),
+        "condition" => Some(put_condition(alloc, case, out)),
+        "judge" | "judge_code" => Some(put_judge(alloc, call, case, out)),
+        _ => None,
     }
-    if let Some(written) = conditions::put(alloc, call, case, out) {
-        return Some(written);
-    }
-    if let Some(written) = codes::put(alloc, call, case, out) {
-        return Some(written);
-    }
-    judges::put(alloc, call, case, out)
 }

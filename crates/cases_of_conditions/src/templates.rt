@@ -1,9 +1,5 @@
 //! Calls on templates and their arguments.
 
-ghost use Rattle.std.specs.Prelude.{◌≡◌, is_some};
-ghost use Rattle.cases_of_values.specs.Calls.{is_one_of};
-ghost use Rattle.cases_of_conditions.specs.Calls.{template_calls};
-
 use ar_manifest::{Args, BoundMetric, Template};
 use ar_value::Text;
 use cases_of_values::fault::{CaseFault, Written};
@@ -13,19 +9,8 @@ use cases_of_values::printing::{put_or_none, put_quoted, put_refusal};
 use serde_json::Value as Json;
 use std::alloc::Global;
 
-/// Writes what a call on this subject returns; `None` for a call on another one.
-pub(crate) fn put(alloc: Global, call: &str, case: &Json, out: &mut Output) -> Option<Written>
-    ensures known { is_some result ≡ is_one_of template_calls call.now }
-{
-    match call {
-        "bind" => Some(put_bound(alloc, case, out)),
-        "arguments" => Some(put_arguments(alloc, case, out)),
-        _ => None,
-    }
-}
-
 /// The name of the template and the metrics that it is bound to, or the refusal of either step.
-fn put_bound(alloc: Global, case: &Json, out: &mut Output) -> Written {
+pub(crate) fn put_bound(alloc: Global, case: &Json, out: &mut Output) -> Written {
     match Template::read(alloc, members::json(case, "template")?) {
         Ok(template) => put_bound_with(alloc, case, &template, out),
         Err(refusal) => {
@@ -119,7 +104,7 @@ fn add_pair(alloc: Global, arguments: &mut Args, pair: &Json) -> Written {
     Ok(())
 }
 
-fn put_arguments(alloc: Global, case: &Json, out: &mut Output) -> Written {
+pub(crate) fn put_arguments(alloc: Global, case: &Json, out: &mut Output) -> Written {
     let mut arguments = Args::new(alloc);
     put_found(alloc, case, &mut arguments, out)
 }

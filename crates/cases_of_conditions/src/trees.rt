@@ -3,13 +3,13 @@
 use ar_tree::tree::{Binary, Comparison, Literal, Tree, Unary};
 use ar_value::operator::{Predicate, TextTest};
 use cases_of_values::output::Output;
-use cases_of_values::printing::{put_boolean, put_quoted, put_whole};
+use cases_of_values::printing::put_quoted;
 
 pub(crate) fn put_literal(out: &mut Output, literal: &Literal) {
     match literal {
         Literal::Nil => out.put("nil"),
-        Literal::Bool(boolean) => put_boolean(out, *boolean),
-        Literal::Whole(whole) => put_whole(out, *whole),
+        Literal::Bool(boolean) => write!(out, "{boolean}"),
+        Literal::Whole(whole) => write!(out, "{whole}"),
         Literal::Decimal(decimal) => write!(out, "{decimal}"),
         Literal::Text(text) => put_quoted(out, text.as_str()),
     }

@@ -7,10 +7,9 @@ ghost use Rattle.cases_of_values.specs.Faults.{status_of};
 
 use std::alloc::{AllocError, AllocFailed};
 use std::fmt;
-use thiserror::Error;
 
 /// Why a case has no answer.
-#[derive(Clone, Copy, Error)]
+#[derive(Clone, Copy)]
 pub enum CaseFault {
     /// A member isn't there, or is nothing that the call takes.
     Member,
@@ -26,24 +25,11 @@ impl CaseFault {
     }
 }
 
-impl fmt::Display for CaseFault {
-    fn fmt<W: fmt::Write>(&self, f: &mut fmt::Formatter<W>) -> fmt::Result {
-        f.write_str(self.words())
-    }
-}
-
-/// The words of `Display`, since `Error` asks for this impl.
-impl fmt::Debug for CaseFault {
-    fn fmt<W: fmt::Write>(&self, f: &mut fmt::Formatter<W>) -> fmt::Result {
-        f.write_str(self.words())
-    }
-}
-
 /// The answer was written, as far as memory lasted, or the case has no answer.
 pub type Written = Result<(), CaseFault>;
 
 /// Why a line has no answer.
-#[derive(Clone, Copy, Error)]
+#[derive(Clone, Copy)]
 pub enum LineFault {
     NoJson,
     UnknownCall,
@@ -75,13 +61,6 @@ impl LineFault {
 }
 
 impl fmt::Display for LineFault {
-    fn fmt<W: fmt::Write>(&self, f: &mut fmt::Formatter<W>) -> fmt::Result {
-        f.write_str(self.words())
-    }
-}
-
-/// The words of `Display`, since `Error` asks for this impl.
-impl fmt::Debug for LineFault {
     fn fmt<W: fmt::Write>(&self, f: &mut fmt::Formatter<W>) -> fmt::Result {
         f.write_str(self.words())
     }

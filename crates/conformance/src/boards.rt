@@ -7,7 +7,6 @@ use crate::parts::{Part, put_all};
 use crate::phases::put_effect;
 use ar_board::{CoreState, CoreStep, Moved, core_run, core_run_ordered, core_step};
 use ar_bundle::{Bundle, Entry};
-use ar_report::phase_name;
 use cases_of_values::fault::{CaseFault, Written};
 use cases_of_values::members;
 use cases_of_values::output::Output;
@@ -196,8 +195,7 @@ fn put_state(bundle: &Bundle, core: &CoreState<'_>, ordered: bool, out: &mut Out
         put_parked(core.parked(), out);
     }
     for run in 0..bundle.runs().len() {
-        write!(out, " / run {run} ");
-        out.put(phase_name(core.run_state(run).phase()));
+        write!(out, " / run {run} {:?}", core.run_state(run).phase());
         put_history(core.history(run), out);
     }
 }

@@ -29,6 +29,9 @@ mod lists;
 mod parts;
 mod phases;
 
+use crate::commands::put_command;
+use crate::documents::{put_document, put_json};
+use crate::phases::{put_phase, put_phases, put_positive};
 use cases_of_values::fault::{CaseFault, LineFault, Written};
 use cases_of_values::members;
 use cases_of_values::output::Output;
@@ -121,11 +124,15 @@ fn own_answer(alloc: Global, call: &str, case: &Json) -> Option<Result<String, C
 fn put(alloc: Global, call: &str, case: &Json, out: &mut Output) -> Option<Written>
     ensures { is_some result ≡ is_own_call call.now }
 {
-    if let Some(written) = phases::put(alloc, call, case, out) {
-        return Some(written);
+    match call {
+        "phase" => Some(put_phase(case, out)),
+        "positive_counts" => Some(put_positive(alloc, case, out)),
+        "phases" => Some(put_phases(alloc, case, out)),
+        "read_json" => Some(put_json(alloc, case, out)),
+        "read_bundle" | "findings" | "limits" | "core" => {
+            Some(put_document(alloc, call, case, out))
+        }
+        "command_of" => Some(put_command(alloc, case, out)),
+        _ => None,
     }
-    if let Some(written) = documents::put(alloc, call, case, out) {
-        return Some(written);
-    }
-    commands::put(alloc, call, case, out)
 }

@@ -1,50 +1,27 @@
 //! Calls on limits, events and phases.
 
-ghost use Rattle.std.specs.Prelude.{◌≡◌, is_some};
-ghost use Rattle.cases_of_values.specs.Calls.{is_one_of};
-ghost use Rattle.conformance.specs.Calls.{phase_calls};
-
 use crate::lists::{Item, number_in, read_all};
 use ar_limits::{Counts, Effect, Event, Limits, MOST_EVENTS, Mark, Phase, RunState};
-use ar_report::phase_name;
 use cases_of_values::fault::{CaseFault, Written};
 use cases_of_values::members;
 use cases_of_values::output::Output;
 use serde_json::Value as Json;
 use std::alloc::Global;
 
-/// Writes what a call on this subject returns; `None` for a call on another one.
-pub(crate) fn put(alloc: Global, call: &str, case: &Json, out: &mut Output) -> Option<Written>
-    ensures { is_some result ≡ is_one_of phase_calls call.now }
-{
-    match call {
-        "phase" => Some(put_phase(case, out)),
-        "positive_counts" => Some(put_positive(alloc, case, out)),
-        "phases" => Some(put_phases(alloc, case, out)),
+fn phase_of(name: &str) -> Option<Phase> {
+    match name {
+        "Pending" => Some(Phase::Pending),
+        "Running" => Some(Phase::Running),
+        "Successful" => Some(Phase::Successful),
+        "Failed" => Some(Phase::Failed),
+        "Error" => Some(Phase::Error),
+        "Inconclusive" => Some(Phase::Inconclusive),
         _ => None,
     }
 }
 
-const PHASES: [Phase; 6] = [
-    Phase::Pending,
-    Phase::Running,
-    Phase::Successful,
-    Phase::Failed,
-    Phase::Error,
-    Phase::Inconclusive,
-];
-
-fn phase_of(name: &str) -> Option<Phase> {
-    for phase in PHASES {
-        if phase_name(phase) == name {
-            return Some(phase);
-        }
-    }
-    None
-}
-
 /// Whether a phase is complete, and whether it is so without success.
-fn put_phase(case: &Json, out: &mut Output) -> Written {
+pub(crate) fn put_phase(case: &Json, out: &mut Output) -> Written {
     let phase = phase_of(members::text(case, "phase")?).ok_or(CaseFault::Member)?;
     write!(
         out,
@@ -91,7 +68,7 @@ fn all_limits(alloc: Global, case: &Json) -> Result<Vec<Limits>, CaseFault> {
     read_all(alloc, members::list(case, "limits")?)
 }
 
-fn put_positive(alloc: Global, case: &Json, out: &mut Output) -> Written {
+pub(crate) fn put_positive(alloc: Global, case: &Json, out: &mut Output) -> Written {
     let limits = all_limits(alloc, case)?;
     write!(out, "{}", Limits::have_positive_counts(&limits));
     Ok(())
@@ -141,10 +118,7 @@ pub(crate) fn put_effect(out: &mut Output, effect: Effect) {
     match effect {
         Effect::Applied => out.put("applied"),
         Effect::Late => out.put("late"),
-        Effect::Closed(phase) => {
-            out.put("closed ");
-            out.put(phase_name(phase));
-        }
+        Effect::Closed(phase) => write!(out, "closed {phase:?}"),
     }
 }
 
@@ -161,22 +135,17 @@ fn put_effects(events: &[Json], state: &mut RunState, out: &mut Output) -> Optio
 
 fn put_metrics(state: &RunState, out: &mut Output) {
     for metric in 0..state.metrics() {
-        out.put(" / metric ");
-        out.put(phase_name(state.metric_phase(metric)));
+        write!(out, " / metric {:?}", state.metric_phase(metric));
         put_counts(state.counts(metric), out);
     }
 }
 
 fn put_counts(counts: Counts, out: &mut Output) {
-    put_count(out, " successful=", counts.successful);
-    put_count(out, " failed=", counts.failed);
-    put_count(out, " inconclusive=", counts.inconclusive);
-    put_count(out, " error=", counts.error);
-    put_count(out, " consecutiveError=", counts.succession);
-}
-
-fn put_count(out: &mut Output, name: &str, count: u64) {
-    write!(out, "{name}{count}");
+    write!(out, " successful={}", counts.successful);
+    write!(out, " failed={}", counts.failed);
+    write!(out, " inconclusive={}", counts.inconclusive);
+    write!(out, " error={}", counts.error);
+    write!(out, " consecutiveError={}", counts.succession);
 }
 
 /// The run of limits before any event.
@@ -190,16 +159,14 @@ fn opened(alloc: Global, case: &Json) -> Result<RunState, CaseFault> {
 
 /// The effect of each event, then the phase of the run, how many events it was handed, and the phase and
 /// the counts of each metric.
-fn put_phases(alloc: Global, case: &Json, out: &mut Output) -> Written {
+pub(crate) fn put_phases(alloc: Global, case: &Json, out: &mut Output) -> Written {
     put_run(case, &mut opened(alloc, case)?, out)
 }
 
 fn put_run(case: &Json, state: &mut RunState, out: &mut Output) -> Written {
     out.put("[");
     put_effects(members::list(case, "events")?, state, out).ok_or(CaseFault::Member)?;
-    out.put("] / run ");
-    out.put(phase_name(state.phase()));
-    write!(out, " handed={}", state.handed());
+    write!(out, "] / run {:?} handed={}", state.phase(), state.handed());
     put_metrics(state, out);
     Ok(())
 }
