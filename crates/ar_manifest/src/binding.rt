@@ -93,11 +93,12 @@ impl Scope<'_> {
         ensures { Gives (λ _. false) (λ value. value.now) result
             (referred_value self.now.arguments.now self.now.own.now self.now.metric between.now) }
     {
-        let name = argument_name(trimmed(between)).ok_or(ManifestError::UnknownArg(self.metric))?;
-        let value = self
-            .arguments
-            .get(name)
-            .ok_or(ManifestError::UnknownArg(self.metric))?;
+        let Some(name) = argument_name(trimmed(between)) else {
+            return Err(ManifestError::UnknownArg(self.metric));
+        };
+        let Some(value) = self.arguments.get(name) else {
+            return Err(ManifestError::UnknownArg(self.metric));
+        };
         match (self.own.get(name), value) {
             (Some(own), _) => Ok(own.as_str()),
             (None, Some(value)) => Ok(value.as_str()),

@@ -42,7 +42,9 @@ fn name<'a>(
         (dry_name metrics.now (map (λ name. name.now) earlier.now) (view json.now)) }
 {
     let i = earlier.len();
-    let name = text_member(json, "metricName").ok_or(ManifestError::BadDryRun(i))?;
+    let Some(name) = text_member(json, "metricName") else {
+        return Err(ManifestError::BadDryRun(i));
+    };
     if name.is_empty() {
         return Err(ManifestError::BadDryRun(i));
     }

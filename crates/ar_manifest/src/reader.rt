@@ -164,7 +164,9 @@ fn new_name<'a>(json: &'a Json, earlier: &[Metric]) -> Result<&'a str, ManifestE
     ensures { Gives (λ _. false) (λ name. name.now) result (new_name earlier.now (view json.now)) }
 {
     let i = earlier.len();
-    let name = text_member(json, "name").ok_or(ManifestError::MetricNameMissing(i))?;
+    let Some(name) = text_member(json, "name") else {
+        return Err(ManifestError::MetricNameMissing(i));
+    };
     if is_taken(name, earlier) {
         return Err(ManifestError::DoubleMetric(i));
     }
@@ -230,7 +232,9 @@ fn found_argument<'a>(
     ensures new { IfOk result (λ argument. value_of argument.0.now earlier.now ≡ None) }
 {
     let refusal = ManifestError::BadArgs(earlier.len());
-    let name = text_member(json, "name").ok_or(refusal)?;
+    let Some(name) = text_member(json, "name") else {
+        return Err(refusal);
+    };
     if earlier.get(name).is_some() {
         return Err(refusal);
     }

@@ -80,7 +80,9 @@ fn prefixed_number(bytes: &[u8], at: usize, base: Base) -> Result<Token, SyntaxE
     ensures { result ≡ prefixed_number at bytes.now base }
 {
     let digits = base_digits(after_prefix(bytes), base);
-    let value = prefixed_value(digits, base).ok_or(SyntaxError::NumberTooLarge(at))?;
+    let Some(value) = prefixed_value(digits, base) else {
+        return Err(SyntaxError::NumberTooLarge(at));
+    };
     ended(
         bytes,
         at,
@@ -225,11 +227,15 @@ fn value(whole: &[u8], fraction: &[u8], at: usize) -> Result<TokenKind, SyntaxEr
         return Err(SyntaxError::LiteralTooFine(at));
     }
     if fraction.is_empty() {
-        let whole = whole_value(whole).ok_or(SyntaxError::NumberTooLarge(at))?;
-        Ok(TokenKind::Whole(whole))
+        match whole_value(whole) {
+            Some(whole) => Ok(TokenKind::Whole(whole)),
+            None => Err(SyntaxError::NumberTooLarge(at)),
+        }
     } else {
-        let millionths = decimal_value(whole, fraction).ok_or(SyntaxError::NumberTooLarge(at))?;
-        Ok(TokenKind::Decimal(Decimal::from_millionths(millionths)))
+        match decimal_value(whole, fraction) {
+            Some(millionths) => Ok(TokenKind::Decimal(Decimal::from_millionths(millionths))),
+            None => Err(SyntaxError::NumberTooLarge(at)),
+        }
     }
 }
 

@@ -156,8 +156,10 @@ fn line_comment_len(bytes: &[u8]) -> usize
 fn block_comment(bytes: &[u8], at: usize) -> Result<Piece, SyntaxError>
     ensures { result ≡ block_comment at bytes.now }
 {
-    let len = comment_len(bytes).ok_or(SyntaxError::OpenComment(at))?;
-    Ok(Piece::Gap(len))
+    match comment_len(bytes) {
+        Some(len) => Ok(Piece::Gap(len)),
+        None => Err(SyntaxError::OpenComment(at)),
+    }
 }
 
 #[tactic(auto, using(crate::proofs::Quotes::comment_ends))]
