@@ -21,7 +21,6 @@ mod json;
 pub mod laws;
 mod reports;
 
-pub use ar_facts::{phase_name, put_verdict};
 pub use conditions::{check_text, list_text};
 pub use json::{answer_json, check_json, report_json};
 pub use reports::{report, run_phases};
