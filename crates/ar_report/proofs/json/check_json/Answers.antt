@@ -5,7 +5,8 @@ use Rattle.serde_json.specs.Written.{has_float}
 use Rattle.std.proofs.lemmas.Result.{IfOk-weaker}
 use Rattle.ar_facts.specs.Facts.{check_facts}
 use Rattle.ar_facts.specs.ReportData.{IsJsonLine}
-use Rattle.ar_facts.proofs.Objects.{check_exact, check_flat, checked}
+use Rattle.ar_facts.proofs.Objects.{check_exact, check_flat}
+use Rattle.ar_report.proofs.Shown.{checked}
 use Rattle.ar_report.proofs.json.check_json.Goals as goal
 
 pub json_line-requires-clause-exact : goal.json_line-requires-clause-exact
