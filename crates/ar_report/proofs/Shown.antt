@@ -11,7 +11,7 @@ use Rattle.serde_json.specs.Data.{Data}
 use Rattle.serde_json.specs.View.{view}
 use Rattle.serde_json.specs.declared.value.Value.{Value}
 use Rattle.ar_report.specs.Private.Shown.{condition_seen, conditions_seen}
-use Rattle.ar_facts.specs.ReportData.{condition_data, named_list}
+use Rattle.ar_facts.specs.ReportData.{check_data, condition_data, named_list}
 use Rattle.ar_report.specs.declared.conditions.NamedCondition.{NamedCondition}
 use Rattle.ar_facts.proofs.Lines.{no_item, no_more, none_left, one_more, one_seen, read_at}
 
