@@ -47,7 +47,9 @@ def lines_of(crate: str) -> int:
 
 
 def table() -> dict[str, Cost]:
-    """What the page says of each crate."""
+    """What the page says of each crate; nothing where it isn't there."""
+    if not PAGE.is_file():
+        return {}
     text = PAGE.read_text(encoding="utf-8")
     return {name: Cost(int(seconds), int(functions), int(lines)) for name, seconds, functions, lines in ROW.findall(text)}
 
