@@ -2,19 +2,21 @@
 
 ghost use Rattle.std.specs.Prelude.{IfOk};
 ghost use Rattle.ar_bundle.specs.Sound.{JudgesShape, SampleSuits};
+ghost use Rattle.ar_facts.specs.Names.{verdict_text};
 ghost use Rattle.ar_judge.specs.Verdict.{sample_view};
 ghost use Rattle.ar_value.specs.View.{shape_view};
+ghost use Rattle.cases_of_values.specs.Output.{Writes};
 
 use crate::made::{Made, put_made};
 use ar_json::{ShapeFault, read_value};
-use ar_judge::{Cause, Condition, Judge, Sample, Verdict};
+use ar_judge::{Condition, Judge, Sample, Verdict};
 use ar_manifest::BoundMetric;
 use ar_safety::Verified;
 use ar_value::{Shape, SharedShape, Text};
 use cases_of_values::fault::{CaseFault, Written};
 use cases_of_values::members;
 use cases_of_values::output::Output;
-use cases_of_values::printing::{put_answer, put_pair, put_quoted, put_refusal};
+use cases_of_values::printing::{put_answer, put_quoted, put_refusal};
 use serde_json::Value as Json;
 use std::alloc::Global;
 
@@ -124,26 +126,18 @@ fn put_verdict_of(
     requires { JudgesShape (shape_view shape.now) judge.now }
 {
     let sample = sample_of(alloc, case, shape)?;
-    put_verdict(out, judge.judge(alloc, &sample)?);
+    put_verdict(alloc, out, judge.judge(alloc, &sample)?);
     Ok(())
 }
 
-/// A verdict as reports write it.
-pub fn put_verdict(out: &mut Output, verdict: Verdict) {
-    match verdict {
-        Verdict::Successful => out.put("Successful"),
-        Verdict::Failed => out.put("Failed"),
-        Verdict::Inconclusive => out.put("Inconclusive"),
-        Verdict::Error(cause) => put_cause(out, cause),
-    }
-}
-
-fn put_cause(out: &mut Output, cause: Cause) {
-    match cause {
-        Cause::Provider => out.put("Error provider"),
-        Cause::Shape(fault) => write!(out, "Error shape {fault:?}"),
-        Cause::Success(fault) => put_pair(out, "Error success", fault.name()),
-        Cause::Failure(fault) => put_pair(out, "Error failure", fault.name()),
+/// Writes a verdict as reports do.
+pub fn put_verdict(alloc: Global, out: &mut Output, verdict: Verdict)
+    ensures { Writes out.old out.new (verdict_text verdict) }
+{
+    let mut text = String::new(alloc);
+    match ar_facts::put_verdict(&mut text, verdict) {
+        Ok(()) => out.put(text.as_str()),
+        Err(_) => out.lose(),
     }
 }
 

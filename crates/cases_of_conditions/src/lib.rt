@@ -9,8 +9,8 @@
 //! - `changes`: the outcome of an image when one of its bytes is changed
 //! - `made`: what a call made of a case, or why it refused it
 //!
-//! Which names are those of calls is proved of every case (`specs/Calls`). What these calls return is only tested,
-//! by the suite.
+//! Which names are those of calls is proved of every case (`specs/Calls`), and how ends of runs and verdicts are
+//! printed (`specs/Endings`, and `verdict_text` of `ar_facts`). What these calls return is only tested, by the suite.
 #![tactic(auto)]
 
 ghost use Rattle.std.specs.Prelude.{◌≡◌, is_some};

@@ -14,6 +14,11 @@ abbrev pub Writes : (earlier later : Output) → (text : List ℕ) → Type 0
 Writes earlier later text = later.is_whole ≡ true
     → (earlier.is_whole ≡ true) × (string_bytes later.text ≡ string_bytes earlier.text ++ text)
 
+-- the same, with some text
+abbrev pub Extends : (earlier later : Output) → Type 0
+Extends earlier later = later.is_whole ≡ true
+    → (earlier.is_whole ≡ true) × ((text : List ℕ) × (string_bytes later.text ≡ string_bytes earlier.text ++ text))
+
 -- a piece is missing
 abbrev pub IsLost : Output → Type 0
 IsLost output = output.is_whole ≡ false

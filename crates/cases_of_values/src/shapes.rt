@@ -6,7 +6,7 @@ ghost use Rattle.cases_of_values.specs.Calls.{is_one_of, shape_calls};
 use crate::fault::{CaseFault, Written};
 use crate::members;
 use crate::output::Output;
-use crate::printing::{put_refusal, put_shape, put_value};
+use crate::printing::{put_boolean, put_found, put_refusal, put_shape, put_value};
 use ar_json::{read_shape, read_value};
 use ar_value::kind::{Kind, common, is_optional, merge, plain};
 use ar_value::{Shape, Value, fits};
@@ -147,8 +147,7 @@ fn put_field_of(out: &mut Output, value: &Value, name: &str) -> Written {
         return Err(CaseFault::Member);
     };
     match fields.get(name) {
-        Some(Some(value)) => put_value(out, value),
-        Some(None) => out.put("null"),
+        Some(found) => put_found(out, found),
         None => out.put("none"),
     }
     Ok(())
@@ -158,6 +157,6 @@ fn put_field_of(out: &mut Output, value: &Value, name: &str) -> Written {
 fn put_fits(alloc: Global, case: &Json, out: &mut Output) -> Written {
     let value = value_of(alloc, case, "of")?;
     let shape = members::shape(alloc, case, "shape")?;
-    write!(out, "{}", fits(&value, shape.get()));
+    put_boolean(out, fits(&value, shape.get()));
     Ok(())
 }

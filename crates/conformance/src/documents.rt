@@ -97,15 +97,15 @@ fn put_findings(alloc: Global, bundle: &Bundle, out: &mut Output) -> Written {
         out.put(separator);
         separator = " / ";
         write!(out, "run {}: ", bundle.run_of(number));
-        put_finding(finding, out);
+        put_finding(alloc, finding, out);
         put_event(out, bundle.event(number, finding));
     }
     Ok(())
 }
 
-fn put_finding(finding: Finding, out: &mut Output) {
+fn put_finding(alloc: Global, finding: Finding, out: &mut Output) {
     match finding {
-        Finding::Judged(verdict) => put_verdict(out, verdict),
+        Finding::Judged(verdict) => put_verdict(alloc, out, verdict),
         Finding::Stop => out.put("stop"),
     }
 }

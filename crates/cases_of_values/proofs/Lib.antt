@@ -1,0 +1,5 @@
+pub mod Values
+pub mod Joined
+pub mod Escapes
+pub mod Lines
+pub mod Given
