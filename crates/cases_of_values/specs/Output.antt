@@ -24,12 +24,12 @@ abbrev pub IsLost : Output → Type 0
 IsLost output = output.is_whole ≡ false
 
 -- what is given of a text of which all pieces are there, or not: out of memory takes precedence over what is refused
-abbrev pub finished : {A : Type 0} → (is_whole : Bool) → (text : A) → (written : Result ⊤ CaseFault)
+abbrev pub given_if_whole : {A : Type 0} → (is_whole : Bool) → (text : A) → (written : Result ⊤ CaseFault)
     → Result A CaseFault
-finished false text written = Err OutOfMemory
-finished true text (Ok written) = Ok text
-finished true text (Err fault) = Err fault
+given_if_whole false text written = Err OutOfMemory
+given_if_whole true text (Ok written) = Ok text
+given_if_whole true text (Err fault) = Err fault
 
 -- what is given of it in the end
 abbrev pub given_of : (output : Output) → (written : Result ⊤ CaseFault) → Result (String Global) CaseFault
-given_of output written = finished output.is_whole output.text written
+given_of output written = given_if_whole output.is_whole output.text written
