@@ -1,4 +1,5 @@
-use Rattle.std.proofs.Common.{◌≡◌, ◌∙◌, Some, ap, map, subst, sym}
+use Rattle.std.proofs.lemmas.Grind.{elements}
+use Rattle.std.proofs.Common.{arith, ◌≡◌, ◌∙◌, Some, ap, map, subst, sym}
 use Rattle.std.specs.Prelude.{option_map, slice_get}
 use Rattle.std.proofs.lemmas.Option.{slice_get-map}
 use Rattle.serde_json.specs.View.{view}
@@ -35,3 +36,6 @@ returns-clause-entry c =
     let metric = metric_at opened.metrics.items opened.readers.items at c.in_ok-reader.reader.now c.requires.opened.readers there in
     let suits = subst (λ (shape : Declared). SampleSuits (shape_view shape) (sample_view c.in_ok-sample.sample)) (sym metric.2) c.in_ok-sample.ensures.suits in
     record { run = c.requires.run; what = record { part = metric.0; there = metric.1; suits = suits } }
+
+pub returns-in_err-reader : goal.returns-in_err-reader
+returns-in_err-reader c = grind (arith, elements) steps 2000000

@@ -1,6 +1,6 @@
 use Rattle.std.proofs.Common.{◌∙◌, arith, rules, sym}
 use Rattle.std.specs.Prelude.{slice_index_or}
-use Rattle.ar_quote.proofs.TokenBytes.{last_letter, next_letter}
+use Rattle.ar_quote.proofs.TokenBytes.{no_letter, last_letter, next_letter}
 use Rattle.ar_quote.proofs.tokens.literal_length.Goals as goal
 
 pub returns-then-is_plain-clause-exact : goal.returns-then-is_plain-clause-exact
@@ -14,3 +14,6 @@ loop-offset-preserved c = record {
       (sym c.is_plain.ensures ∙ c.if-is_plain.false) c.loop-offset.invariant.so_far);
   within = omega (arith, c.loop-offset-test.true);
 }
+
+pub returns : goal.returns
+returns c = grind (arith, next_letter, last_letter, no_letter) steps 2000000

@@ -1,4 +1,5 @@
-use Rattle.std.proofs.Common.{rules, ◌+◌, ◌∙◌, ap}
+use Rattle.std.proofs.lemmas.Grind.{common_steps}
+use Rattle.std.proofs.Common.{arith, rules, ◌+◌, ◌∙◌, ap}
 use Rattle.ar_facts.proofs.Replaying.{next_read}
 use Rattle.ar_reason.proofs.Histories.{closer_read, next_step}
 use Rattle.ar_reason.proofs.steps.steps_of.Goals as goal
@@ -14,3 +15,6 @@ loop-entry-preserved c =
       closer_read c.args.entries.now c.loop-entry.entry-index _ c.loop-entry.closer c.closer_after-closer.result inside c.loop-entry.invariant.2 c.closer_after-closer.ensures,
       search (rules, kept, passed),
     )
+
+pub returns : goal.returns
+returns c = grind (arith, common_steps) steps 2000000
