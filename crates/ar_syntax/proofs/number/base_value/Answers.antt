@@ -1,3 +1,4 @@
+use Rattle.std.proofs.lemmas.Grind.{common_steps}
 use Rattle.std.proofs.Common.{arith, ap, refl, ◌*◌}
 use Rattle.ar_syntax.specs.Token.{radix}
 use Rattle.ar_syntax.proofs.Bases.{next-le-total, next-spelled, radix-pos}
@@ -20,3 +21,6 @@ loop-digit-preserved c = record {
   spelled = next-spelled (radix c.args.base) c.loop-digit.value c.in_ok-value.value _ c.args.digits.now c.loop-digit.digit-index
       (rw (c.in_ok-value.ensures.1, c.in_ok-checked_mul.ensures.1, c.digit_value.ensures, c.loop-digit.invariant.radix_is) refl) c.loop-digit-test.true c.loop-digit.invariant.spelled;
 }
+
+pub returns : goal.returns
+returns c = grind (arith, common_steps) steps 2000000
