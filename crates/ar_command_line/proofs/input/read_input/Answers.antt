@@ -1,4 +1,5 @@
-use Rattle.std.proofs.Common.{rules}
+use Rattle.std.proofs.lemmas.Grind.{common_steps}
+use Rattle.std.proofs.Common.{arith, rules}
 use Rattle.std.proofs.lemmas.Result.{IfOk-from_err}
 use Rattle.ar_command_line.proofs.Reading.{appends_none, consumes_none}
 use Rattle.ar_command_line.proofs.input.read_input.Goals as goal
@@ -20,3 +21,9 @@ returns-in_err-extend_from_slice-clause-ok g c =
 pub returns-in_err-extend_from_slice-clause-taken : goal.returns-in_err-extend_from_slice-clause-taken
 returns-in_err-extend_from_slice-clause-taken g c =
     IfOk-from_err _ _ c.from_residual-in_err-extend_from_slice.ensures.0
+
+pub returns-then-len-gt-MOST_BYTES : goal.returns-then-len-gt-MOST_BYTES
+returns-then-len-gt-MOST_BYTES c = grind (arith, common_steps) steps 2000000
+
+pub loop-reads-preserved : goal.loop-reads-preserved
+loop-reads-preserved c = grind (arith, common_steps) steps 2000000

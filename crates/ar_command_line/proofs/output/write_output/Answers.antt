@@ -23,3 +23,6 @@ loop-rest-preserved g c = record {
 pub returns-clause-front : goal.returns-clause-front
 returns-clause-front g c =
     flush_failed g.W.Sink.contents g.W.Sink.calls _ _ _ _ _ c.loop-rest.invariant.so_far c.flush.result (search rules) c.flush.ensures.bytes c.flush.ensures.call
+
+pub loop-rest-init : goal.loop-rest-init
+loop-rest-init c = grind (arith, common_steps) steps 2000000

@@ -1,6 +1,6 @@
-use Rattle.std.proofs.Common.{◌∙◌, ap, string_bytes, sym}
+use Rattle.std.proofs.Common.{arith, ◌∙◌, ap, string_bytes, sym}
 use Rattle.ar_command_line.specs.Usage.{after}
-use Rattle.ar_command_line.proofs.Refused.{refused, taken}
+use Rattle.ar_command_line.proofs.Refused.{none_left, refused, taken}
 use Rattle.ar_command_line.proofs.usage.first_refused.Goals as goal
 
 pub returns-in-None : goal.returns-in-None
@@ -13,3 +13,6 @@ pub loop-word-preserved : goal.loop-word-preserved
 loop-word-preserved c =
     taken string_bytes c.args.words.now c.loop-word.word-index c.word-item.result c.loop-word-test.true c.word-item.is c.loop-word.next c.in-Some.following _
     (ap (after c.loop-word.next) (sym c.as_str.ensures.value) ∙ (sym c.after.ensures ∙ c.in-Some.is)) c.loop-word.invariant
+
+pub returns : goal.returns
+returns c = grind (arith, taken, refused, none_left) steps 2000000
