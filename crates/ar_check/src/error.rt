@@ -1,7 +1,7 @@
 //! Why a condition has no kinds.
 
 ghost use Rattle.std.specs.Prelude.{◌≡◌};
-ghost use Rattle.ar_check.specs.Refused.{refused_at};
+ghost use Rattle.ar_check.specs.Refused.{refused_at, type_error_name};
 ghost use Rattle.ar_check.specs.declared.error.TypeError.TheVariants.{OutOfMemory};
 
 use std::alloc::{AllocError, AllocFailed};
@@ -47,38 +47,26 @@ impl TypeError {
         }
     }
 
-    /// What was expected.
-    fn words(self) -> &'static str {
+    /// The variant's name.
+    pub fn name(self) -> &'static str
+        ensures { result.now ≡ type_error_name self }
+    {
         match self {
-            TypeError::WrongOperand(_) =>
-                "WrongOperand: expected a record before a field; \"whole\" for an index and %; \
-                 \"whole\" or \"decimal\" for a sign, + - * / < <= > >=; \"bool\" for ! && || ? \
-                 and predicates; \"text\" for contains, startsWith and endsWith; numbers, \"bool\" \
-                 or \"text\" alone for == != in",
-            TypeError::NoSuchField(_) => "NoSuchField: the record has no such field",
-            TypeError::NotAList(_) =>
-                "NotAList: expected {\"list\":shape,\"max\":number} before an index, after `in`, \
-                 and for len, all, any, none, one, count and filter",
-            TypeError::NoCommonKind(_) =>
-                "NoCommonKind: expected one shape for both branches, for all items of a list, or \
-                 for a value and its default; \"whole\" and \"decimal\" have \"decimal\"",
-            TypeError::NotScalar(_) =>
-                "NotScalar: expected \"bool\", \"whole\", \"decimal\" or \"text\" as an item of a list",
-            TypeError::NotTruth(_) =>
-                "NotTruth: expected \"bool\" of the whole condition, as `result >= 0.95` gives",
-            TypeError::PredicatesTooDeep(_) =>
-                "PredicatesTooDeep: expected at most four of all, any, none, one, count and filter in one another",
-            TypeError::OutOfMemory => "out of memory",
+            TypeError::WrongOperand(_) => "WrongOperand",
+            TypeError::NoSuchField(_) => "NoSuchField",
+            TypeError::NotAList(_) => "NotAList",
+            TypeError::NoCommonKind(_) => "NoCommonKind",
+            TypeError::NotScalar(_) => "NotScalar",
+            TypeError::NotTruth(_) => "NotTruth",
+            TypeError::PredicatesTooDeep(_) => "PredicatesTooDeep",
+            TypeError::OutOfMemory => "OutOfMemory",
         }
     }
 }
 
 impl fmt::Display for TypeError {
     fn fmt<W: fmt::Write>(&self, f: &mut fmt::Formatter<W>) -> fmt::Result {
-        match self.offset() {
-            Some(at) => write!(f, "byte {at}: {}", self.words()),
-            None => f.write_str(self.words()),
-        }
+        fmt::Debug::fmt(self, f)
     }
 }
 

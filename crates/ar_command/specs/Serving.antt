@@ -17,7 +17,8 @@ use Rattle.serde_json.specs.Data.{Data}
 use Rattle.ar_report.specs.Check.{check_text, list_text}
 use Rattle.ar_facts.specs.Facts.{RunFacts, check_facts, phases_of, report_facts}
 use Rattle.ar_facts.specs.Report.{report_text}
-use Rattle.ar_facts.specs.ReportData.{IsJsonLine, answer_data, check_data, report_data}
+use Rattle.ar_facts.specs.ReportData.{answer_data, check_data, report_data}
+use Rattle.ar_object.specs.Line.{IsJsonLine}
 use Rattle.ar_reason.specs.Reason.{reasons_of}
 use Rattle.ar_reason.specs.ReasonData.{reasons_data}
 use Rattle.ar_reason.specs.ReasonText.{reasons_text}

@@ -7,10 +7,10 @@ use thiserror::Error;
 #[derive(Clone, Copy, Debug, Error)]
 pub enum CompileError {
     /// Its code would have more than 4,096 operations.
-    #[error("TooManyOps: expected a condition of at most 4096 operations; split it, or nest fewer calls and operators")]
+    #[error("TooManyOps")]
     TooManyOps,
     /// The memory for it was refused.
-    #[error("OutOfMemory: the memory for its code was refused")]
+    #[error("OutOfMemory")]
     OutOfMemory,
 }
 

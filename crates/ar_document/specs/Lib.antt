@@ -3,3 +3,4 @@ pub mod Opening
 pub mod Parts
 pub mod Entries
 pub mod Document
+pub mod Refusals

@@ -1,5 +1,8 @@
 //! Why a document is no bundle.
 
+ghost use Rattle.std.specs.Prelude.{◌≡◌};
+ghost use Rattle.ar_document.specs.Refusals.{bundle_error_name};
+
 use ar_json::document::JsonError;
 use ar_json::shape_reading::ShapeError;
 use ar_judge::BuildError;
@@ -65,7 +68,9 @@ impl BundleError {
     }
 
     /// The variant's name.
-    fn name(self) -> &'static str {
+    pub fn name(self) -> &'static str
+        ensures { result.now ≡ bundle_error_name self }
+    {
         match self {
             BundleError::TooLarge => "TooLarge",
             BundleError::Utf8OrJson => "Utf8OrJson",
@@ -81,53 +86,6 @@ impl BundleError {
             BundleError::UnknownRun(_) => "UnknownRun",
             BundleError::UnknownMetric(_) => "UnknownMetric",
             BundleError::OutOfMemory => "OutOfMemory",
-        }
-    }
-
-    /// The words before the number.
-    fn before(self) -> &'static str {
-        match self {
-            BundleError::ShapeMissing(_) | BundleError::Shapes(..) => "shapes: metric ",
-            BundleError::DoubleRun(_) => "runs[",
-            BundleError::Bind(..) | BundleError::Build(..) => "run ",
-            _ => "measurements[",
-        }
-    }
-
-    /// The words after the number, or all where there is none, up to the fault of what is inside.
-    fn words(self) -> &'static str {
-        match self {
-            BundleError::TooLarge => "document: TooLarge: expected at most 16777216 bytes",
-            BundleError::Utf8OrJson => "document: Utf8OrJson: expected one JSON value in UTF-8",
-            BundleError::Manifest(_) => "manifest: ",
-            BundleError::ShapeMissing(_) =>
-                ": ShapeMissing: expected a shape in `shapes` for each metric, by its name",
-            BundleError::Shapes(..) => ": ",
-            BundleError::Runs =>
-                "runs: Runs: expected a list of 1 to 64 runs, each with a text `name` and no `args` but texts by name",
-            BundleError::DoubleRun(_) => "]: DoubleRun: an earlier run has the name, too",
-            BundleError::Bind(..) => ", ",
-            BundleError::Build(..) => ", metric ",
-            BundleError::TooManyMeasurements =>
-                "measurements: TooManyMeasurements: expected at most 100000 entries",
-            BundleError::BadEntry(_) =>
-                "]: BadEntry: expected a list of entries with a text `run`, and `\"stop\":true` \
-                 or a text `metric` and one of `value` and `error`",
-            BundleError::UnknownRun(_) => "].run: UnknownRun: no run has the name",
-            BundleError::UnknownMetric(_) => "].metric: UnknownMetric: no metric has the name",
-            BundleError::OutOfMemory => "out of memory",
-        }
-    }
-
-    /// Shows the fault of what is inside, where there is one.
-    fn show_inside<W: fmt::Write>(&self, f: &mut fmt::Formatter<W>) -> fmt::Result {
-        match self {
-            BundleError::Manifest(error) | BundleError::Bind(_, error) => fmt::Display::fmt(
-                error, f,
-            ),
-            BundleError::Shapes(_, error) => fmt::Display::fmt(error, f),
-            BundleError::Build(_, metric, error) => write!(f, "{metric}, {error}"),
-            _ => Ok(()),
         }
     }
 }
@@ -156,11 +114,7 @@ impl fmt::Debug for BundleError {
 
 impl fmt::Display for BundleError {
     fn fmt<W: fmt::Write>(&self, f: &mut fmt::Formatter<W>) -> fmt::Result {
-        match self.number() {
-            Some(number) => write!(f, "{}{number}{}", self.before(), self.words())?,
-            None => f.write_str(self.words())?,
-        }
-        self.show_inside(f)
+        fmt::Debug::fmt(self, f)
     }
 }
 

@@ -28,26 +28,26 @@ use thiserror::Error;
 /// Why an input can't be evaluated, in the order of the checks.
 #[derive(Clone, Copy, Debug, Error)]
 pub enum EvalError {
-    #[error("document: TooLarge: expected at most 16777216 bytes")]
+    #[error("TooLarge")]
     TooLarge,
-    #[error("document: Utf8OrJson: expected one JSON value in UTF-8")]
+    #[error("Utf8OrJson")]
     Utf8OrJson,
-    #[error("document: BadDocument: expected an object with a text `condition`, a `shape` and a `value`")]
+    #[error("BadDocument")]
     BadDocument,
-    #[error("shape: {0}")]
+    #[error("{0}")]
     Shape(ShapeError),
-    #[error("condition, {0}")]
+    #[error("{0}")]
     Grammar(SyntaxError),
-    #[error("condition, {0}")]
+    #[error("{0}")]
     Kinds(TypeError),
-    #[error("condition: {0}")]
+    #[error("{0}")]
     Compiler(CompileError),
     /// The verifier refuses the condition's code at an operation, counted from 0.
-    #[error("condition: {1}")]
+    #[error("{1} at {0}")]
     Verifier(usize, Reason),
-    #[error("value: {0}")]
+    #[error("{0}")]
     Misfit(ShapeFault),
-    #[error("out of memory")]
+    #[error("OutOfMemory")]
     OutOfMemory,
 }
 

@@ -21,7 +21,8 @@ use Rattle.ar_bundle.specs.declared.history.Entry.{Entry}
 use Rattle.ar_facts.specs.Facts.{ConditionFacts, EventFacts, FindingFacts, MetricFacts, RunFacts, event_facts, facts_of_metrics, facts_of_runs, judged, metric_facts, run_facts, stopped}
 use Rattle.ar_facts.specs.Names.{cause_if_error, closed_as, fault_if_error}
 use Rattle.ar_facts.specs.Private.Entries.{facts_of_entries}
-use Rattle.ar_facts.specs.ReportData.{IsJsonLine, answer_data, check_data, condition_data, count_or_null, event_data, finding_data, metric_data, named_list, report_data, run_data, run_with, text_or_null}
+use Rattle.ar_facts.specs.ReportData.{answer_data, check_data, condition_data, event_data, finding_data, metric_data, named_list, report_data, run_data, run_with}
+use Rattle.ar_object.proofs.Values.{above, count_exact, count_flat, few, none_deep, none_float, one_deep, text_exact, text_flat, two_deep}
 use Rattle.ar_facts.proofs.Lines.{entry_read, metric_read, no_entry, no_item, no_metric_left, one_seen, run_facts_are}
 use Rattle.ar_facts.proofs.Runs.{no_run_read, run_read}
 
@@ -62,18 +63,6 @@ no_run bundle runs histories index found total past so_far =
 
 -- ---- no number of a report is a float
 
-pub none_float : {A : Type 0} (data_of : A → Data) → ((x : A) → has_float (data_of x) ≡ false) → (xs : List A) → items_have_float (items_of (map data_of xs)) ≡ false
-none_float data_of each [] = refl
-none_float data_of each (x ∷ xs) = rw (each x, none_float data_of each xs) refl
-
-pub count_exact : (found : Option ℕ) → has_float (count_or_null found) ≡ false
-count_exact (Some n) = refl
-count_exact None = refl
-
-pub text_exact : (found : Option (List ℕ)) → has_float (text_or_null found) ≡ false
-text_exact (Some text) = refl
-text_exact None = refl
-
 pub metric_exact : (metric : MetricFacts) → has_float (metric_data metric) ≡ false
 metric_exact metric = rw (count_exact metric.limits.count) refl
 
@@ -96,18 +85,6 @@ answer_exact (Err fault) = refl
 
 -- ---- and no object is deep
 
-pub none_deep : {A : Type 0} (data_of : A → Data) (levels : ℕ) → ((x : A) → depth (data_of x) ≤ levels) → (xs : List A) → items_depth (items_of (map data_of xs)) ≤ levels
-none_deep data_of levels each [] = omega arith
-none_deep data_of levels each (x ∷ xs) = max-le (each x) (none_deep data_of levels each xs)
-
-pub count_flat : (found : Option ℕ) → depth (count_or_null found) ≡ 0
-count_flat (Some n) = refl
-count_flat None = refl
-
-pub text_flat : (found : Option (List ℕ)) → depth (text_or_null found) ≡ 0
-text_flat (Some text) = refl
-text_flat None = refl
-
 pub metric_flat : (metric : MetricFacts) → depth (metric_data metric) ≡ 2
 metric_flat metric = rw (count_flat metric.limits.count) refl
 
@@ -115,24 +92,11 @@ pub finding_flat : (event : EventFacts) (finding : FindingFacts) → depth (find
 finding_flat event (judged metric verdict) = rw (text_flat (cause_if_error verdict), text_flat (fault_if_error verdict), text_flat (closed_as event.effect)) refl
 finding_flat event stopped = rw (text_flat (closed_as event.effect)) refl
 
-pub above : {a b : ℕ} → a ≤ b → suc a ≤ suc b
-above less = omega arith
-
--- an object with two lists, and with one
-pub two_deep : (a b levels : ℕ) → a ≤ levels → b ≤ levels → suc (max a (max b 0)) ≤ suc levels
-two_deep a b levels one other = let none : 0 ≤ levels = omega arith in above (max-le one (max-le other none))
-
-pub one_deep : (a levels : ℕ) → a ≤ levels → suc (max a 0) ≤ suc levels
-one_deep a levels one = let none : 0 ≤ levels = omega arith in above (max-le one none)
-
 run_flat : (run : RunFacts) → depth (run_data run) ≤ 4
 run_flat run =
     let events = above (none_deep event_data 2 (λ event. let is = finding_flat event event.finding in omega arith) run.events) in
     let metrics = above (none_deep metric_data 2 (λ metric. let is = metric_flat metric in omega arith) run.metrics) in
     two_deep _ _ 3 events metrics
-
-pub few : {a : ℕ} → a ≤ 10 → a ≤ max_depth
-few less = omega arith
 
 pub report_flat : (runs : List RunFacts) → depth (report_data runs) ≤ max_depth
 report_flat runs = few (one_deep _ 9 (above (none_deep run_data 8 (λ run. let less = run_flat run in omega arith) runs)))
@@ -150,8 +114,3 @@ pub run_is : (bundle : Bundle) (run : RunPart) (entries : List Entry) (state : S
     → metrics ≡ map metric_data (facts_of_metrics bundle.metrics run.limits state.phases state.counts) → events ≡ map event_data (facts_of_entries bundle entries) → run_with run.name state.phase metrics events ≡ run_data (run_facts bundle run (numbers_of entries))
 run_is bundle run entries state metrics events replays are metrics_are events_are =
     rw (metrics_are, events_are) (ap run_data (sym (run_facts_are bundle run entries state replays are)))
-
--- ---- what is written of an object
-
-pub line_read : (object : Data) (text line : List ℕ) → text ≡ compact_text object → read text ≡ Some object → line ≡ text ++ codes "\n" → IsJsonLine object line
-line_read object text line is reads ends = record { is = ends ∙ ap (λ text. text ++ codes "\n") is; reads_back = subst (λ text. read text ≡ Some object) is reads }

@@ -3,4 +3,3 @@ pub mod Names
 pub mod Facts
 pub mod Report
 pub mod ReportData
-pub mod Making

@@ -2,8 +2,7 @@
 use Rattle.std.specs.Prelude.{codes, ◌++◌, ◌≡◌, refl, Option, Some, None}
 use Rattle.ar_value.specs.Terms.{Text}
 use Rattle.ar_value.specs.Fault.{fault_name}
-use Rattle.ar_json.specs.declared.value_reading.ShapeFault.{ShapeFault}
-use Rattle.ar_json.specs.declared.value_reading.ShapeFault.TheVariants.{WrongKind, FloatNumber, NotFinite, BadDecimal, OutOfRange, ListTooLong, MissingField, OutOfMemory}
+use Rattle.ar_json.specs.Refusals.{shape_fault_name}
 use Rattle.ar_limits.specs.declared.event.Effect.{Effect}
 use Rattle.ar_limits.specs.declared.event.Effect.TheVariants as effects
 use Rattle.ar_limits.specs.declared.phase.Phase.{Phase}
@@ -22,20 +21,9 @@ phase_name phases.Failed = codes "Failed"
 phase_name phases.Error = codes "Error"
 phase_name phases.Inconclusive = codes "Inconclusive"
 
--- a bundle has no misfit that is out of memory, so that no report prints the last name
-abbrev pub misfit_name : ShapeFault → Text
-misfit_name WrongKind = codes "WrongKind"
-misfit_name FloatNumber = codes "FloatNumber"
-misfit_name NotFinite = codes "NotFinite"
-misfit_name BadDecimal = codes "BadDecimal"
-misfit_name OutOfRange = codes "OutOfRange"
-misfit_name ListTooLong = codes "ListTooLong"
-misfit_name MissingField = codes "MissingField"
-misfit_name OutOfMemory = codes "OutOfMemory"
-
 abbrev pub cause_text : Cause → Text
 cause_text causes.Provider = codes "provider"
-cause_text (causes.Shape fault) = codes "shape " ++ misfit_name fault
+cause_text (causes.Shape fault) = codes "shape " ++ shape_fault_name fault
 cause_text (causes.Success fault) = codes "success " ++ fault_name fault
 cause_text (causes.Failure fault) = codes "failure " ++ fault_name fault
 
@@ -67,7 +55,7 @@ cause_name (causes.Failure fault) = codes "failure"
 -- the name of a misfit or a fault
 abbrev pub fault_of_cause : Cause → Option Text
 fault_of_cause causes.Provider = None
-fault_of_cause (causes.Shape fault) = Some (misfit_name fault)
+fault_of_cause (causes.Shape fault) = Some (shape_fault_name fault)
 fault_of_cause (causes.Success fault) = Some (fault_name fault)
 fault_of_cause (causes.Failure fault) = Some (fault_name fault)
 

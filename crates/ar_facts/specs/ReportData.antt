@@ -1,10 +1,7 @@
 -- Reports as JSON (RFC 8259): one object, in one line. Its members are in the byte order of their names.
-use Rattle.std.specs.Prelude.{◌≡◌, ℕ, true, false, List, ◌++◌, codes, length, map, Option, Some, Result, Ok, Err, Bool}
-use Rattle.std.specs.Option.{option_map_or}
-use Rattle.serde_json.specs.Data.{Data, array, boolean, member, no_members, null, number, object, string, unsigned}
-use Rattle.serde_json.specs.Read.{read}
-use Rattle.serde_json.specs.View.{items_of}
-use Rattle.serde_json.specs.Written.{compact_text}
+use Rattle.std.specs.Prelude.{ℕ, true, false, List, codes, length, map, Option, Result, Ok, Err, Bool}
+use Rattle.serde_json.specs.Data.{Data, boolean, member, no_members, null, object, string}
+use Rattle.ar_object.specs.Object.{array_of, count_data, count_or_null, text_or_null, version}
 use Rattle.ar_value.specs.Fault.{fault_name}
 use Rattle.ar_value.specs.Terms.{Text}
 use Rattle.ar_value.specs.declared.fault.Fault.{Fault}
@@ -17,23 +14,6 @@ use Rattle.ar_facts.specs.Facts.{ConditionFacts, EventFacts, FindingFacts, Metri
 use Rattle.ar_facts.specs.Names.{cause_if_error, closed_as, effect_name, fault_if_error, phase_name, verdict_name}
 
 -- ---- parts
-
-abbrev pub count_data : ℕ → Data
-count_data n = number (unsigned n)
-
--- null where there is none
-abbrev pub count_or_null : Option ℕ → Data
-count_or_null found = option_map_or count_data found null
-
-abbrev pub text_or_null : Option Text → Data
-text_or_null found = option_map_or string found null
-
-abbrev pub array_of : List Data → Data
-array_of found = array (items_of found)
-
--- of the forms of all objects here (docs/use/json.md)
-abbrev pub version : Data
-version = count_data 1
 
 -- a list with a name, and the version
 abbrev pub named_list : (name : Text) → List Data → Data
@@ -133,11 +113,3 @@ answer_data (Err fault) = object
     (member (codes "answer") null
     (member (codes "fault") (string (fault_name fault))
     (member (codes "version") version no_members)))
-
--- ---- the line of an object
-
-pub record IsJsonLine (object : Data) (text : Text) : Type 0 where
-  -- its text without blanks, and a line feed
-  pub is : text ≡ compact_text object ++ codes "\n"
-  -- the text reads back as the object
-  pub reads_back : read (compact_text object) ≡ Some object

@@ -1,15 +1,11 @@
 //! The objects of runs, metrics and events.
 
-ghost use Rattle.std.specs.Prelude.{◌≡◌, ◌≤◌, IfOk, Some, codes, false, map, string_bytes};
-ghost use Rattle.serde_json.specs.Data.{depth};
-ghost use Rattle.serde_json.specs.Read.{max_depth};
+ghost use Rattle.std.specs.Prelude.{◌≡◌, IfOk, Some, codes, map};
 ghost use Rattle.serde_json.specs.View.{view};
-ghost use Rattle.serde_json.specs.Written.{has_float};
 ghost use Rattle.ar_bundle.specs.Bundle.{finding_at};
 ghost use Rattle.ar_facts.specs.Facts.{event_facts, finding_facts, judged, metric_facts, stopped};
-ghost use Rattle.ar_facts.specs.ReportData.{IsJsonLine, counts_data, event_data, finding_data, limits_data, metric_data, named_list, run_with};
+ghost use Rattle.ar_facts.specs.ReportData.{counts_data, event_data, finding_data, limits_data, metric_data, named_list, run_with};
 
-use crate::making::Object;
 use crate::names::{
     cause_if_error, closed_as, effect_name, fault_if_error, phase_name, verdict_name,
 };
@@ -17,27 +13,9 @@ use crate::text::name_at;
 use ar_bundle::{Bundle, Entry, Finding, MetricPart, What};
 use ar_judge::Verdict;
 use ar_limits::{Counts, Effect, Limits, Phase};
+use ar_object::{Object, VERSION};
 use serde_json::Value as Json;
 use std::alloc::{AllocError, Global};
-
-/// The version of the form of these documents.
-pub const VERSION: u64 = 1;
-
-/// The text of an object, and a line feed.
-///
-/// # Errors
-///
-/// Out of memory alone.
-#[tactic(auto, using(crate::proofs::Objects::line_read))]
-pub fn json_line(alloc: Global, object: &Json) -> Result<String, AllocError>
-    requires exact { has_float (view object.now) ≡ false }
-    requires flat { depth (view object.now) ≤ max_depth }
-    ensures { IfOk result (λ text. IsJsonLine (view object.now) (string_bytes text)) }
-{
-    let mut text = object.to_string(alloc)?;
-    text.push_str("\n")?;
-    Ok(text)
-}
 
 // ---- metrics
 

@@ -7,19 +7,14 @@
 //! an event's, and their objects. `ar_report` prints whole runs by them, and `ar_reason` what led to each event.
 //!
 //! - `data`: the objects of runs, metrics and events
-//! - `making`: an object that is being made, member by member
 //! - `names`: phases, verdicts and effects as they are printed
 //! - `text`: the lines of runs, metrics and events
 #![tactic(auto)]
 
 mod data;
-mod making;
 mod names;
 mod text;
 
-pub use data::{
-    VERSION, counts_json, event_json, json_line, limits_json, metric_json, run_object, runs_object,
-};
-pub use making::Object;
+pub use data::{counts_json, event_json, limits_json, metric_json, run_object, runs_object};
 pub use names::{phase_name, put_verdict};
 pub use text::{put_counted, put_event, put_metric, put_run_line};

@@ -1,9 +1,8 @@
 //! Phases, verdicts and effects as they are printed.
 
 ghost use Rattle.std.specs.Prelude.{◌≡◌, ◌++◌, OnOk, option_map, string_bytes};
-ghost use Rattle.ar_facts.specs.Names.{cause_if_error, cause_name, cause_text, closed_as, effect_name, effect_text, fault_if_error, fault_of_cause, misfit_name, phase_name, verdict_name, verdict_text};
+ghost use Rattle.ar_facts.specs.Names.{cause_if_error, cause_name, cause_text, closed_as, effect_name, effect_text, fault_if_error, fault_of_cause, phase_name, verdict_name, verdict_text};
 
-use ar_json::value_reading::ShapeFault;
 use ar_judge::{Cause, Verdict};
 use ar_limits::{Effect, Phase};
 use std::alloc::AllocError;
@@ -20,21 +19,6 @@ pub fn phase_name(phase: Phase) -> &'static str
         Phase::Failed => "Failed",
         Phase::Error => "Error",
         Phase::Inconclusive => "Inconclusive",
-    }
-}
-
-fn misfit_name(fault: ShapeFault) -> &'static str
-    ensures { result.now ≡ misfit_name fault }
-{
-    match fault {
-        ShapeFault::WrongKind => "WrongKind",
-        ShapeFault::FloatNumber => "FloatNumber",
-        ShapeFault::NotFinite => "NotFinite",
-        ShapeFault::BadDecimal => "BadDecimal",
-        ShapeFault::OutOfRange => "OutOfRange",
-        ShapeFault::ListTooLong => "ListTooLong",
-        ShapeFault::MissingField => "MissingField",
-        ShapeFault::OutOfMemory => "OutOfMemory",
     }
 }
 
@@ -58,7 +42,7 @@ fn put_cause(out: &mut String, cause: Cause) -> Result<(), AllocError>
 {
     match cause {
         Cause::Provider => out.push_str("provider"),
-        Cause::Shape(fault) => write!(out, "shape {}", misfit_name(fault)),
+        Cause::Shape(fault) => write!(out, "shape {}", fault.name()),
         Cause::Success(fault) => write!(out, "success {}", fault.name()),
         Cause::Failure(fault) => write!(out, "failure {}", fault.name()),
     }
@@ -104,7 +88,7 @@ fn fault_of_cause(cause: Cause) -> Option<&'static str>
 {
     match cause {
         Cause::Provider => None,
-        Cause::Shape(fault) => Some(misfit_name(fault)),
+        Cause::Shape(fault) => Some(fault.name()),
         Cause::Success(fault) | Cause::Failure(fault) => Some(fault.name()),
     }
 }

@@ -5,3 +5,4 @@ pub mod Reading
 pub mod Document
 pub mod Private
 pub use Rattle.serde_json.specs.Data
+pub mod Refusals

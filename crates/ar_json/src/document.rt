@@ -24,20 +24,9 @@ pub enum JsonError {
     OutOfMemory,
 }
 
-impl JsonError {
-    /// What was expected.
-    fn words(self) -> &'static str {
-        match self {
-            JsonError::TooLarge => "document: TooLarge: expected at most 16777216 bytes",
-            JsonError::Utf8OrJson => "document: Utf8OrJson: expected one JSON value in UTF-8",
-            JsonError::OutOfMemory => "out of memory",
-        }
-    }
-}
-
 impl fmt::Display for JsonError {
     fn fmt<W: fmt::Write>(&self, f: &mut fmt::Formatter<W>) -> fmt::Result {
-        f.write_str(self.words())
+        fmt::Debug::fmt(self, f)
     }
 }
 

@@ -6,6 +6,7 @@ ghost use Rattle.serde_json.specs.Find.{as_number, as_u64};
 ghost use Rattle.serde_json.specs.View.{members_view, view};
 ghost use Rattle.ar_value.specs.Answer.{Gives};
 ghost use Rattle.ar_json.specs.Declaration.{declares_optional, fields_declared, is_shape_memory, is_memory_for, list_declared, max_of, object_declared, optional_declared, record_declared, scalar_named, shape_of, shape_within};
+ghost use Rattle.ar_json.specs.Refusals.{shape_error_name};
 ghost use Rattle.ar_json.specs.Names.{FieldShapeNamesRise, ShapeNamesRise, member_names, shape_names};
 ghost use Rattle.ar_value.specs.Names.{Rise};
 ghost use Rattle.ar_value.specs.Shape.{field_shapes_of};
@@ -38,27 +39,24 @@ pub enum ShapeError {
 }
 
 impl ShapeError {
-    /// What was expected.
-    fn words(self) -> &'static str {
+    /// The variant's name.
+    pub fn name(self) -> &'static str
+        ensures { result.now ≡ shape_error_name self }
+    {
         match self {
-            ShapeError::TooDeep => "TooDeep: a shape has at most 16 levels",
-            ShapeError::UnknownShape =>
-                "UnknownShape: expected \"bool\", \"whole\", \"decimal\", \"text\", {\"list\":shape,\"max\":number}, \
-                 {\"record\":{name:shape,..}} or {\"optional\":shape}",
-            ShapeError::MaxMissing =>
-                "MaxMissing: expected a list's greatest length as \"max\", a whole number of 0 or more",
-            ShapeError::MaxTooLarge =>
-                "MaxTooLarge: the greatest length of a list is at most 10000",
-            ShapeError::NestedOptional =>
-                "NestedOptional: an optional shape holds one that isn't optional",
-            ShapeError::OutOfMemory => "out of memory",
+            ShapeError::TooDeep => "TooDeep",
+            ShapeError::UnknownShape => "UnknownShape",
+            ShapeError::MaxMissing => "MaxMissing",
+            ShapeError::MaxTooLarge => "MaxTooLarge",
+            ShapeError::NestedOptional => "NestedOptional",
+            ShapeError::OutOfMemory => "OutOfMemory",
         }
     }
 }
 
 impl fmt::Display for ShapeError {
     fn fmt<W: fmt::Write>(&self, f: &mut fmt::Formatter<W>) -> fmt::Result {
-        f.write_str(self.words())
+        f.write_str(self.name())
     }
 }
 

@@ -8,6 +8,7 @@ ghost use Rattle.serde_json.specs.Find.{as_integer};
 ghost use Rattle.ar_value.specs.Answer.{Gives};
 ghost use Rattle.ar_value.specs.DecimalText.{decimal_of};
 ghost use Rattle.ar_value.specs.Fits.{fits};
+ghost use Rattle.ar_json.specs.Refusals.{shape_fault_name};
 ghost use Rattle.ar_json.specs.Names.{ShapeNamesRise, ValueNamesRise};
 ghost use Rattle.ar_json.specs.Reading.{decimal_of_text, whole_as_millionths, fields_read, is_reading_memory, is_memory_under, items_read, list_read, read, read_whole};
 ghost use Rattle.ar_value.specs.Shape.{field_shapes_of, object, optional};
@@ -42,29 +43,26 @@ pub enum ShapeFault {
 }
 
 impl ShapeFault {
-    /// What was expected.
-    fn words(self) -> &'static str {
+    /// The variant's name.
+    pub fn name(self) -> &'static str
+        ensures { result.now ≡ shape_fault_name self }
+    {
         match self {
-            ShapeFault::WrongKind => "WrongKind: expected a value of the declared shape",
-            ShapeFault::FloatNumber =>
-                "FloatNumber: expected a whole JSON number, or a decimal as a text, as \"0.95\"",
-            ShapeFault::NotFinite => "NotFinite: expected a finite number",
-            ShapeFault::BadDecimal =>
-                "BadDecimal: expected digits with at most one point and an exponent or none, as \"0.95\" or \"9.5e-1\"",
-            ShapeFault::OutOfRange =>
-                "OutOfRange: expected a whole of 64 bits, or a decimal whose millionths fit them",
-            ShapeFault::ListTooLong =>
-                "ListTooLong: expected a list of at most its shape's \"max\" items",
-            ShapeFault::MissingField =>
-                "MissingField: expected each field of the record's shape that isn't optional",
-            ShapeFault::OutOfMemory => "out of memory",
+            ShapeFault::WrongKind => "WrongKind",
+            ShapeFault::FloatNumber => "FloatNumber",
+            ShapeFault::NotFinite => "NotFinite",
+            ShapeFault::BadDecimal => "BadDecimal",
+            ShapeFault::OutOfRange => "OutOfRange",
+            ShapeFault::ListTooLong => "ListTooLong",
+            ShapeFault::MissingField => "MissingField",
+            ShapeFault::OutOfMemory => "OutOfMemory",
         }
     }
 }
 
 impl fmt::Display for ShapeFault {
     fn fmt<W: fmt::Write>(&self, f: &mut fmt::Formatter<W>) -> fmt::Result {
-        f.write_str(self.words())
+        f.write_str(self.name())
     }
 }
 

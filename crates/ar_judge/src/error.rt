@@ -7,34 +7,33 @@ use ar_syntax::SyntaxError;
 use std::alloc::AllocError;
 use thiserror::Error;
 
-/// Why a text is no condition that can be run, in the order of the checks. It is reported
-/// after the name of the condition.
+/// Why a text is no condition that can be run, in the order of the checks.
 #[derive(Clone, Copy, Debug, Error)]
 pub enum BuildCause {
     /// It isn't of the language.
-    #[error(", {0}")]
+    #[error("{0}")]
     Grammar(SyntaxError),
     /// It has no kinds where `result` is of the declared shape.
-    #[error(", {0}")]
+    #[error("{0}")]
     Kinds(TypeError),
     /// Its code would have too many operations.
-    #[error(": {0}")]
+    #[error("{0}")]
     Compiler(CompileError),
     /// The verifier refuses its code at an operation, counted from 0.
-    #[error(": {1}")]
+    #[error("{1} at {0}")]
     Verifier(usize, Reason),
-    #[error(": out of memory")]
+    #[error("OutOfMemory")]
     OutOfMemory,
 }
 
 /// Why a metric has no judge: the first of its texts that is no condition that can be run.
 #[derive(Clone, Copy, Debug, Error)]
 pub enum BuildError {
-    #[error("successCondition{0}")]
+    #[error("successCondition: {0}")]
     Success(BuildCause),
-    #[error("failureCondition{0}")]
+    #[error("failureCondition: {0}")]
     Failure(BuildCause),
-    #[error("out of memory")]
+    #[error("OutOfMemory")]
     OutOfMemory,
 }
 

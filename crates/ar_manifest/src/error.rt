@@ -1,6 +1,7 @@
 //! Why a template can't be read, or its arguments can't be bound.
 
 ghost use Rattle.std.specs.Prelude.{◌≡◌};
+ghost use Rattle.ar_manifest.specs.Refusals.{manifest_error_name};
 ghost use Rattle.ar_manifest.specs.declared.error.ManifestError.TheVariants.{OutOfMemory};
 
 use std::alloc::{AllocError, AllocFailed};
@@ -77,7 +78,9 @@ impl ManifestError {
     }
 
     /// The variant's name.
-    fn name(self) -> &'static str {
+    pub fn name(self) -> &'static str
+        ensures { result.now ≡ manifest_error_name self }
+    {
         match self {
             ManifestError::WrongVersion => "WrongVersion",
             ManifestError::WrongKind => "WrongKind",
@@ -99,52 +102,6 @@ impl ManifestError {
             ManifestError::OutOfMemory => "OutOfMemory",
         }
     }
-
-    /// The words before the number.
-    fn before(self) -> &'static str {
-        match self {
-            ManifestError::BadArgs(_) => "spec.args: BadArgs: expected a list, and of argument ",
-            ManifestError::BadDryRun(_) => "spec.dryRun: BadDryRun: expected a list, and of item ",
-            ManifestError::UnknownDryRun(_) => "spec.dryRun[",
-            _ => "metric ",
-        }
-    }
-
-    /// The words after the number, or all where there is none.
-    fn words(self) -> &'static str {
-        match self {
-            ManifestError::WrongVersion =>
-                "WrongVersion: expected `apiVersion` \"argoproj.io/v1alpha1\"",
-            ManifestError::WrongKind =>
-                "WrongKind: expected `kind` \"AnalysisTemplate\" or \"ClusterAnalysisTemplate\"",
-            ManifestError::NameMissing =>
-                "NameMissing: expected a text `metadata.name` that isn't empty",
-            ManifestError::BadArgs(_) => " a text `name` of its own and no `value` but a text",
-            ManifestError::NoMetrics =>
-                "NoMetrics: expected a list `spec.metrics` of at least one metric",
-            ManifestError::TooManyMetrics => "TooManyMetrics: expected at most 64 metrics",
-            ManifestError::MetricNameMissing(_) => ": MetricNameMissing: expected a text `name`",
-            ManifestError::DoubleMetric(_) =>
-                ": DoubleMetric: expected a name that no earlier metric has",
-            ManifestError::BadField(_) =>
-                ": BadField: expected texts for conditions and `interval`, numbers or texts for limits",
-            ManifestError::Unsupported(_) => ": Unsupported: expected no `consecutiveSuccessLimit`",
-            ManifestError::BadDryRun(_) => " a text `metricName` that isn't empty",
-            ManifestError::UnknownDryRun(_) =>
-                "].metricName: UnknownDryRun: expected a metric's whole name, or `.*` alone; \
-                 no metric has the name",
-            ManifestError::OpenBraces(_) => ": OpenBraces: expected }} after {{",
-            ManifestError::UnknownArg(_) =>
-                ": UnknownArg: expected {{args.NAME}} with a name of `spec.args`",
-            ManifestError::NoValue(_) =>
-                ": NoValue: expected a value for the argument, from the run or the template",
-            ManifestError::BadLimit(_) =>
-                ": BadLimit: expected a limit of 0 to 1000000000 in one to ten digits",
-            ManifestError::IntervalMissing(_) =>
-                ": IntervalMissing: expected an `interval` with a `count` above 1",
-            ManifestError::OutOfMemory => "out of memory",
-        }
-    }
 }
 
 impl fmt::Debug for ManifestError {
@@ -159,10 +116,7 @@ impl fmt::Debug for ManifestError {
 
 impl fmt::Display for ManifestError {
     fn fmt<W: fmt::Write>(&self, f: &mut fmt::Formatter<W>) -> fmt::Result {
-        match self.number() {
-            Some(number) => write!(f, "{}{number}{}", self.before(), self.words()),
-            None => f.write_str(self.words()),
-        }
+        fmt::Debug::fmt(self, f)
     }
 }
 

@@ -7,6 +7,7 @@ use Rattle.ar_value.specs.Terms.{Text}
 use Rattle.ar_value.specs.Shape.{Shape}
 use Rattle.ar_value.specs.Shape as shapes
 use Rattle.ar_json.specs.Reading.{item_count}
+use Rattle.ar_json.specs.Refusals.{shape_fault_name}
 use Rattle.ar_json.specs.declared.value_reading.ShapeFault.{ShapeFault}
 use Rattle.ar_json.specs.declared.value_reading.ShapeFault.TheVariants.{WrongKind, FloatNumber, NotFinite, BadDecimal, OutOfRange, ListTooLong, MissingField, OutOfMemory}
 use Rattle.ar_quote.specs.Shown.{quoted}
@@ -27,16 +28,6 @@ path_text whole [] = if whole then codes "the value" else []
 path_text whole (step ∷ steps) = step_text step ++ path_text false steps
 
 -- ---- what was expected and found
-
-abbrev pub shape_fault_name : ShapeFault → Text
-shape_fault_name WrongKind = codes "WrongKind"
-shape_fault_name FloatNumber = codes "FloatNumber"
-shape_fault_name NotFinite = codes "NotFinite"
-shape_fault_name BadDecimal = codes "BadDecimal"
-shape_fault_name OutOfRange = codes "OutOfRange"
-shape_fault_name ListTooLong = codes "ListTooLong"
-shape_fault_name MissingField = codes "MissingField"
-shape_fault_name OutOfMemory = codes "OutOfMemory"
 
 abbrev pub expected_text : Shape → Text
 expected_text shapes.bool = codes "true or false"

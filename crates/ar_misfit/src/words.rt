@@ -4,7 +4,7 @@ ghost use Rattle.std.specs.Prelude.{◌≡◌, ◌++◌, IfOk, OnOk, Some, optio
 ghost use Rattle.serde_json.specs.View.{number_view, view};
 ghost use Rattle.ar_value.specs.View.{shape_view};
 ghost use Rattle.ar_misfit.specs.Misfit.{index, misfit_here, named};
-ghost use Rattle.ar_misfit.specs.MisfitText.{advice, expected_text, fault_text, float_advice, found_text, number_shown, path_text, shape_fault_name, step_text, text_from};
+ghost use Rattle.ar_misfit.specs.MisfitText.{advice, expected_text, fault_text, float_advice, found_text, number_shown, path_text, step_text, text_from};
 
 use ar_json::ShapeFault;
 use ar_quote::push_quoted;
@@ -13,22 +13,6 @@ use ar_value::shape::Shape;
 use serde_json::{Number, Value as Json};
 use std::alloc::{AllocError, Global};
 use std::fmt::Write;
-
-/// The name of a fault.
-fn shape_fault_name(fault: ShapeFault) -> &'static str
-    ensures { result.now ≡ shape_fault_name fault }
-{
-    match fault {
-        ShapeFault::WrongKind => "WrongKind",
-        ShapeFault::FloatNumber => "FloatNumber",
-        ShapeFault::NotFinite => "NotFinite",
-        ShapeFault::BadDecimal => "BadDecimal",
-        ShapeFault::OutOfRange => "OutOfRange",
-        ShapeFault::ListTooLong => "ListTooLong",
-        ShapeFault::MissingField => "MissingField",
-        ShapeFault::OutOfMemory => "OutOfMemory",
-    }
-}
 
 fn push_expected(out: &mut String, shape: &Shape) -> Result<(), AllocError>
     ensures { OnOk result (string_bytes out.new ≡ string_bytes out.old ++ expected_text (shape_view shape.now)) }
@@ -117,7 +101,7 @@ fn push_fault(
         ++ fault_text (shape_view expected.now) (option_map (λ json. view json.now) found.entry) fault) }
 {
     out.push_str(": ")?;
-    out.push_str(shape_fault_name(fault))?;
+    out.push_str(fault.name())?;
     out.push_str(": expected ")?;
     push_expected(out, expected)?;
     out.push_str(", found ")?;

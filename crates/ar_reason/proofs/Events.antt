@@ -17,7 +17,8 @@ use Rattle.ar_reason.specs.ReasonData.{change_data, evaluated_data, given_misfit
 use Rattle.ar_reason.specs.ReasonData as objects
 use Rattle.ar_reason.specs.ReasonText.{change_line, condition_text, given_line, reason_text, why_line}
 use Rattle.ar_reason.specs.Why.{why_of, why_words}
-use Rattle.ar_facts.specs.ReportData.{event_data, text_or_null}
+use Rattle.ar_facts.specs.ReportData.{event_data}
+use Rattle.ar_object.specs.Object.{text_or_null}
 use Rattle.serde_json.specs.Data.{null}
 use Rattle.std.specs.Option.{option_map_or}
 use Rattle.std.specs.Prelude.{option_map}

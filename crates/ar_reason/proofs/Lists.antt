@@ -5,7 +5,7 @@ use Rattle.serde_json.specs.Data.{Data}
 use Rattle.serde_json.specs.View.{view}
 use Rattle.serde_json.specs.declared.value.Value.{Value as Json}
 use Rattle.ar_facts.proofs.Lines.{no_item, no_more, none_left, one_more, one_seen, read_at}
-use Rattle.ar_facts.specs.ReportData.{count_data}
+use Rattle.ar_object.specs.Object.{count_data}
 use Rattle.ar_explain.specs.Views.{line_view}
 use Rattle.ar_explain.specs.declared.explanation.Line.{Line}
 use Rattle.ar_reason.specs.ReasonData.{part_data}

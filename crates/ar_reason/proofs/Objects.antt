@@ -7,9 +7,11 @@ use Rattle.serde_json.specs.Data.{depth, null}
 use Rattle.serde_json.specs.Read.{max_depth}
 use Rattle.serde_json.specs.Written.{has_float}
 use Rattle.ar_explain.specs.Lines.{Line}
-use Rattle.ar_facts.proofs.Objects.{above, count_exact, count_flat, finding_exact, finding_flat, metric_exact, metric_flat, none_deep, none_float, one_deep, text_exact, text_flat, two_deep}
+use Rattle.ar_facts.proofs.Objects.{finding_exact, finding_flat, metric_exact, metric_flat}
+use Rattle.ar_object.proofs.Values.{above, count_exact, count_flat, none_deep, none_float, one_deep, text_exact, text_flat, two_deep}
 use Rattle.ar_facts.specs.Facts.{MetricFacts}
-use Rattle.ar_facts.specs.ReportData.{count_data, event_data, text_or_null}
+use Rattle.ar_facts.specs.ReportData.{event_data}
+use Rattle.ar_object.specs.Object.{count_data, text_or_null}
 use Rattle.ar_reason.specs.Reason.{EvaluatedCondition, Reason, RunReasons}
 use Rattle.ar_reason.specs.ReasonData.{change_data, evaluated_data, failure_if_there, given_misfit, given_value, operands_if_there, part_data, reason_data, reasons_data, run_reasons_data, value_if_there, waiting_data}
 use Rattle.ar_reason.specs.Waiting.{waits_for}

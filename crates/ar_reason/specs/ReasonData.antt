@@ -5,7 +5,8 @@ use Rattle.serde_json.specs.Data.{Data, boolean, member, no_members, null, objec
 use Rattle.ar_value.specs.Terms.{Text}
 use Rattle.ar_explain.specs.Lines.{Explanation, Line, Outcome, failed, unneeded, valued}
 use Rattle.ar_facts.specs.Facts.{MetricFacts}
-use Rattle.ar_facts.specs.ReportData.{array_of, count_data, counts_data, event_data, limits_data, metric_data, named_list, run_with, text_or_null}
+use Rattle.ar_facts.specs.ReportData.{counts_data, event_data, limits_data, metric_data, named_list, run_with}
+use Rattle.ar_object.specs.Object.{array_of, count_data, text_or_null}
 use Rattle.ar_show.specs.PartText.{shown_part}
 use Rattle.ar_reason.specs.Reason.{EvaluatedCondition, Given, Reason, RunReasons, gave_misfit, gave_value}
 use Rattle.ar_reason.specs.ReasonText.{failure_name}

@@ -14,7 +14,8 @@ ghost use Rattle.ar_judge.specs.Verdict.{sample_view};
 ghost use Rattle.ar_explain.specs.Views.{explanation_view, line_view, said_view};
 ghost use Rattle.ar_facts.specs.Facts.{facts_of_metrics, metric_facts};
 ghost use Rattle.ar_facts.specs.Private.Entries.{AreFound};
-ghost use Rattle.ar_facts.specs.ReportData.{IsJsonLine, count_data, text_or_null};
+ghost use Rattle.ar_object.specs.Line.{IsJsonLine};
+ghost use Rattle.ar_object.specs.Object.{count_data, text_or_null};
 ghost use Rattle.ar_tree.specs.Views.{typed_view};
 ghost use Rattle.ar_show.specs.PartText.{shown_part};
 ghost use Rattle.ar_reason.specs.Reason.{conditions_by, conditions_of, conditions_on, evaluated_if_there, evaluated_with, has_failed, reason_of, reasons_of, run_reasons};
@@ -34,11 +35,10 @@ use crate::waiting::push_waiting;
 use crate::why::{push_why, why_of};
 use ar_bundle::{Bundle, Entry, Histories, MetricPart, RunPart, What};
 use ar_explain::{Evaluation, Line, Said, tell};
-use ar_facts::{
-    Object, counts_json, event_json, json_line, limits_json, metric_json, run_object, runs_object,
-};
+use ar_facts::{counts_json, event_json, limits_json, metric_json, run_object, runs_object};
 use ar_judge::{Judge, Sample, SharedCondition, Which};
 use ar_limits::{Counts, Limits, Phase, RunState};
+use ar_object::{Object, json_line};
 use ar_show::push_part;
 use ar_tree::Typed;
 use ar_value::value::Value;

@@ -18,8 +18,10 @@ use Rattle.ar_limits.specs.declared.event.Effect.TheVariants as effects
 use Rattle.ar_limits.specs.declared.phase.Phase.{Phase}
 use Rattle.ar_limits.specs.declared.phase.Phase.TheVariants as phases
 use Rattle.ar_facts.specs.Facts.{EventFacts, FindingFacts, MetricFacts, RunFacts, judged, stopped}
-use Rattle.ar_facts.specs.Names.{cause_if_error, cause_name, closed_as, effect_name, fault_if_error, fault_of_cause, misfit_name, phase_name, verdict_name}
-use Rattle.ar_facts.specs.ReportData.{count_or_null, counts_data, event_data, finding_data, limits_data, metric_data, report_data, run_data, text_or_null}
+use Rattle.ar_json.specs.Refusals.{shape_fault_name}
+use Rattle.ar_facts.specs.Names.{cause_if_error, cause_name, closed_as, effect_name, fault_if_error, fault_of_cause, phase_name, verdict_name}
+use Rattle.ar_facts.specs.ReportData.{counts_data, event_data, finding_data, limits_data, metric_data, report_data, run_data}
+use Rattle.ar_object.specs.Object.{count_or_null, text_or_null}
 
 -- ---- what names are of
 
@@ -67,7 +69,7 @@ find_misfit name =
     else (if bytes_eq name (codes "OutOfMemory") then Some misfits.OutOfMemory
     else None)))))))
 
-misfit_found : (misfit : ShapeFault) → find_misfit (misfit_name misfit) ≡ Some misfit
+misfit_found : (misfit : ShapeFault) → find_misfit (shape_fault_name misfit) ≡ Some misfit
 misfit_found misfits.WrongKind = refl
 misfit_found misfits.FloatNumber = refl
 misfit_found misfits.NotFinite = refl

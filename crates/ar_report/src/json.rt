@@ -10,13 +10,15 @@ ghost use Rattle.ar_bundle.specs.Sound.{IsRun};
 ghost use Rattle.ar_facts.specs.Facts.{check_facts, facts_of_metrics, report_facts, run_facts};
 ghost use Rattle.ar_facts.specs.Private.Entries.{AreFound, facts_of_entries};
 ghost use Rattle.ar_report.specs.Private.Shown.{condition_seen, conditions_seen};
-ghost use Rattle.ar_facts.specs.ReportData.{IsJsonLine, answer_data, check_data, condition_data, event_data, metric_data, named_list, report_data, run_data};
+ghost use Rattle.ar_facts.specs.ReportData.{answer_data, check_data, condition_data, event_data, metric_data, named_list, report_data, run_data};
+ghost use Rattle.ar_object.specs.Line.{IsJsonLine};
 
 use crate::conditions::{NamedCondition, conditions};
 use crate::reports::replayed;
 use ar_bundle::{Bundle, Entry, Histories, MetricPart, RunPart};
-use ar_facts::{Object, VERSION, event_json, json_line, metric_json, run_object, runs_object};
+use ar_facts::{event_json, metric_json, run_object, runs_object};
 use ar_limits::{Limits, RunState};
+use ar_object::{Object, VERSION, json_line};
 use ar_value::Fault;
 use serde_json::Value as Json;
 use std::alloc::{AllocError, Global};

@@ -7,3 +7,4 @@ pub mod Memory
 pub mod Verdict
 pub mod Safety
 pub mod Examples
+pub mod Reasons

@@ -1,5 +1,8 @@
 //! Why code isn't accepted.
 
+ghost use Rattle.std.specs.Prelude.{◌≡◌};
+ghost use Rattle.ar_safety.specs.Reasons.{reason_name};
+
 use ar_op::code::Code;
 use std::alloc::AllocError;
 use std::fmt;
@@ -30,36 +33,31 @@ pub enum Reason {
 }
 
 impl Reason {
-    /// What was expected.
-    fn words(self) -> &'static str {
+    /// The variant's name.
+    pub fn name(self) -> &'static str
+        ensures { result.now ≡ reason_name self }
+    {
         match self {
-            Reason::Empty => "Empty: expected an operation",
-            Reason::JumpOutside => "JumpOutside: expected an index inside the code",
-            Reason::Backward => "Backward: expected a later index",
-            Reason::UnpairedLoop =>
-                "UnpairedLoop: expected a loop's Enter and Step to have each other's index",
-            Reason::LoopsTooDeep => "LoopsTooDeep: expected at most 4 loops around an operation",
-            Reason::CrossesLoop =>
-                "CrossesLoop: expected jumps, loops and Returns to stay inside their loop",
-            Reason::NoReturn => "NoReturn: expected Return as the last operation",
-            Reason::Unreachable => "Unreachable: expected an operation that a run can reach",
-            Reason::BadMerge =>
-                "BadMerge: expected operands of the same number and of kinds with one in common, \
-                 from wherever a run comes",
-            Reason::MissingOperand =>
-                "MissingOperand: expected its operands above what the innermost loop began with",
-            Reason::IllKinded =>
-                "IllKinded: expected operands of the kinds that the operation takes",
-            Reason::StackTooDeep => "StackTooDeep: expected at most 64 operands",
-            Reason::BudgetTooLarge =>
-                "BudgetTooLarge: a run may cost over 1000000000; lower a list's max or nest fewer predicates",
+            Reason::Empty => "Empty",
+            Reason::JumpOutside => "JumpOutside",
+            Reason::Backward => "Backward",
+            Reason::UnpairedLoop => "UnpairedLoop",
+            Reason::LoopsTooDeep => "LoopsTooDeep",
+            Reason::CrossesLoop => "CrossesLoop",
+            Reason::NoReturn => "NoReturn",
+            Reason::Unreachable => "Unreachable",
+            Reason::BadMerge => "BadMerge",
+            Reason::MissingOperand => "MissingOperand",
+            Reason::IllKinded => "IllKinded",
+            Reason::StackTooDeep => "StackTooDeep",
+            Reason::BudgetTooLarge => "BudgetTooLarge",
         }
     }
 }
 
 impl fmt::Display for Reason {
     fn fmt<W: fmt::Write>(&self, f: &mut fmt::Formatter<W>) -> fmt::Result {
-        f.write_str(self.words())
+        f.write_str(self.name())
     }
 }
 
@@ -69,7 +67,7 @@ pub enum Cause {
     /// The fault is at an operation of the code, counted from 0.
     #[error("operation {index}: {reason}")]
     Fault { index: usize, reason: Reason },
-    #[error("OutOfMemory: the memory for the check of the code was refused")]
+    #[error("OutOfMemory")]
     OutOfMemory,
 }
 

@@ -1,7 +1,7 @@
 //! Why a text is no condition.
 
 ghost use Rattle.std.specs.Prelude.{◌≡◌};
-ghost use Rattle.ar_syntax.specs.Refused.{syntax_refused_at};
+ghost use Rattle.ar_syntax.specs.Refused.{syntax_error_name, syntax_refused_at};
 ghost use Rattle.ar_syntax.specs.declared.error.SyntaxError.TheVariants.{OutOfMemory};
 
 use ar_value::limits::MOST_TEXT_BYTES;
@@ -68,7 +68,9 @@ impl SyntaxError {
     }
 
     /// The variant's name.
-    fn name(self) -> &'static str {
+    pub fn name(self) -> &'static str
+        ensures { result.now ≡ syntax_error_name self }
+    {
         match self {
             SyntaxError::TooLong => "TooLong",
             SyntaxError::BadCharacter(_) => "BadCharacter",
@@ -84,35 +86,6 @@ impl SyntaxError {
             SyntaxError::TooManyItems(_) => "TooManyItems",
             SyntaxError::TooDeep(_) => "TooDeep",
             SyntaxError::OutOfMemory => "OutOfMemory",
-        }
-    }
-
-    /// What was expected.
-    fn words(self) -> &'static str {
-        match self {
-            SyntaxError::TooLong => "TooLong: a condition has at most 4096 bytes",
-            SyntaxError::BadCharacter(_) =>
-                "BadCharacter: no word, number, text or sign has this byte here",
-            SyntaxError::OpenText(_) => "OpenText: a text ends with the quote that it begins with",
-            SyntaxError::OpenComment(_) =>
-                "OpenComment: a comment that begins with /* ends with */",
-            SyntaxError::BadEscape(_) => "BadEscape: expected one of \\\\ \\\" \\' \\n \\r \\t",
-            SyntaxError::LiteralTooFine(_) =>
-                "LiteralTooFine: a decimal has at most six digits after the point",
-            SyntaxError::NumberTooLarge(_) =>
-                "NumberTooLarge: expected at most 9223372036854775807, or 9223372036854.775807 with a point",
-            SyntaxError::Unexpected(_) =>
-                "Unexpected: no condition continues so, as `result >= 0.95` does; a {{args.name}} \
-                 is replaced by its value before a condition is read",
-            SyntaxError::UnknownName(_) => "UnknownName: no word of the language",
-            SyntaxError::WrongCount(_) =>
-                "WrongCount: len and isNil take one argument, default and calls with predicates two",
-            SyntaxError::ItemOutside(_) =>
-                "ItemOutside: # is for the predicate of all, any, none, one, count or filter alone",
-            SyntaxError::TooManyItems(_) => "TooManyItems: a list has at most 16 items",
-            SyntaxError::TooDeep(_) =>
-                "TooDeep: at most 64 levels may be open at once, and a tree has at most 64",
-            SyntaxError::OutOfMemory => "out of memory",
         }
     }
 }
@@ -135,10 +108,7 @@ impl fmt::Debug for SyntaxError {
 
 impl fmt::Display for SyntaxError {
     fn fmt<W: fmt::Write>(&self, f: &mut fmt::Formatter<W>) -> fmt::Result {
-        match self.offset() {
-            Some(at) => write!(f, "byte {at}: {}", self.words()),
-            None => f.write_str(self.words()),
-        }
+        fmt::Debug::fmt(self, f)
     }
 }
 

@@ -1,6 +1,6 @@
 use Rattle.std.proofs.Common.{◌≡◌, ◌++◌, drop, map}
 use Rattle.serde_json.specs.View.{view}
-use Rattle.ar_facts.specs.ReportData.{count_data}
+use Rattle.ar_object.specs.Object.{count_data}
 use Rattle.ar_reason.proofs.data.numbers_json.Given as goal
 
 -- the numbers so far come before those that are left

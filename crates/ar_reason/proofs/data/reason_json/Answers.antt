@@ -2,7 +2,7 @@ use Rattle.std.proofs.Common.{rules, ◌≡◌, ap, map, refl, subst}
 use Rattle.std.specs.Prelude.{slice_index_or}
 use Rattle.serde_json.specs.View.{view}
 use Rattle.ar_facts.proofs.Lines.{found_inside}
-use Rattle.ar_facts.specs.ReportData.{text_or_null}
+use Rattle.ar_object.specs.Object.{text_or_null}
 use Rattle.ar_reason.specs.Views.{given_view}
 use Rattle.ar_reason.proofs.Events.{reason_data_is}
 use Rattle.ar_reason.proofs.Lists.{is_made}

@@ -4,7 +4,8 @@ use Rattle.serde_json.specs.Read.{max_depth}
 use Rattle.serde_json.specs.View.{view}
 use Rattle.serde_json.specs.Written.{has_float}
 use Rattle.std.proofs.lemmas.Result.{IfOk-weaker}
-use Rattle.ar_facts.specs.ReportData.{IsJsonLine, named_list}
+use Rattle.ar_facts.specs.ReportData.{named_list}
+use Rattle.ar_object.specs.Line.{IsJsonLine}
 use Rattle.ar_reason.specs.Reason.{reasons_of}
 use Rattle.ar_reason.proofs.Objects.{reasons_exact, reasons_flat}
 use Rattle.ar_reason.proofs.data.reasons_json.Goals as goal

@@ -4,7 +4,7 @@ use Rattle.serde_json.specs.Read.{max_depth}
 use Rattle.serde_json.specs.Written.{has_float}
 use Rattle.std.proofs.lemmas.Result.{IfOk-weaker}
 use Rattle.ar_facts.specs.Facts.{check_facts}
-use Rattle.ar_facts.specs.ReportData.{IsJsonLine}
+use Rattle.ar_object.specs.Line.{IsJsonLine}
 use Rattle.ar_facts.proofs.Objects.{check_exact, check_flat}
 use Rattle.ar_report.proofs.Shown.{checked}
 use Rattle.ar_report.proofs.json.check_json.Goals as goal

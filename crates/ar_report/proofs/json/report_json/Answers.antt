@@ -5,7 +5,8 @@ use Rattle.serde_json.specs.Written.{has_float}
 use Rattle.std.proofs.lemmas.Result.{IfOk-weaker}
 use Rattle.ar_bundle.specs.Lawful.{numbers_of}
 use Rattle.ar_facts.specs.Facts.{report_facts}
-use Rattle.ar_facts.specs.ReportData.{IsJsonLine, named_list}
+use Rattle.ar_facts.specs.ReportData.{named_list}
+use Rattle.ar_object.specs.Line.{IsJsonLine}
 use Rattle.ar_facts.proofs.Objects.{report_exact, report_flat}
 use Rattle.ar_report.proofs.json.report_json.Goals as goal
 

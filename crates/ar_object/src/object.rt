@@ -3,11 +3,13 @@
 ghost use Rattle.std.specs.Prelude.{◌≡◌, IfOk, map, option_map};
 ghost use Rattle.serde_json.specs.Data.{Data, Members, boolean, no_members, null, object, put, string};
 ghost use Rattle.serde_json.specs.View.{view};
-ghost use Rattle.ar_facts.specs.Making.{Has};
-ghost use Rattle.ar_facts.specs.ReportData.{array_of, count_data, count_or_null, text_or_null};
+ghost use Rattle.ar_object.specs.Object.{Has, array_of, count_data, count_or_null, text_or_null};
 
 use serde_json::{Map, Value as Json};
 use std::alloc::{AllocError, Global};
+
+/// The version of the forms of all objects that the program writes.
+pub const VERSION: u64 = 1;
 
 /// A JSON object that is being made, one member after another. A refused growth of memory is returned at the end, as
 /// std's `DebugStruct` returns a failed write, so that members are put without a look at each.

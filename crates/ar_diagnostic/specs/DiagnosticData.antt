@@ -1,0 +1,137 @@
+-- Diagnostics as JSON (RFC 8259): one object for a refusal, and one for the warnings of a document (docs/use/json.md).
+-- Members are in the byte order of their names.
+use Rattle.std.specs.Prelude.{ℕ, true, false, List, codes, map, Option, Some, None, option_map, option_and_then}
+use Rattle.std.specs.Option.{option_map_or}
+use Rattle.serde_json.specs.Data.{Data, boolean, member, no_members, null, object, string}
+use Rattle.ar_object.specs.Object.{array_of, count_data, count_or_null, text_or_null, version}
+use Rattle.ar_value.specs.Terms.{Text}
+use Rattle.ar_diagnostic.specs.Diagnostic.{line_of, warning_of}
+use Rattle.ar_diagnostic.specs.Place.{entry_part_name, flag_name, member_name, pointer, condition_field_name}
+use Rattle.ar_diagnostic.specs.declared.diagnostic.Diagnostic.{Diagnostic}
+use Rattle.ar_diagnostic.specs.declared.diagnostic.Expected.{Expected}
+use Rattle.ar_diagnostic.specs.declared.diagnostic.Expected.TheVariants.{Thing, Rule}
+use Rattle.ar_diagnostic.specs.declared.diagnostic.Position.{Position}
+use Rattle.ar_diagnostic.specs.declared.diagnostic.Position.TheVariants.{End, At}
+use Rattle.ar_diagnostic.specs.declared.diagnostic.Spot.{Spot}
+use Rattle.ar_diagnostic.specs.declared.place.Item.{Item}
+use Rattle.ar_diagnostic.specs.declared.place.Place.{Place}
+use Rattle.ar_diagnostic.specs.declared.place.Place.TheVariants as places
+use Rattle.ar_diagnostic.specs.declared.place.SpecPart.{SpecPart}
+use Rattle.ar_diagnostic.specs.declared.place.SpecPart.TheVariants as spec
+use Rattle.ar_diagnostic.specs.declared.place.Within.{Within}
+use Rattle.ar_diagnostic.specs.declared.place.Within.TheVariants as within
+
+-- ---- the parts of a place
+
+abbrev pub metric_part : Within → Text
+metric_part within.Template = codes "manifest"
+metric_part within.Manifest = codes "manifest"
+metric_part within.Shapes = codes "shapes"
+
+-- the part of the input
+abbrev pub part_of : Place → Text
+part_of (places.CommandLine flag) = codes "command line"
+part_of places.CommandNumber = codes "command"
+part_of places.Document = codes "document"
+part_of (places.Member of) = member_name of
+part_of (places.Metric part item) = metric_part part
+part_of (places.Run item) = codes "runs"
+part_of (places.Entry number) = codes "measurements"
+part_of (places.EntryMember number part) = codes "measurements"
+part_of place = codes "manifest"
+
+abbrev pub run_of : Place → Option Item
+run_of (places.Run item) = Some item
+run_of (places.BoundMetric run metric) = Some run
+run_of (places.Condition run metric field) = Some run
+run_of place = None
+
+abbrev pub metric_of : Place → Option Item
+metric_of (places.Metric part item) = Some item
+metric_of (places.BoundMetric run metric) = Some metric
+metric_of (places.Condition run metric field) = Some metric
+metric_of place = None
+
+abbrev pub argument_of : Place → Option Item
+argument_of (places.Argument item) = Some item
+argument_of place = None
+
+-- the number of an item of `measurements`
+abbrev pub entry_of : Place → Option ℕ
+entry_of (places.Entry number) = Some number
+entry_of (places.EntryMember number part) = Some number
+entry_of place = None
+
+abbrev pub spec_field : SpecPart → Option Text
+spec_field spec.Spec = None
+spec_field spec.Args = Some (codes "args")
+spec_field spec.DryRun = Some (codes "dryRun")
+
+abbrev pub field_of : Place → Option Text
+field_of (places.CommandLine flag) = option_map flag_name flag
+field_of (places.Spec part) = spec_field part
+field_of (places.DryRunName number) = Some (codes "metricName")
+field_of (places.Condition run metric field) = Some (condition_field_name field)
+field_of (places.EntryMember number part) = Some (entry_part_name part)
+field_of place = None
+
+-- ---- objects
+
+abbrev pub item_data : Item → Data
+item_data item = object
+    (member (codes "name") (text_or_null item.name)
+    (member (codes "number") (count_data item.number) no_members))
+
+abbrev pub item_or_null : Option Item → Data
+item_or_null found = option_map_or item_data found null
+
+unfoldable pub place_data : Place → Option Spot → Data
+place_data place spot = object
+    (member (codes "argument") (item_or_null (argument_of place))
+    (member (codes "entry") (count_or_null (entry_of place))
+    (member (codes "excerpt") (text_or_null (option_and_then (λ (spot : Spot). spot.excerpt) spot))
+    (member (codes "field") (text_or_null (field_of place))
+    (member (codes "metric") (item_or_null (metric_of place))
+    (member (codes "offset") (count_or_null (option_map (λ (spot : Spot). spot.offset) spot))
+    (member (codes "part") (string (part_of place))
+    (member (codes "run") (item_or_null (run_of place)) no_members))))))))
+
+abbrev pub position_data : Option Position → Data
+position_data None = null
+position_data (Some End) = object
+    (member (codes "column") null
+    (member (codes "end") (boolean true)
+    (member (codes "line") null no_members)))
+position_data (Some (At line column)) = object
+    (member (codes "column") (count_data column)
+    (member (codes "end") (boolean false)
+    (member (codes "line") (count_data line) no_members)))
+
+abbrev pub expected_text : Expected → Text
+expected_text (Thing thing) = thing
+expected_text (Rule rule) = rule
+
+-- a diagnostic, with a line that says it
+unfoldable pub diagnostic_with : (line : Text) → Diagnostic → Data
+diagnostic_with line it = object
+    (member (codes "expected") (text_or_null (option_map expected_text it.expected))
+    (member (codes "found") (text_or_null it.found)
+    (member (codes "hint") (text_or_null it.hint)
+    (member (codes "name") (string it.name)
+    (member (codes "place") (place_data it.place it.spot)
+    (member (codes "pointer") (text_or_null (pointer it.place))
+    (member (codes "position") (position_data it.position)
+    (member (codes "text") (string line) no_members))))))))
+
+unfoldable pub refusal_data : Diagnostic → Data
+refusal_data it = object
+    (member (codes "refusal") (diagnostic_with (line_of it) it)
+    (member (codes "version") version no_members))
+
+abbrev pub warning_data : Diagnostic → Data
+warning_data it = diagnostic_with (warning_of it) it
+
+unfoldable pub warnings_data : List Diagnostic → Data
+warnings_data warnings = object
+    (member (codes "version") version
+    (member (codes "warnings") (array_of (map warning_data warnings)) no_members))

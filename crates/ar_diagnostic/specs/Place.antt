@@ -1,0 +1,134 @@
+-- Where something is, as a line says it, and as a JSON Pointer (RFC 6901) into the document.
+use Rattle.std.specs.Prelude.{ℕ, ◌==◌, if◌then◌else◌, List, [], ◌∷◌, ◌++◌, codes, decimal, flat_map, Option, Some, None, option_map}
+use Rattle.std.specs.Char.{encode_utf8}
+use Rattle.std.specs.Str.{chars}
+use Rattle.ar_value.specs.Terms.{Text}
+use Rattle.ar_quote.specs.Shown.{quoted}
+use Rattle.ar_diagnostic.specs.declared.place.EntryPart.{EntryPart}
+use Rattle.ar_diagnostic.specs.declared.place.EntryPart.TheVariants as entries
+use Rattle.ar_diagnostic.specs.declared.place.Flag.{Flag}
+use Rattle.ar_diagnostic.specs.declared.place.Flag.TheVariants as flags
+use Rattle.ar_diagnostic.specs.declared.place.Item.{Item}
+use Rattle.ar_diagnostic.specs.declared.place.Member.{Member}
+use Rattle.ar_diagnostic.specs.declared.place.Member.TheVariants as members
+use Rattle.ar_diagnostic.specs.declared.place.Place.{Place}
+use Rattle.ar_diagnostic.specs.declared.place.Place.TheVariants as places
+use Rattle.ar_diagnostic.specs.declared.place.SpecPart.{SpecPart}
+use Rattle.ar_diagnostic.specs.declared.place.SpecPart.TheVariants as spec
+use Rattle.ar_diagnostic.specs.declared.place.ConditionField.{ConditionField}
+use Rattle.ar_diagnostic.specs.declared.place.ConditionField.TheVariants as condition
+use Rattle.ar_diagnostic.specs.declared.place.Within.{Within}
+use Rattle.ar_diagnostic.specs.declared.place.Within.TheVariants as within
+
+-- ---- names
+
+abbrev pub flag_name : Flag → Text
+flag_name flags.Workers = codes "--workers"
+flag_name flags.Ordered = codes "--ordered"
+flag_name flags.Output = codes "--output"
+flag_name flags.Event = codes "--event"
+flag_name flags.Run = codes "--run"
+flag_name flags.Metric = codes "--metric"
+
+abbrev pub member_name : Member → Text
+member_name members.Condition = codes "condition"
+member_name members.Shape = codes "shape"
+member_name members.Value = codes "value"
+member_name members.Manifest = codes "manifest"
+member_name members.Runs = codes "runs"
+member_name members.Measurements = codes "measurements"
+
+abbrev pub condition_field_name : ConditionField → Text
+condition_field_name condition.Success = codes "successCondition"
+condition_field_name condition.Failure = codes "failureCondition"
+
+abbrev pub entry_part_name : EntryPart → Text
+entry_part_name entries.Run = codes "run"
+entry_part_name entries.Metric = codes "metric"
+entry_part_name entries.Value = codes "value"
+
+-- ---- in a line
+
+abbrev pub after_blank : Option Text → Text
+after_blank None = []
+after_blank (Some name) = codes " " ++ quoted name
+
+-- as `metric 3 "rate"`
+abbrev pub item_text : (kind : Text) → Item → Text
+item_text kind item = kind ++ (codes " " ++ (decimal item.number ++ after_blank item.name))
+
+abbrev pub spec_text : SpecPart → Text
+spec_text spec.Spec = codes "spec"
+spec_text spec.Args = codes "manifest: spec.args"
+spec_text spec.DryRun = codes "manifest: spec.dryRun"
+
+abbrev pub within_text : Within → Text
+within_text within.Template = []
+within_text within.Manifest = codes "manifest: "
+within_text within.Shapes = codes "shapes: "
+
+-- a metric, with the arguments of a run
+abbrev pub bound_text : (run metric : Item) → Text
+bound_text run metric = item_text (codes "run") run ++ (codes ", " ++ item_text (codes "metric") metric)
+
+abbrev pub entry_text : (number : ℕ) → Text
+entry_text number = codes "measurements[" ++ (decimal number ++ codes "]")
+
+abbrev pub place_text : Place → Text
+place_text (places.CommandLine None) = codes "command line"
+place_text (places.CommandLine (Some flag)) = codes "command line, " ++ flag_name flag
+place_text places.CommandNumber = codes "command"
+place_text places.Document = codes "document"
+place_text (places.Member member) = member_name member
+place_text (places.Spec part) = spec_text part
+place_text (places.Argument item) = codes "manifest: " ++ item_text (codes "argument") item
+place_text (places.DryRunName number) = codes "manifest: spec.dryRun[" ++ (decimal number ++ codes "].metricName")
+place_text (places.Metric part item) = within_text part ++ item_text (codes "metric") item
+place_text (places.Run item) = codes "runs[" ++ (decimal item.number ++ codes "]")
+place_text (places.BoundMetric run metric) = bound_text run metric
+place_text (places.Condition run metric field) = bound_text run metric ++ (codes ", " ++ condition_field_name field)
+place_text (places.Entry number) = entry_text number
+place_text (places.EntryMember number part) = entry_text number ++ (codes "." ++ entry_part_name part)
+
+-- ---- as a pointer
+
+-- a character of a reference token: `~` and `/` are escaped
+abbrev pub pointer_character : (character : ℕ) → List ℕ
+pointer_character character =
+    if character == 126 then codes "~0" else (if character == 47 then codes "~1" else encode_utf8 character)
+
+abbrev pub pointer_token : (name : Text) → Text
+pointer_token name = flat_map pointer_character (chars name)
+
+abbrev pub spec_pointer : SpecPart → Text
+spec_pointer spec.Spec = codes "/manifest/spec"
+spec_pointer spec.Args = codes "/manifest/spec/args"
+spec_pointer spec.DryRun = codes "/manifest/spec/dryRun"
+
+-- a shape is a member of `shapes`, by its metric's name
+abbrev pub shape_pointer : (name : Option Text) → Text
+shape_pointer None = codes "/shapes"
+shape_pointer (Some name) = codes "/shapes/" ++ pointer_token name
+
+abbrev pub metric_pointer : (number : ℕ) → Text
+metric_pointer number = codes "/manifest/spec/metrics/" ++ decimal number
+
+-- what has no place in the document has none
+abbrev pub pointer : Place → Option Text
+pointer (places.CommandLine flag) = None
+pointer places.CommandNumber = None
+pointer places.Document = Some []
+pointer (places.Member member) = Some (codes "/" ++ member_name member)
+pointer (places.Spec part) = Some (spec_pointer part)
+pointer (places.Argument item) = Some (codes "/manifest/spec/args/" ++ decimal item.number)
+pointer (places.DryRunName number) = Some (codes "/manifest/spec/dryRun/" ++ (decimal number ++ codes "/metricName"))
+pointer (places.Metric within.Template item) = Some (metric_pointer item.number)
+pointer (places.Metric within.Manifest item) = Some (metric_pointer item.number)
+pointer (places.Metric within.Shapes item) = Some (shape_pointer item.name)
+pointer (places.Run item) = Some (codes "/runs/" ++ decimal item.number)
+pointer (places.BoundMetric run metric) = Some (metric_pointer metric.number)
+pointer (places.Condition run metric field) =
+    Some (metric_pointer metric.number ++ (codes "/" ++ condition_field_name field))
+pointer (places.Entry number) = Some (codes "/measurements/" ++ decimal number)
+pointer (places.EntryMember number part) =
+    Some (codes "/measurements/" ++ (decimal number ++ (codes "/" ++ entry_part_name part)))

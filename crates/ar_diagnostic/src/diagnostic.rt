@@ -1,0 +1,80 @@
+//! What is said of something that is refused, or probably not meant.
+
+ghost use Rattle.std.specs.Prelude.{◌≡◌, IfOk};
+ghost use Rattle.ar_diagnostic.specs.Diagnostic.{expecting, named};
+
+use crate::place::Place;
+use ar_value::Text;
+use std::alloc::{AllocError, Global};
+
+/// What is said of something that is refused, or probably not meant.
+#[derive(Drop)]
+pub struct Diagnostic {
+    pub place: Place,
+    /// Where in a condition it is.
+    pub spot: Option<Spot>,
+    /// The name of what is wrong, which programs can rely on.
+    pub name: Text,
+    pub found: Option<Text>,
+    pub expected: Option<Expected>,
+    /// Where an input that is no JSON ceases to be that.
+    pub position: Option<Position>,
+    /// What helps.
+    pub hint: Option<Text>,
+}
+
+/// A byte of a condition.
+#[derive(Drop)]
+pub struct Spot {
+    pub offset: usize,
+    /// The condition round it, in which the token there is marked.
+    pub excerpt: Option<Text>,
+}
+
+/// What is expected.
+#[derive(Drop)]
+pub enum Expected {
+    /// Something in place of what was found, as `a text`.
+    Thing(Text),
+    /// A rule, as `a list has at most 16 items`.
+    Rule(Text),
+}
+
+/// Where an input ceases to be JSON.
+#[derive(Clone, Copy)]
+pub enum Position {
+    End,
+    /// A line and a column.
+    At(usize, usize),
+}
+
+impl Diagnostic {
+    /// What has a place and a name, and no more.
+    pub fn named(alloc: Global, place: Place, name: &str) -> Result<Diagnostic, AllocError>
+        ensures { IfOk result (λ it. it ≡ named place name.now) }
+    {
+        Ok(Diagnostic {
+            place,
+            spot: None,
+            name: Text::of(alloc, name)?,
+            found: None,
+            expected: None,
+            position: None,
+            hint: None,
+        })
+    }
+
+    /// Something else is expected.
+    pub fn expecting(
+        alloc: Global,
+        place: Place,
+        name: &str,
+        expected: &str,
+    ) -> Result<Diagnostic, AllocError>
+        ensures { IfOk result (λ it. it ≡ expecting place name.now expected.now) }
+    {
+        let mut it = Diagnostic::named(alloc, place, name)?;
+        it.expected = Some(Expected::Thing(Text::of(alloc, expected)?));
+        Ok(it)
+    }
+}

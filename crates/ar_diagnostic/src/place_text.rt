@@ -1,0 +1,179 @@
+//! Places, as lines and JSON Pointers say them.
+
+ghost use Rattle.std.specs.Prelude.{◌≡◌, ◌++◌, IfOk, OnOk, option_map, string_bytes};
+ghost use Rattle.ar_diagnostic.specs.Place.{after_blank, bound_text, entry_text, item_text, metric_pointer, place_text, pointer, pointer_character, pointer_token, shape_pointer, spec_pointer, spec_text, within_text};
+
+use crate::place::{Item, Place, SpecPart, Within};
+use ar_quote::push_quoted;
+use ar_value::Text;
+use std::alloc::{AllocError, Global};
+use std::fmt::Write;
+
+// ---- in a line
+
+/// A name after a blank, if there is one.
+fn push_after_blank(out: &mut String, name: &Option<Text>) -> Result<(), AllocError>
+    ensures { OnOk result (string_bytes out.new ≡ string_bytes out.old ++ after_blank name.now) }
+{
+    let Some(name) = name else {
+        return Ok(());
+    };
+    out.push_str(" ")?;
+    push_quoted(out, name.as_str())
+}
+
+/// An item by its kind, its number and its name.
+fn push_item(out: &mut String, kind: &str, item: &Item) -> Result<(), AllocError>
+    ensures { OnOk result (string_bytes out.new ≡ string_bytes out.old ++ item_text kind.now item.now) }
+{
+    write!(out, "{kind} {}", item.number)?;
+    push_after_blank(out, &item.name)
+}
+
+fn spec_text(part: SpecPart) -> &'static str
+    ensures { result.now ≡ spec_text part }
+{
+    match part {
+        SpecPart::Spec => "spec",
+        SpecPart::Args => "manifest: spec.args",
+        SpecPart::DryRun => "manifest: spec.dryRun",
+    }
+}
+
+fn within_text(within: Within) -> &'static str
+    ensures { result.now ≡ within_text within }
+{
+    match within {
+        Within::Template => "",
+        Within::Manifest => "manifest: ",
+        Within::Shapes => "shapes: ",
+    }
+}
+
+/// A metric, with the arguments of a run.
+fn push_bound(out: &mut String, run: &Item, metric: &Item) -> Result<(), AllocError>
+    ensures { OnOk result (string_bytes out.new ≡ string_bytes out.old ++ bound_text run.now metric.now) }
+{
+    push_item(out, "run", run)?;
+    out.push_str(", ")?;
+    push_item(out, "metric", metric)
+}
+
+fn push_entry(out: &mut String, number: usize) -> Result<(), AllocError>
+    ensures { OnOk result (string_bytes out.new ≡ string_bytes out.old ++ entry_text number) }
+{
+    write!(out, "measurements[{number}]")
+}
+
+pub(crate) fn push_place(out: &mut String, place: &Place) -> Result<(), AllocError>
+    ensures { OnOk result (string_bytes out.new ≡ string_bytes out.old ++ place_text place.now) }
+{
+    match place {
+        Place::CommandLine(None) => out.push_str("command line"),
+        Place::CommandLine(Some(flag)) => write!(out, "command line, {}", flag.name()),
+        Place::CommandNumber => out.push_str("command"),
+        Place::Document => out.push_str("document"),
+        Place::Member(member) => out.push_str(member.name()),
+        Place::Spec(part) => out.push_str(spec_text(*part)),
+        Place::Argument(argument) => {
+            out.push_str("manifest: ")?;
+            push_item(out, "argument", argument)
+        }
+        Place::DryRunName(number) => write!(out, "manifest: spec.dryRun[{number}].metricName"),
+        Place::Metric(within, metric) => {
+            out.push_str(within_text(*within))?;
+            push_item(out, "metric", metric)
+        }
+        Place::Run(run) => write!(out, "runs[{}]", run.number),
+        Place::BoundMetric(run, metric) => push_bound(out, run, metric),
+        Place::Condition(run, metric, field) => {
+            push_bound(out, run, metric)?;
+            write!(out, ", {}", field.name())
+        }
+        Place::Entry(number) => push_entry(out, *number),
+        Place::EntryMember(number, part) => {
+            push_entry(out, *number)?;
+            write!(out, ".{}", part.name())
+        }
+    }
+}
+
+// ---- as a pointer
+
+fn push_token_character(out: &mut String, character: char) -> Result<(), AllocError>
+    ensures { OnOk result (string_bytes out.new ≡ string_bytes out.old ++ pointer_character character) }
+{
+    match character {
+        '~' => out.push_str("~0"),
+        '/' => out.push_str("~1"),
+        _ => out.push(character),
+    }
+}
+
+/// A name as a reference token of a JSON Pointer.
+fn push_token(out: &mut String, name: &str) -> Result<(), AllocError>
+    ensures { OnOk result (string_bytes out.new ≡ string_bytes out.old ++ pointer_token name.now) }
+{
+    for character in name.chars() {
+        push_token_character(out, character)?;
+    }
+    Ok(())
+}
+
+fn spec_pointer(part: SpecPart) -> &'static str
+    ensures { result.now ≡ spec_pointer part }
+{
+    match part {
+        SpecPart::Spec => "/manifest/spec",
+        SpecPart::Args => "/manifest/spec/args",
+        SpecPart::DryRun => "/manifest/spec/dryRun",
+    }
+}
+
+fn metric_pointer(alloc: Global, number: usize) -> Result<String, AllocError>
+    ensures { IfOk result (λ text. string_bytes text ≡ metric_pointer number) }
+{
+    format!(in alloc; "/manifest/spec/metrics/{number}")
+}
+
+/// The pointer of the shape of a metric with this name.
+fn shape_pointer(alloc: Global, name: &Option<Text>) -> Result<String, AllocError>
+    ensures { IfOk result (λ text. string_bytes text ≡ shape_pointer name.now) }
+{
+    let Some(name) = name else {
+        return "/shapes".to_string(alloc);
+    };
+    let mut text = "/shapes/".to_string(alloc)?;
+    push_token(&mut text, name.as_str())?;
+    Ok(text)
+}
+
+/// The JSON Pointer of a place in the document.
+pub(crate) fn pointer(alloc: Global, place: &Place) -> Result<Option<String>, AllocError>
+    ensures { IfOk result (λ found. option_map string_bytes found ≡ pointer place.now) }
+{
+    let text = match place {
+        Place::CommandLine(_) | Place::CommandNumber => return Ok(None),
+        Place::Document => String::new(alloc),
+        Place::Member(member) => format!(in alloc; "/{}", member.name())?,
+        Place::Spec(part) => spec_pointer(*part).to_string(alloc)?,
+        Place::Argument(argument) => {
+            format!(in alloc; "/manifest/spec/args/{}", argument.number)?
+        }
+        Place::DryRunName(number) => {
+            format!(in alloc; "/manifest/spec/dryRun/{number}/metricName")?
+        }
+        Place::Metric(Within::Shapes, metric) => shape_pointer(alloc, &metric.name)?,
+        Place::Metric(Within::Template | Within::Manifest, metric)
+        | Place::BoundMetric(_, metric) => metric_pointer(alloc, metric.number)?,
+        Place::Run(run) => format!(in alloc; "/runs/{}", run.number)?,
+        Place::Condition(_, metric, field) => {
+            format!(in alloc; "/manifest/spec/metrics/{}/{}", metric.number, field.name())?
+        }
+        Place::Entry(number) => format!(in alloc; "/measurements/{number}")?,
+        Place::EntryMember(number, part) => {
+            format!(in alloc; "/measurements/{number}/{}", part.name())?
+        }
+    };
+    Ok(Some(text))
+}
