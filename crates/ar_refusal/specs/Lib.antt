@@ -1,2 +1,4 @@
 pub mod Refused
+pub mod Usage
+pub mod Warned
 pub use Rattle.ar_command.specs.Serving

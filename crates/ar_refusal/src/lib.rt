@@ -1,18 +1,21 @@
-//! The line of a refused input: the refusal's own text, with names of the document that was read.
+//! What is said of a refused input or command line, as a line or as JSON, and of an input that is probably not meant so.
 //!
-//! [`refusal_text`] takes a refusal with its own text, which the caller writes, and the input that was
-//! refused. Where the input is JSON, `ar_words` puts names of the document into the text, and a selection
-//! of `explain` that the document lacks is named; where it isn't, the text says where it ceases to be.
-//! `specs/Refused` has all of that. [`warning_lines`] is what an input with an answer has that is
-//! probably not meant.
+//! [`refusal_of`] is the diagnostic of a refused input (`specs/Refused`). Where the input is JSON, `ar_words` says what its
+//! document has, and a selection of `explain` that the document lacks is named; where it isn't, the diagnostic says where
+//! it ceases to be, and what it looks like. [`refusal_text`] says it in the format of the command's answer, and
+//! [`usage_text`] does that for a refused command line. [`warnings_text`] is what an input with an answer has that is
+//! probably not meant (`specs/Warned`).
 //!
-//! - `refused`: the line of a refusal; `lacking`: what the document lacks of what was named
-//! - `warned`: warnings
+//! - `refused`: refused inputs; `unread`: inputs that are no document; `lacking`: what the document lacks of what was named
+//! - `said`: diagnostics in a format; `warned`: warnings
 #![tactic(auto)]
 
 mod lacking;
 mod refused;
+mod said;
+mod unread;
 mod warned;
 
-pub use refused::refusal_text;
-pub use warned::warning_lines;
+pub use refused::{refusal_of, refusal_text};
+pub use said::usage_text;
+pub use warned::warnings_text;

@@ -1,25 +1,73 @@
-//! The warnings of an input.
+//! What is said of an input that has an answer, and in it something that is probably not meant.
 
-ghost use Rattle.std.specs.Prelude.{◌≡◌, IfOk, string_bytes};
+ghost use Rattle.std.specs.Prelude.{◌≡◌, ◌++◌, IfOk, OnOk, string_bytes};
 ghost use Rattle.ar_json.specs.Document.{json_of};
-ghost use Rattle.ar_refusal.specs.Refused.{warning_lines};
+ghost use Rattle.ar_refusal.specs.Warned.{AreWarned, IsJsonWarnings, warning_line, warning_lines, warnings_in};
 
-use ar_words::warnings_text;
+use ar_command::Format;
+use ar_diagnostic::{Diagnostic, warning_line, warnings_json};
+use ar_words::warnings_of;
 use serde_json::Value as Json;
 use std::alloc::{AllocError, Global};
 
-/// What an input that has an answer has that is probably not meant, a line each.
+/// The warnings of an input.
+#[tactic(auto, using(ar_json::proofs::Documents::json, ar_json::proofs::Documents::no_json))]
+fn warnings_in(alloc: Global, input: &[u8]) -> Result<Vec<Diagnostic>, AllocError>
+    ensures { IfOk result (λ found. found.items ≡ warnings_in (json_of input.now)) }
+{
+    match Json::from_slice(alloc, input) {
+        Ok(document) => warnings_of(alloc, &document),
+        Err(error) if error.is_memory() => Err(AllocError),
+        Err(_) => Ok(Vec::new(alloc)),
+    }
+}
+
+fn push_warning(alloc: Global, out: &mut String, it: &Diagnostic) -> Result<(), AllocError>
+    ensures { OnOk result (string_bytes out.new ≡ string_bytes out.old ++ warning_line it.now) }
+{
+    let line = warning_line(alloc, it)?;
+    out.push_str("argo_judge: warning: ")?;
+    out.push_str(line.as_str())?;
+    out.push_str("\n")
+}
+
+/// Warnings, a line each.
+#[tactic(auto, using(crate::proofs::Diagnosed::next_line, crate::proofs::Diagnosed::no_line))]
+fn lines_of(alloc: Global, warnings: &[Diagnostic]) -> Result<String, AllocError>
+    ensures { IfOk result (λ text. string_bytes text ≡ warning_lines warnings.now) }
+{
+    let mut text = String::new(alloc);
+    for warning in warnings {
+        push_warning(alloc, &mut text, warning)?;
+    }
+    Ok(text)
+}
+
+/// Warnings as one JSON object, if there are any.
+fn object_of(alloc: Global, warnings: &[Diagnostic]) -> Result<String, AllocError>
+    ensures { IfOk result (λ text. IsJsonWarnings warnings.now (string_bytes text)) }
+{
+    if warnings.is_empty() {
+        return Ok(String::new(alloc));
+    }
+    warnings_json(alloc, warnings)
+}
+
+/// What an input that has an answer has that is probably not meant: a line each, or one JSON object.
 ///
 /// # Errors
 ///
 /// Out of memory alone.
-#[tactic(auto, using(ar_json::proofs::Documents::json, ar_json::proofs::Documents::no_json))]
-pub fn warning_lines(alloc: Global, input: &[u8]) -> Result<String, AllocError>
-    ensures { IfOk result (λ text. string_bytes text ≡ warning_lines (json_of input.now)) }
+pub fn warnings_text(
+    alloc: Global,
+    format: Format,
+    input: &[u8],
+) -> Result<String, AllocError>
+    ensures { IfOk result (λ text. AreWarned format (warnings_in (json_of input.now)) (string_bytes text)) }
 {
-    match Json::from_slice(alloc, input) {
-        Ok(document) => warnings_text(alloc, &document),
-        Err(error) if error.is_memory() => Err(AllocError),
-        Err(_) => Ok(String::new(alloc)),
+    let warnings = warnings_in(alloc, input)?;
+    match format {
+        Format::Text => lines_of(alloc, &warnings),
+        Format::Json => object_of(alloc, &warnings),
     }
 }

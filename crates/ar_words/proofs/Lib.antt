@@ -1,3 +1,3 @@
 pub mod Signs
 pub mod Listed
-pub mod WarningLines
+pub mod Warned

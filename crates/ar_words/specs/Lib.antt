@@ -1,10 +1,12 @@
 pub mod Private
 pub mod Lists
 pub mod Names
+pub mod Items
 pub mod Fields
 pub mod Bindings
 pub mod Operands
+pub mod Hints
 pub mod Conditions
-pub mod Found
-pub mod Words
+pub mod Templates
+pub mod Documents
 pub mod Warnings

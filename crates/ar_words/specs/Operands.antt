@@ -1,17 +1,16 @@
 -- What the operands of a condition are where one isn't of a kind that is taken.
-use Rattle.std.specs.Prelude.{ℕ, Bool, true, false, if◌then◌else◌, List, [], ◌++◌, codes, Option, Some, None, option_and_then}
+use Rattle.std.specs.Prelude.{ℕ, Bool, true, false, if◌then◌else◌, List, ◌++◌, codes, Option, Some, None, option_and_then}
 use Rattle.ar_value.specs.Terms.{Text}
 use Rattle.serde_json.specs.Data.{Data}
 use Rattle.serde_json.specs.Find.{get}
 use Rattle.ar_check.specs.Found.{operands_at}
+use Rattle.ar_check.specs.declared.error.TypeError.{TypeError}
 use Rattle.ar_check.specs.declared.error.TypeError.TheVariants as kinds
 use Rattle.ar_check.specs.declared.found.OperandKind.{OperandKind}
 use Rattle.ar_check.specs.declared.found.OperandKind.TheVariants as operand
 use Rattle.ar_check.specs.declared.found.Operands.{Operands}
 use Rattle.ar_check.specs.declared.found.Operands.TheVariants.{Before, One, Two}
 use Rattle.ar_json.specs.Declaration.{shape_of}
-use Rattle.ar_judge.specs.declared.error.BuildCause.{BuildCause}
-use Rattle.ar_judge.specs.declared.error.BuildCause.TheVariants.{Kinds}
 use Rattle.ar_syntax.specs.Parse.{parse_of}
 use Rattle.ar_value.specs.Shape.{Shape}
 use Rattle.ar_words.specs.Bindings.{made}
@@ -36,9 +35,9 @@ operands_in (Some shape) (Some condition) offset =
 operands_in shape condition offset = None
 
 -- those of the operator at which a condition is refused
-abbrev pub refused_operands : Option Shape → (condition : Option Text) → BuildCause → Option Operands
-refused_operands shape condition (Kinds (kinds.WrongOperand at)) = operands_in shape condition at
-refused_operands shape condition cause = None
+abbrev pub refused_operands : Option Shape → (condition : Option Text) → TypeError → Option Operands
+refused_operands shape condition (kinds.WrongOperand at) = operands_in shape condition at
+refused_operands shape condition error = None
 
 -- ---- what is said of them
 
@@ -59,9 +58,8 @@ are_two operands = false
 abbrev pub between_operands : (is_membership : Bool) → Text
 between_operands is_membership = if is_membership then codes " and a list of " else codes " and "
 
-abbrev pub operands_said : (is_membership : Bool) → Option Operands → Text
-operands_said is_membership None = []
-operands_said is_membership (Some (Before owner)) = codes "; found " ++ (kind_said owner ++ codes " before it")
-operands_said is_membership (Some (One operand)) = codes "; found " ++ kind_said operand
-operands_said is_membership (Some (Two left right)) =
-    codes "; found " ++ (kind_said left ++ (between_operands is_membership ++ kind_said right))
+abbrev pub operands_found : (is_membership : Bool) → Operands → Text
+operands_found is_membership (Before owner) = kind_said owner ++ codes " before it"
+operands_found is_membership (One operand) = kind_said operand
+operands_found is_membership (Two left right) =
+    kind_said left ++ (between_operands is_membership ++ kind_said right)

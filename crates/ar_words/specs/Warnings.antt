@@ -4,7 +4,13 @@ use Rattle.std.specs.Prelude.{ℕ, suc, Bool, true, false, ◌&&◌, if◌then�
 use Rattle.ar_value.specs.Terms.{Text}
 use Rattle.serde_json.specs.Data.{Data}
 use Rattle.ar_json.specs.Members.{member, member_of_member, text_member}
-use Rattle.ar_words.specs.Names.{named_item}
+use Rattle.ar_diagnostic.specs.Diagnostic.{named}
+use Rattle.ar_diagnostic.specs.declared.diagnostic.Diagnostic.{Diagnostic}
+use Rattle.ar_diagnostic.specs.declared.place.Item.{Item}
+use Rattle.ar_diagnostic.specs.declared.place.Place.{Place}
+use Rattle.ar_diagnostic.specs.declared.place.Place.TheVariants as places
+use Rattle.ar_diagnostic.specs.declared.place.SpecPart.TheVariants as spec_part
+use Rattle.ar_diagnostic.specs.declared.place.Within.TheVariants as within
 use Rattle.ar_words.specs.Lists.{metrics}
 
 -- ---- names that are close to others
@@ -48,20 +54,22 @@ close_to_metric =
     ∷ close (codes "errorLimit") (codes "consecutiveErrorLimit") ∷ close (codes "counts") (codes "count")
     ∷ close (codes "intervals") (codes "interval") ∷ []
 
--- ---- lines
+-- ---- warnings
 
-unfoldable pub warning : (at words : Text) → Text
-warning at words = codes "argo_judge: warning: " ++ (at ++ (codes ": " ++ (words ++ codes "\n")))
+-- a field that isn't read
+abbrev pub ignored : Place → Close → Diagnostic
+ignored place field =
+    record (named place (codes "IgnoredField")) {
+      found = Some (codes "\"" ++ (field.name ++ codes "\" is not read"));
+      hint = Some (codes "did you mean \"" ++ (field.meant ++ codes "\"?"));
+    }
 
-unfoldable pub read_over : Close → Text
-read_over name = codes "\"" ++ (name.name ++ (codes "\" is not read; did you mean \"" ++ (name.meant ++ codes "\"?")))
+-- a name that an object has
+abbrev pub close_warning : Place → Data → Close → List Diagnostic
+close_warning place fields name = if is_some (member name.name fields) then ignored place name ∷ [] else []
 
--- a warning of a name that an object has
-abbrev pub close_line : (at : Text) → Data → Close → Text
-close_line at fields name = if is_some (member name.name fields) then warning at (read_over name) else []
-
-abbrev pub close_lines : (at : Text) → List Close → Data → Text
-close_lines at names fields = flat_map (close_line at fields) names
+abbrev pub close_warnings : Place → List Close → Data → List Diagnostic
+close_warnings place names fields = flat_map (close_warning place fields) names
 
 -- a text that is missing or empty
 abbrev pub is_left_out : Option Text → Bool
@@ -74,27 +82,36 @@ has_no_condition metric =
     is_left_out (text_member (codes "successCondition") metric)
     && is_left_out (text_member (codes "failureCondition") metric)
 
-abbrev pub condition_line : (at : Text) → Data → Text
-condition_line at metric =
-    if has_no_condition metric then warning at (codes "no condition, so each measured value is Successful") else []
+abbrev pub unconditional : Place → Diagnostic
+unconditional place =
+    record (named place (codes "NoCondition")) {
+      found = Some (codes "no condition, so each measured value is Successful");
+    }
 
--- of a metric, by its number and its name
-abbrev pub metric_warnings : (number : ℕ) → Data → Text
+abbrev pub condition_warning : Place → Data → List Diagnostic
+condition_warning place metric = if has_no_condition metric then unconditional place ∷ [] else []
+
+-- a metric, by its number and its name
+abbrev pub metric_place : (number : ℕ) → Data → Place
+metric_place number metric =
+    places.Metric within.Template (record { number = number; name = text_member (codes "name") metric })
+
+abbrev pub metric_warnings : (number : ℕ) → Data → List Diagnostic
 metric_warnings number metric =
-    close_lines (named_item (codes "metric") number metric) close_to_metric metric
-    ++ condition_line (named_item (codes "metric") number metric) metric
+    close_warnings (metric_place number metric) close_to_metric metric
+    ++ condition_warning (metric_place number metric) metric
 
 -- of metrics, the first of which has a number
-abbrev pub lines_from : (number : ℕ) → List Data → Text
-lines_from number [] = []
-lines_from number (metric ∷ metrics) = metric_warnings number metric ++ lines_from (suc number) metrics
+abbrev pub warnings_from : (number : ℕ) → List Data → List Diagnostic
+warnings_from number [] = []
+warnings_from number (metric ∷ metrics) = metric_warnings number metric ++ warnings_from (suc number) metrics
 
-abbrev pub spec_lines : Option Data → Text
-spec_lines None = []
-spec_lines (Some spec) = close_lines (codes "spec") close_to_spec spec
+abbrev pub spec_warnings : Option Data → List Diagnostic
+spec_warnings None = []
+spec_warnings (Some spec) = close_warnings (places.Spec spec_part.Spec) close_to_spec spec
 
 -- of a document: of its `spec`, and then of its metrics in their order
-abbrev pub warnings_text : Data → Text
-warnings_text document =
-    spec_lines (member_of_member (codes "manifest") (codes "spec") document)
-    ++ lines_from 0 (unwrap_or (metrics document) [])
+abbrev pub warnings_of : Data → List Diagnostic
+warnings_of document =
+    spec_warnings (member_of_member (codes "manifest") (codes "spec") document)
+    ++ warnings_from 0 (unwrap_or (metrics document) [])

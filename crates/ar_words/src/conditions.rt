@@ -1,35 +1,30 @@
-//! The texts of refusals of conditions.
+//! Refusals of conditions.
 
-ghost use Rattle.std.specs.Prelude.{◌≡◌, ◌<◌, ◌++◌, IfOk, OnOk, length, option_map, string_bytes};
+ghost use Rattle.std.specs.Prelude.{◌≡◌, IfOk, Some, option_and_then, option_map, string_bytes};
 ghost use Rattle.ar_value.specs.View.{shape_view};
-ghost use Rattle.ar_words.specs.Conditions.{cause_advice, after_name, build_words, cause_words, condition_words, conversion_advice, has_predicate, is_conversion, is_field, is_membership, refused_offset, taken, takes_alike, takes_numbers, takes_texts, token_in, unexpected, with_quote, wrong_operand};
+ghost use Rattle.ar_diagnostic.specs.declared.diagnostic.Expected.TheVariants as wanted;
+ghost use Rattle.ar_quote.specs.Quote.{quoted_round};
 ghost use Rattle.ar_quote.specs.Tokens.{found};
+ghost use Rattle.ar_words.specs.Hints.{syntax_hint as grammar_hint};
+ghost use Rattle.ar_words.specs.Conditions.{code_diagnostic, condition_diagnostic, has_predicate, is_field, is_membership, kinds_expected, kinds_found, kinds_with, length_diagnostic, operands_at_token, operator_rule, spot_of, syntax_expected, syntax_found, syntax_token, syntax_with, taken, takes_alike, takes_numbers, takes_texts, token_in, unexpected_at};
 
-use crate::cuts::cut_at;
-use crate::operands::{push_operands, refused_operands};
+use crate::hints::syntax_hint;
+use crate::items::copy_of;
+use crate::operands::{operands_found, refused_operands};
 use ar_check::TypeError;
 use ar_check::found::Operands;
-use ar_judge::{BuildCause, BuildError};
+use ar_diagnostic::{Diagnostic, Expected, Place, Spot};
+use ar_judge::BuildCause;
 use ar_quote::{TokenAt, push_quoted, push_round, token_at};
+use ar_safety::Reason;
 use ar_syntax::SyntaxError;
+use ar_value::Text;
 use ar_value::shape::Shape;
 use std::alloc::{AllocError, Global};
 
-// ---- offsets
+// ---- where
 
-/// The byte of a condition at which it is refused. One that is too long isn't quoted.
-fn offset_of(cause: BuildCause) -> Option<usize>
-    ensures { result ≡ refused_offset cause }
-{
-    match cause {
-        BuildCause::Grammar(SyntaxError::TooLong) => None,
-        BuildCause::Grammar(error) => error.offset(),
-        BuildCause::Kinds(error) => error.offset(),
-        BuildCause::Compiler(_) | BuildCause::Verifier(_, _) | BuildCause::OutOfMemory => None,
-    }
-}
-
-/// The token at which a condition is refused.
+/// The token at the byte of a refusal.
 fn token_in(condition: Option<&str>, offset: Option<usize>) -> Option<TokenAt<'_>>
     ensures { option_map (λ here. found here.before.now here.token.now here.after.now) result
         ≡ token_in (option_map (λ text. text.now) condition.entry) offset }
@@ -37,7 +32,146 @@ fn token_in(condition: Option<&str>, offset: Option<usize>) -> Option<TokenAt<'_
     token_at(condition?, offset?)
 }
 
-// ---- what operators take
+/// The condition round a token.
+fn excerpt_of(alloc: Global, here: Option<TokenAt<'_>>) -> Result<Option<Text>, AllocError>
+    ensures { IfOk result (λ excerpt. excerpt ≡ option_map quoted_round
+        (option_map (λ here. found here.before.now here.token.now here.after.now) here.entry)) }
+{
+    let Some(here) = here else {
+        return Ok(None);
+    };
+    let mut excerpt = String::new(alloc);
+    push_round(&mut excerpt, here)?;
+    Ok(Some(Text::from(excerpt)))
+}
+
+/// A byte, and the condition round the token there.
+fn spot_of(
+    alloc: Global,
+    offset: Option<usize>,
+    here: Option<TokenAt<'_>>,
+) -> Result<Option<Spot>, AllocError>
+    ensures { IfOk result (λ spot. spot ≡ spot_of offset
+        (option_map (λ here. found here.before.now here.token.now here.after.now) here.entry)) }
+{
+    let Some(offset) = offset else {
+        return Ok(None);
+    };
+    let excerpt = excerpt_of(alloc, here)?;
+    Ok(Some(Spot { offset, excerpt }))
+}
+
+// ---- what is expected
+
+pub(crate) fn thing(alloc: Global, words: &str) -> Result<Option<Expected>, AllocError>
+    ensures { IfOk result (λ expected. expected ≡ Some (wanted.Thing words.now)) }
+{
+    Ok(Some(Expected::Thing(Text::of(alloc, words)?)))
+}
+
+pub(crate) fn rule(alloc: Global, words: &str) -> Result<Option<Expected>, AllocError>
+    ensures { IfOk result (λ expected. expected ≡ Some (wanted.Rule words.now)) }
+{
+    Ok(Some(Expected::Rule(Text::of(alloc, words)?)))
+}
+
+// ---- the grammar
+
+fn syntax_expected(alloc: Global, error: SyntaxError) -> Result<Option<Expected>, AllocError>
+    ensures { IfOk result (λ expected. expected ≡ syntax_expected error) }
+{
+    match error {
+        SyntaxError::TooLong => rule(alloc, "a condition has at most 4096 bytes"),
+        SyntaxError::OpenText(_) => rule(alloc, "a text ends with the quote that it begins with"),
+        SyntaxError::OpenComment(_) => rule(alloc, "a comment that begins with /* ends with */"),
+        SyntaxError::BadEscape(_) => thing(alloc, "one of \\\\ \\\" \\' \\n \\r \\t"),
+        SyntaxError::LiteralTooFine(_) => {
+            rule(alloc, "a decimal has at most six digits after the point")
+        }
+        SyntaxError::NumberTooLarge(_) => thing(
+            alloc,
+            "at most 9223372036854775807, or 9223372036854.775807 with a point",
+        ),
+        SyntaxError::WrongCount(_) => rule(
+            alloc,
+            "len and isNil take one argument, default and calls with predicates two",
+        ),
+        SyntaxError::ItemOutside(_) => rule(
+            alloc,
+            "# is for the predicate of all, any, none, one, count or filter alone",
+        ),
+        SyntaxError::TooManyItems(_) => rule(alloc, "a list has at most 16 items"),
+        SyntaxError::TooDeep(_) => rule(
+            alloc,
+            "at most 64 levels may be open at once, and a tree has at most 64",
+        ),
+        SyntaxError::BadCharacter(_)
+        | SyntaxError::Unexpected(_)
+        | SyntaxError::UnknownName(_)
+        | SyntaxError::OutOfMemory => Ok(None),
+    }
+}
+
+fn unexpected_at(here: Option<TokenAt<'_>>) -> &'static str
+    ensures { result.now ≡ unexpected_at
+        (option_map (λ here. found here.before.now here.token.now here.after.now) here.entry) }
+{
+    match here {
+        Some(here) if here.token.is_empty() => "the condition ends too early",
+        _ => "no condition continues so",
+    }
+}
+
+fn syntax_found(error: SyntaxError, here: Option<TokenAt<'_>>) -> Option<&'static str>
+    ensures { option_map (λ text. text.now) result ≡ syntax_found error
+        (option_map (λ here. found here.before.now here.token.now here.after.now) here.entry) }
+{
+    match error {
+        SyntaxError::BadCharacter(_) => Some("no word, number, text or sign has this byte here"),
+        SyntaxError::Unexpected(_) => Some(unexpected_at(here)),
+        SyntaxError::UnknownName(_) => Some("no word of the language"),
+        _ => None,
+    }
+}
+
+/// The token at which a condition isn't of the language. One that is too long isn't quoted.
+fn syntax_token(condition: Option<&str>, error: SyntaxError) -> Option<TokenAt<'_>>
+    ensures { option_map (λ here. found here.before.now here.token.now here.after.now) result
+        ≡ syntax_token (option_map (λ text. text.now) condition.entry) error }
+{
+    match error {
+        SyntaxError::TooLong => None,
+        _ => token_in(condition, error.offset()),
+    }
+}
+
+fn hint_at(error: SyntaxError, here: Option<TokenAt<'_>>) -> Option<&'static str>
+    ensures { option_map (λ hint. hint.now) result ≡ option_and_then (grammar_hint error)
+        (option_map (λ here. found here.before.now here.token.now here.after.now) here.entry) }
+{
+    syntax_hint(error, here?)
+}
+
+/// A condition that isn't of the language, at a token.
+#[tactic(auto, unfolding(crate::specs::Conditions::syntax_with))]
+fn syntax_with(
+    alloc: Global,
+    place: Place,
+    error: SyntaxError,
+    here: Option<TokenAt<'_>>,
+) -> Result<Diagnostic, AllocError>
+    ensures { IfOk result (λ it. it ≡ syntax_with place error
+        (option_map (λ here. found here.before.now here.token.now here.after.now) here.entry)) }
+{
+    let mut it = Diagnostic::named(alloc, place, error.name())?;
+    it.spot = spot_of(alloc, error.offset(), here)?;
+    it.found = copy_of(alloc, syntax_found(error, here))?;
+    it.expected = syntax_expected(alloc, error)?;
+    it.hint = copy_of(alloc, hint_at(error, here))?;
+    Ok(it)
+}
+
+// ---- kinds
 
 fn takes_numbers(token: &str) -> bool
     ensures { result ≡ takes_numbers token.now }
@@ -99,170 +233,182 @@ fn taken(token: &str, operands: Option<Operands>) -> &'static str
     }
 }
 
-// ---- words of the causes
-
-/// The text with other words after the name of its refusal.
-#[tactic(auto, unfolding(crate::specs::Conditions::after_name))]
-pub(crate) fn after_name(
+fn operator_rule(
     alloc: Global,
-    text: String,
-    name: &str,
-    words: &str,
-) -> Result<String, AllocError>
-    requires { 0 < length name.now }
-    ensures { IfOk result (λ said. string_bytes said ≡ after_name name.now words.now (string_bytes text)) }
-{
-    match cut_at(text.as_str(), name) {
-        Some((before, _)) => format!(in alloc; "{before}{name}{words}"),
-        None => Ok(text),
-    }
-}
-
-fn unexpected(token: &str) -> &'static str
-    ensures { result.now ≡ unexpected token.now }
-{
-    if token.is_empty() {
-        "the condition ends too early"
-    } else {
-        "no condition continues so"
-    }
-}
-
-/// What is said of an operator whose operand isn't of a kind that it takes.
-fn wrong_operand(
-    alloc: Global,
-    here: TokenAt<'_>,
     operands: Option<Operands>,
+    here: TokenAt<'_>,
 ) -> Result<String, AllocError>
-    ensures { IfOk result (λ words. string_bytes words
-        ≡ wrong_operand (found here.entry.before.now here.entry.token.now here.entry.after.now) operands) }
+    ensures { IfOk result (λ words. string_bytes words ≡ operator_rule operands
+        (found here.entry.before.now here.entry.token.now here.entry.after.now)) }
 {
     let mut words = String::new(alloc);
     push_quoted(&mut words, here.token)?;
     words.push_str(" takes ")?;
     words.push_str(taken(here.token, operands))?;
-    push_operands(&mut words, is_membership(here.token, operands), operands)?;
     Ok(words)
 }
 
-/// The text with what was found in place of its own words.
-fn cause_text(
+/// What the operator at a token takes, if there is one.
+fn operator_expected(
     alloc: Global,
-    text: String,
-    cause: BuildCause,
-    here: TokenAt<'_>,
-    operands: Option<Operands>,
-) -> Result<String, AllocError>
-    ensures { IfOk result (λ said. string_bytes said ≡ cause_words cause
-        (found here.entry.before.now here.entry.token.now here.entry.after.now) operands (string_bytes text)) }
-{
-    match cause {
-        BuildCause::Grammar(SyntaxError::Unexpected(_)) => {
-            after_name(alloc, text, "Unexpected: ", unexpected(here.token))
-        }
-        BuildCause::Kinds(TypeError::WrongOperand(_)) => {
-            let words = wrong_operand(alloc, here, operands)?;
-            after_name(alloc, text, "WrongOperand: ", words.as_str())
-        }
-        BuildCause::Kinds(TypeError::NotAList(_)) => after_name(
-            alloc,
-            text,
-            "NotAList: ",
-            "expected a list, as {\"list\":shape,\"max\":number} declares",
-        ),
-        BuildCause::Kinds(TypeError::NoCommonKind(_)) => after_name(
-            alloc,
-            text,
-            "NoCommonKind: ",
-            "expected one shape for all; \"whole\" and \"decimal\" have \"decimal\"",
-        ),
-        _ => Ok(text),
-    }
-}
-
-/// Whether a word is one of Argo Rollouts' conversions.
-fn is_conversion(token: &str) -> bool
-    ensures { result ≡ is_conversion token.now }
-{
-    matches!(token, "asFloat" | "asInt" | "isNaN" | "isInf")
-}
-
-fn push_conversion_advice(out: &mut String, token: &str) -> Result<(), AllocError>
-    ensures { OnOk result (string_bytes out.new ≡ string_bytes out.old ++ conversion_advice token.now) }
-{
-    if is_conversion(token) {
-        out.push_str("; leave it out: the shape says the kind")?;
-    }
-    Ok(())
-}
-
-fn push_advice(out: &mut String, cause: BuildCause, here: TokenAt<'_>) -> Result<(), AllocError>
-    ensures { OnOk result (string_bytes out.new ≡ string_bytes out.old
-        ++ cause_advice cause (found here.entry.before.now here.entry.token.now here.entry.after.now)) }
-{
-    match cause {
-        BuildCause::Grammar(SyntaxError::UnknownName(_)) => push_conversion_advice(out, here.token),
-        _ => Ok(()),
-    }
-}
-
-// ---- with the condition
-
-/// The text with the condition round a token.
-#[tactic(auto, unfolding(crate::specs::Conditions::with_quote))]
-fn with_quote(
-    alloc: Global,
-    text: String,
-    cause: BuildCause,
     here: Option<TokenAt<'_>>,
     operands: Option<Operands>,
-) -> Result<String, AllocError>
-    ensures { IfOk result (λ said. string_bytes said ≡ with_quote cause operands (string_bytes text)
+) -> Result<Option<Expected>, AllocError>
+    ensures { IfOk result (λ expected. expected ≡ option_map (λ here. wanted.Rule (operator_rule operands here))
         (option_map (λ here. found here.before.now here.token.now here.after.now) here.entry)) }
 {
-    let Some(here) = here else {
-        return Ok(text);
-    };
-    let mut text = cause_text(alloc, text, cause, here, operands)?;
-    text.push_str("; in ")?;
-    push_round(&mut text, here)?;
-    push_advice(&mut text, cause, here)?;
-    Ok(text)
+    match here {
+        Some(here) => rule(alloc, operator_rule(alloc, operands, here)?.as_str()),
+        None => Ok(None),
+    }
 }
 
-/// The text of a refusal of a condition, with the condition.
-#[tactic(auto, unfolding(crate::specs::Conditions::condition_words))]
-pub(crate) fn condition_text(
+fn kinds_expected(
     alloc: Global,
-    text: String,
+    error: TypeError,
+    here: Option<TokenAt<'_>>,
+    operands: Option<Operands>,
+) -> Result<Option<Expected>, AllocError>
+    ensures { IfOk result (λ expected. expected ≡ kinds_expected error
+        (option_map (λ here. found here.before.now here.token.now here.after.now) here.entry) operands) }
+{
+    match error {
+        TypeError::WrongOperand(_) => operator_expected(alloc, here, operands),
+        TypeError::NotAList(_) => {
+            thing(alloc, "a list, as {\"list\":shape,\"max\":number} declares")
+        }
+        TypeError::NoCommonKind(_) => thing(
+            alloc,
+            "one shape for all; \"whole\" and \"decimal\" have \"decimal\"",
+        ),
+        TypeError::NotScalar(_) => thing(
+            alloc,
+            "\"bool\", \"whole\", \"decimal\" or \"text\" as an item of a list",
+        ),
+        TypeError::NotTruth(_) => thing(
+            alloc,
+            "\"bool\" of the whole condition, as `result >= 0.95` gives",
+        ),
+        TypeError::PredicatesTooDeep(_) => thing(
+            alloc,
+            "at most four of all, any, none, one, count and filter in one another",
+        ),
+        TypeError::NoSuchField(_) | TypeError::OutOfMemory => Ok(None),
+    }
+}
+
+/// The operands of the operator at a token, where they are known.
+fn operands_at_token(
+    alloc: Global,
+    here: Option<TokenAt<'_>>,
+    operands: Option<Operands>,
+) -> Result<Option<Text>, AllocError>
+    ensures { IfOk result (λ text. text ≡ operands_at_token
+        (option_map (λ here. found here.before.now here.token.now here.after.now) here.entry) operands) }
+{
+    let (Some(here), Some(operands)) = (here, operands) else {
+        return Ok(None);
+    };
+    let is_membership = is_membership(here.token, Some(operands));
+    Ok(Some(operands_found(alloc, is_membership, operands)?))
+}
+
+fn kinds_found(
+    alloc: Global,
+    error: TypeError,
+    here: Option<TokenAt<'_>>,
+    operands: Option<Operands>,
+) -> Result<Option<Text>, AllocError>
+    ensures { IfOk result (λ text. text ≡ kinds_found error
+        (option_map (λ here. found here.before.now here.token.now here.after.now) here.entry) operands) }
+{
+    match error {
+        TypeError::WrongOperand(_) => operands_at_token(alloc, here, operands),
+        TypeError::NoSuchField(_) => Ok(Some(Text::of(alloc, "the record has no such field")?)),
+        _ => Ok(None),
+    }
+}
+
+/// A condition that has no kinds, at a token.
+#[tactic(auto, unfolding(crate::specs::Conditions::kinds_with))]
+fn kinds_with(
+    alloc: Global,
+    place: Place,
+    error: TypeError,
+    here: Option<TokenAt<'_>>,
+    operands: Option<Operands>,
+) -> Result<Diagnostic, AllocError>
+    ensures { IfOk result (λ it. it ≡ kinds_with place error
+        (option_map (λ here. found here.before.now here.token.now here.after.now) here.entry) operands) }
+{
+    let mut it = Diagnostic::named(alloc, place, error.name())?;
+    it.spot = spot_of(alloc, error.offset(), here)?;
+    it.found = kinds_found(alloc, error, here, operands)?;
+    it.expected = kinds_expected(alloc, error, here, operands)?;
+    Ok(it)
+}
+
+// ---- code
+
+/// Code that the verifier refuses: compiled code for its size alone.
+#[tactic(auto, unfolding(crate::specs::Conditions::code_diagnostic))]
+pub(crate) fn code_diagnostic(
+    alloc: Global,
+    place: Place,
+    reason: Reason,
+) -> Result<Diagnostic, AllocError>
+    ensures { IfOk result (λ it. it ≡ code_diagnostic place reason) }
+{
+    match reason {
+        Reason::StackTooDeep => {
+            Diagnostic::expecting(alloc, place, reason.name(), "at most 64 operands")
+        }
+        Reason::BudgetTooLarge => {
+            let mut it = Diagnostic::named(alloc, place, reason.name())?;
+            it.found = Some(Text::of(alloc, "a run may cost over 1000000000")?);
+            it.hint = Some(Text::of(alloc, "lower a list's max or nest fewer predicates")?);
+            Ok(it)
+        }
+        _ => Diagnostic::named(alloc, place, reason.name()),
+    }
+}
+
+/// A condition whose code would be too long.
+#[tactic(auto, unfolding(crate::specs::Conditions::length_diagnostic))]
+pub(crate) fn length_diagnostic(alloc: Global, place: Place) -> Result<Diagnostic, AllocError>
+    ensures { IfOk result (λ it. it ≡ length_diagnostic place) }
+{
+    let expected = "a condition of at most 4096 operations";
+    let mut it = Diagnostic::expecting(alloc, place, "TooManyOps", expected)?;
+    it.hint = Some(Text::of(alloc, "split it, or nest fewer calls and operators")?);
+    Ok(it)
+}
+
+// ---- a condition
+
+/// A condition that is refused, where `result` has a shape.
+#[tactic(auto, unfolding(crate::specs::Conditions::condition_diagnostic))]
+pub(crate) fn condition_diagnostic(
+    alloc: Global,
+    place: Place,
     shape: &Option<Shape>,
     condition: Option<&str>,
     cause: BuildCause,
-) -> Result<String, AllocError>
-    ensures { IfOk result (λ said. string_bytes said ≡ condition_words (option_map shape_view shape.now)
-        (option_map (λ text. text.now) condition.entry) cause (string_bytes text)) }
+) -> Result<Diagnostic, AllocError>
+    ensures { IfOk result (λ it. it ≡ condition_diagnostic place (option_map shape_view shape.now)
+        (option_map (λ text. text.now) condition.entry) cause) }
 {
-    let operands = refused_operands(alloc, shape, condition, cause)?;
-    let here = token_in(condition, offset_of(cause));
-    with_quote(alloc, text, cause, here, operands)
-}
-
-/// The text of a refusal of a metric's condition, with the condition.
-#[tactic(auto, unfolding(crate::specs::Conditions::build_words))]
-pub(crate) fn build_text(
-    alloc: Global,
-    text: String,
-    shape: &Option<Shape>,
-    condition: Option<&str>,
-    error: BuildError,
-) -> Result<String, AllocError>
-    ensures { IfOk result (λ said. string_bytes said ≡ build_words (option_map shape_view shape.now)
-        (option_map (λ text. text.now) condition.entry) error (string_bytes text)) }
-{
-    match error {
-        BuildError::Success(cause) | BuildError::Failure(cause) => {
-            condition_text(alloc, text, shape, condition, cause)
+    match cause {
+        BuildCause::Grammar(error) => {
+            syntax_with(alloc, place, error, syntax_token(condition, error))
         }
-        BuildError::OutOfMemory => Ok(text),
+        BuildCause::Kinds(error) => {
+            let operands = refused_operands(alloc, shape, condition, error)?;
+            let here = token_in(condition, error.offset());
+            kinds_with(alloc, place, error, here, operands)
+        }
+        BuildCause::Compiler(_) => length_diagnostic(alloc, place),
+        BuildCause::Verifier(_, reason) => code_diagnostic(alloc, place, reason),
+        BuildCause::OutOfMemory => Diagnostic::named(alloc, place, "OutOfMemory"),
     }
 }

@@ -1,19 +1,20 @@
 //! The field of a metric that holds a value of another kind than it takes.
 
-ghost use Rattle.std.specs.Prelude.{◌≡◌, IfOk, option_and_then, option_map, string_bytes};
+ghost use Rattle.std.specs.Prelude.{◌≡◌, IfOk, option_and_then, option_map};
 ghost use Rattle.serde_json.specs.View.{view};
-ghost use Rattle.ar_words.specs.Fields.{json_said, limit_misfit, limits_misfit, metric_misfit, misfit_said, text_misfit, texts_misfit};
+ghost use Rattle.ar_words.specs.Fields.{json_said, limit_misfit, limits_misfit, metric_misfit, misfit_of, text_misfit, texts_misfit};
 
 use ar_json::members::member;
+use ar_value::Text;
 use serde_json::Value as Json;
 use std::alloc::{AllocError, Global};
 
 /// A field of a metric, with a value of another kind than it takes.
 #[derive(Clone, Copy)]
-struct Misfit<'a> {
-    field: &'static str,
-    value: &'a Json,
-    expected: &'static str,
+pub(crate) struct Misfit<'a> {
+    pub field: &'static str,
+    pub value: &'a Json,
+    pub expected: &'static str,
 }
 
 fn json_said(json: &Json) -> &'static str
@@ -30,7 +31,7 @@ fn json_said(json: &Json) -> &'static str
 }
 
 fn text_misfit<'a>(metric: &'a Json, field: &'static str) -> Option<Misfit<'a>>
-    ensures { option_map (λ found. misfit_said found.field.now (view found.value.now) found.expected.now) result
+    ensures { option_map (λ found. misfit_of found.field.now (view found.value.now) found.expected.now) result
         ≡ text_misfit field.now (view metric.now) }
 {
     match member(metric, field)? {
@@ -44,7 +45,7 @@ fn text_misfit<'a>(metric: &'a Json, field: &'static str) -> Option<Misfit<'a>>
 }
 
 fn limit_misfit<'a>(metric: &'a Json, field: &'static str) -> Option<Misfit<'a>>
-    ensures { option_map (λ found. misfit_said found.field.now (view found.value.now) found.expected.now) result
+    ensures { option_map (λ found. misfit_of found.field.now (view found.value.now) found.expected.now) result
         ≡ limit_misfit field.now (view metric.now) }
 {
     match member(metric, field)? {
@@ -59,7 +60,7 @@ fn limit_misfit<'a>(metric: &'a Json, field: &'static str) -> Option<Misfit<'a>>
 
 /// The first misfit among conditions and `interval`.
 fn texts_misfit(metric: &Json) -> Option<Misfit<'_>>
-    ensures { option_map (λ found. misfit_said found.field.now (view found.value.now) found.expected.now) result
+    ensures { option_map (λ found. misfit_of found.field.now (view found.value.now) found.expected.now) result
         ≡ texts_misfit (view metric.now) }
 {
     text_misfit(metric, "successCondition")
@@ -69,7 +70,7 @@ fn texts_misfit(metric: &Json) -> Option<Misfit<'_>>
 
 /// The first misfit among limits.
 fn limits_misfit(metric: &Json) -> Option<Misfit<'_>>
-    ensures { option_map (λ found. misfit_said found.field.now (view found.value.now) found.expected.now) result
+    ensures { option_map (λ found. misfit_of found.field.now (view found.value.now) found.expected.now) result
         ≡ limits_misfit (view metric.now) }
 {
     limit_misfit(metric, "count")
@@ -78,24 +79,20 @@ fn limits_misfit(metric: &Json) -> Option<Misfit<'_>>
         .or(limit_misfit(metric, "consecutiveErrorLimit"))
 }
 
-fn misfit_said(alloc: Global, found: Misfit<'_>) -> Result<String, AllocError>
-    ensures { IfOk result (λ said. string_bytes said
-        ≡ misfit_said found.entry.field.now (view found.entry.value.now) found.entry.expected.now) }
+/// What the field of a misfit holds.
+pub(crate) fn field_said(alloc: Global, misfit: Misfit<'_>) -> Result<Text, AllocError>
+    ensures { IfOk result (λ text. text
+        ≡ (misfit_of misfit.entry.field.now (view misfit.entry.value.now) misfit.entry.expected.now).found) }
 {
-    let kind = json_said(found.value);
-    format!(in alloc; "`{}` is {kind}; expected {}", found.field, found.expected)
+    let kind = json_said(misfit.value);
+    Ok(Text::from(format!(in alloc; "`{}` is {kind}", misfit.field)?))
 }
 
-/// What is said of a metric's first field that holds a value of another kind than it takes.
-pub(crate) fn field_said(alloc: Global, metric: Option<&Json>) -> Result<Option<String>, AllocError>
-    ensures { IfOk result (λ said. option_map (λ said. string_bytes said) said
-        ≡ option_and_then metric_misfit (option_map (λ json. view json.now) metric.entry)) }
+/// A metric's first field that holds a value of another kind than it takes.
+pub(crate) fn metric_misfit(metric: Option<&Json>) -> Option<Misfit<'_>>
+    ensures { option_map (λ found. misfit_of found.field.now (view found.value.now) found.expected.now) result
+        ≡ option_and_then metric_misfit (option_map (λ json. view json.now) metric.entry) }
 {
-    let Some(metric) = metric else {
-        return Ok(None);
-    };
-    match texts_misfit(metric).or(limits_misfit(metric)) {
-        Some(found) => Ok(Some(misfit_said(alloc, found)?)),
-        None => Ok(None),
-    }
+    let metric = metric?;
+    texts_misfit(metric).or(limits_misfit(metric))
 }

@@ -1,27 +1,30 @@
-//! The words of refusals: a refusal's own text, with names of the document next to its numbers.
+//! The diagnostic of each refusal of a document, and a document's warnings.
 //!
-//! [`bundle_text`] and [`eval_text`] take a refusal with its own text, which the caller writes, and the
-//! document that was read, and return the text that `specs/Words` defines: which name comes after
-//! which words. How names and conditions are shown, so that each stays in its line, `ar_quote` says.
+//! [`bundle_diagnostic`] and [`eval_diagnostic`] take a refusal and the document that was read, and return the diagnostic
+//! that `specs/Documents` defines: where in the document, by number and name, what was found there, what is expected,
+//! and what helps. A condition is shown round the token at which it is refused. [`warnings_of`] is what a document has
+//! that is probably not meant (`specs/Warnings`).
 //!
-//! - `texts`: the texts, by the refusals; `conditions`: those of refusals of conditions
-//! - `found`, `fields`, `operands`: what is said of what was found
+//! - `documents`: refusals of documents; `templates`: of templates and their binding; `conditions`: of conditions
+//! - `fields`, `operands`, `hints`: what is said of what was found
 //! - `bindings`: what the template's texts are bound to by a run's arguments, and where they can't be
-//! - `cuts`: where words are in a text
-//! - `lists`: lists of a document, whose items have names; `names`: names as they are shown
-//! - `warnings`: what a document has that is probably not meant
+//! - `lists`: lists of a document, whose items have names; `items`: those items; `names`: names, listed
+//! - `said`: texts with names in them; `warnings`: warnings
 #![tactic(auto)]
 
 mod bindings;
 mod conditions;
-mod cuts;
+mod documents;
 mod fields;
-mod found;
+mod hints;
+mod items;
 mod lists;
 mod names;
 mod operands;
-mod texts;
+mod said;
+mod templates;
 mod warnings;
 
-pub use texts::{bundle_text, eval_text};
-pub use warnings::warnings_text;
+pub use documents::{bundle_diagnostic, eval_diagnostic};
+pub use names::{metrics_there, runs_there};
+pub use warnings::warnings_of;

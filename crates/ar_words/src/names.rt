@@ -1,12 +1,14 @@
-//! Names of a document, as they are shown next to the numbers of its items.
+//! How names of a document are listed.
 
-ghost use Rattle.std.specs.Prelude.{◌≡◌, ◌++◌, IfOk, OnOk, map, option_map, string_bytes, take};
+ghost use Rattle.std.specs.Prelude.{◌≡◌, ◌++◌, IfOk, OnOk, codes, map, option_map, string_bytes, take};
 ghost use Rattle.serde_json.specs.View.{view};
-ghost use Rattle.ar_words.specs.Names.{after_blank, named_item, most_listed, item_name, names_listed, names_text, others_counted};
+ghost use Rattle.ar_words.specs.Names.{item_name, metrics_there, most_listed, names_listed, names_text, nothing_named, others_counted, runs_there, those_there};
 ghost use Rattle.ar_words.specs.Private.Listed.{name_listed};
 
+use crate::lists::{metrics, runs};
 use ar_json::members::text_member;
 use ar_quote::push_quoted;
+use ar_value::Text;
 use serde_json::Value as Json;
 use std::alloc::{AllocError, Global};
 use std::fmt::Write;
@@ -14,36 +16,10 @@ use std::fmt::Write;
 /// How many items' names are listed.
 const MOST_LISTED: usize = 8;
 
-pub(crate) fn name_of(item: &Json) -> Option<&str>
+fn name_of(item: &Json) -> Option<&str>
     ensures { option_map (λ name. name.now) result ≡ item_name (view item.now) }
 {
     text_member(item, "name")
-}
-
-/// A name after a blank, if there is one.
-fn push_after_blank(out: &mut String, name: Option<&str>) -> Result<(), AllocError>
-    ensures { OnOk result (string_bytes out.new ≡ string_bytes out.old
-        ++ after_blank (option_map (λ name. name.now) name.entry)) }
-{
-    let Some(name) = name else {
-        return Ok(());
-    };
-    out.push_str(" ")?;
-    push_quoted(out, name)
-}
-
-/// An item of the document, by its kind, its number and its name.
-pub(crate) fn named_item(
-    alloc: Global,
-    kind: &str,
-    number: usize,
-    item: &Json,
-) -> Result<String, AllocError>
-    ensures { IfOk result (λ text. string_bytes text ≡ named_item kind.now number (view item.now)) }
-{
-    let mut text = format!(in alloc; "{kind} {number}")?;
-    push_after_blank(&mut text, name_of(item))?;
-    Ok(text)
 }
 
 /// A name in a list, if there is one: after others, or the first.
@@ -93,10 +69,82 @@ fn push_others(out: &mut String, count: usize) -> Result<(), AllocError>
 }
 
 /// The names of items, as many as a line has room for.
-pub(crate) fn push_names(out: &mut String, items: &[Json]) -> Result<(), AllocError>
+fn push_names(out: &mut String, items: &[Json]) -> Result<(), AllocError>
     ensures { OnOk result (string_bytes out.new ≡ string_bytes out.old
         ++ names_text (map (λ item. view item) items.now)) }
 {
     push_all(out, first(items))?;
     push_others(out, items.len())
+}
+
+/// Those of a kind that there are.
+fn push_those(out: &mut String, kinds: &str, items: &[Json]) -> Result<(), AllocError>
+    ensures { OnOk result (string_bytes out.new ≡ string_bytes out.old
+        ++ those_there kinds.now (map (λ item. view item) items.now)) }
+{
+    if items.is_empty() {
+        return write!(out, "there are no {kinds}");
+    }
+    write!(out, "{kinds} are ")?;
+    push_names(out, items)
+}
+
+/// Those of a kind that there are.
+pub(crate) fn those_there(alloc: Global, kinds: &str, items: &[Json]) -> Result<Text, AllocError>
+    ensures { IfOk result (λ text. text ≡ those_there kinds.now (map (λ item. view item) items.now)) }
+{
+    let mut text = String::new(alloc);
+    push_those(&mut text, kinds, items)?;
+    Ok(Text::from(text))
+}
+
+/// That no item of a kind has a name.
+fn push_nothing_named(out: &mut String, kind: &str, name: &str) -> Result<(), AllocError>
+    ensures { OnOk result (string_bytes out.new ≡ string_bytes out.old ++ nothing_named kind.now name.now) }
+{
+    write!(out, "no {kind} has the name ")?;
+    push_quoted(out, name)
+}
+
+/// That no item of a kind has a name.
+pub(crate) fn nothing_named(alloc: Global, kind: &str, name: &str) -> Result<Text, AllocError>
+    ensures { IfOk result (λ text. text ≡ nothing_named kind.now name.now) }
+{
+    let mut text = String::new(alloc);
+    push_nothing_named(&mut text, kind, name)?;
+    Ok(Text::from(text))
+}
+
+/// That no metric has a name, and the metrics that there are.
+pub(crate) fn no_metric_named(alloc: Global, name: &str, found: &[Json]) -> Result<Text, AllocError>
+    ensures { IfOk result (λ text. text ≡ nothing_named (codes "metric") name.now
+        ++ (codes "; " ++ those_there (codes "metrics") (map (λ item. view item) found.now))) }
+{
+    let mut text = String::new(alloc);
+    push_nothing_named(&mut text, "metric", name)?;
+    text.push_str("; ")?;
+    push_those(&mut text, "metrics", found)?;
+    Ok(Text::from(text))
+}
+
+/// The runs of a document.
+///
+/// # Errors
+///
+/// Out of memory alone.
+pub fn runs_there(alloc: Global, document: &Json) -> Result<Text, AllocError>
+    ensures { IfOk result (λ text. text ≡ runs_there (view document.now)) }
+{
+    those_there(alloc, "runs", runs(document).unwrap_or(&[]))
+}
+
+/// The metrics of a document.
+///
+/// # Errors
+///
+/// Out of memory alone.
+pub fn metrics_there(alloc: Global, document: &Json) -> Result<Text, AllocError>
+    ensures { IfOk result (λ text. text ≡ metrics_there (view document.now)) }
+{
+    those_there(alloc, "metrics", metrics(document).unwrap_or(&[]))
 }

@@ -3,14 +3,14 @@
 ghost use Rattle.std.specs.Prelude.{◌≡◌, ◌++◌, IfOk, OnOk, option_map, string_bytes};
 ghost use Rattle.serde_json.specs.View.{view};
 ghost use Rattle.ar_value.specs.View.{shape_view};
-ghost use Rattle.ar_words.specs.Operands.{between_operands, declaration_in, declared_shape, kind_said, operands_in, operands_said, refused_operands};
+ghost use Rattle.ar_words.specs.Operands.{between_operands, declaration_in, declared_shape, kind_said, operands_found, operands_in, refused_operands};
 
 use crate::lists::{metrics, text_at};
 use ar_check::found::{OperandKind, Operands};
 use ar_check::{TypeError, operands_at};
 use ar_json::shape_reading::{ShapeError, read_shape};
-use ar_judge::BuildCause;
 use ar_syntax::{SyntaxError, parse};
+use ar_value::Text;
 use ar_value::shape::Shape;
 use serde_json::Value as Json;
 use std::alloc::{AllocError, Global};
@@ -64,18 +64,18 @@ fn operands_in(
     }
 }
 
-/// The operands at which a condition is refused.
+/// The operands of the operator at which a condition is refused.
 pub(crate) fn refused_operands(
     alloc: Global,
     shape: &Option<Shape>,
     condition: Option<&str>,
-    cause: BuildCause,
+    error: TypeError,
 ) -> Result<Option<Operands>, AllocError>
     ensures { IfOk result (λ operands. operands ≡ refused_operands (option_map shape_view shape.now)
-        (option_map (λ text. text.now) condition.entry) cause) }
+        (option_map (λ text. text.now) condition.entry) error) }
 {
-    match cause {
-        BuildCause::Kinds(TypeError::WrongOperand(at)) => operands_in(alloc, shape, condition, at),
+    match error {
+        TypeError::WrongOperand(at) => operands_in(alloc, shape, condition, at),
         _ => Ok(None),
     }
 }
@@ -107,18 +107,14 @@ fn between_operands(is_membership: bool) -> &'static str
     }
 }
 
-/// What is said of operands, if there are any.
-pub(crate) fn push_operands(
+/// What operands are.
+fn push_operands(
     out: &mut String,
     is_membership: bool,
-    operands: Option<Operands>,
+    operands: Operands,
 ) -> Result<(), AllocError>
-    ensures { OnOk result (string_bytes out.new ≡ string_bytes out.old ++ operands_said is_membership operands) }
+    ensures { OnOk result (string_bytes out.new ≡ string_bytes out.old ++ operands_found is_membership operands) }
 {
-    let Some(operands) = operands else {
-        return Ok(());
-    };
-    out.push_str("; found ")?;
     match operands {
         Operands::Before(owner) => {
             out.push_str(kind_said(owner))?;
@@ -131,4 +127,17 @@ pub(crate) fn push_operands(
             out.push_str(kind_said(right))
         }
     }
+}
+
+/// What operands are.
+pub(crate) fn operands_found(
+    alloc: Global,
+    is_membership: bool,
+    operands: Operands,
+) -> Result<Text, AllocError>
+    ensures { IfOk result (λ text. text ≡ operands_found is_membership operands) }
+{
+    let mut text = String::new(alloc);
+    push_operands(&mut text, is_membership, operands)?;
+    Ok(Text::from(text))
 }

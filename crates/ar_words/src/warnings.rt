@@ -1,13 +1,16 @@
 //! Warnings of a document that has an answer: metrics without a condition, and fields that are ignored and
 //! close to ones that are read.
 
-ghost use Rattle.std.specs.Prelude.{◌≡◌, ◌++◌, [], IfOk, OnOk, map, option_map, string_bytes};
+ghost use Rattle.std.specs.Prelude.{◌≡◌, ◌++◌, IfOk, OnOk, map, option_map};
 ghost use Rattle.serde_json.specs.View.{view};
-ghost use Rattle.ar_words.specs.Warnings.{close, close_line, close_lines, close_to_metric, close_to_spec, condition_line, has_no_condition, is_left_out, lines_from, metric_warnings, read_over, spec_lines, warning, warnings_text};
+ghost use Rattle.ar_words.specs.Private.Sites.{place_at};
+ghost use Rattle.ar_words.specs.Warnings.{close, close_to_metric, close_to_spec, close_warning, close_warnings, condition_warning, has_no_condition, ignored, is_left_out, metric_warnings, spec_warnings, unconditional, warnings_from, warnings_of};
 
+use crate::items::copy_of;
 use crate::lists::metrics;
-use crate::names::named_item;
+use ar_diagnostic::{Diagnostic, Item, Place, SpecPart, Within};
 use ar_json::members::{member, member_of_member, text_member};
+use ar_value::Text;
 use serde_json::Value as Json;
 use std::alloc::{AllocError, Global};
 
@@ -58,66 +61,76 @@ fn close_to_metric() -> &'static [Close]
     ]
 }
 
-/// A warning of what is at a point of the document.
-#[tactic(auto, using(crate::proofs::WarningLines::is_warning))]
-fn push_warning(out: &mut String, at: &str, words: &str) -> Result<(), AllocError>
-    ensures { OnOk result (string_bytes out.new ≡ string_bytes out.old ++ warning at.now words.now) }
-{
-    out.push_str("argo_judge: warning: ")?;
-    out.push_str(at)?;
-    out.push_str(": ")?;
-    out.push_str(words)?;
-    out.push_str("\n")
+/// Where a warning is.
+#[derive(Clone, Copy)]
+enum Site<'d> {
+    Spec,
+    /// A metric, by its number.
+    Metric(usize, &'d Json),
 }
 
-/// What is said of a name that is ignored.
-#[tactic(auto, using(crate::proofs::WarningLines::is_read_over))]
-fn read_over(alloc: Global, name: &str, meant: &str) -> Result<String, AllocError>
-    ensures { IfOk result (λ words. string_bytes words ≡ read_over (close name.now meant.now)) }
+fn place_at(alloc: Global, site: Site<'_>) -> Result<Place, AllocError>
+    ensures { IfOk result (λ place. place ≡ place_at site.entry) }
 {
-    let mut words = String::from_str(alloc, "\"")?;
-    words.push_str(name)?;
-    words.push_str("\" is not read; did you mean \"")?;
-    words.push_str(meant)?;
-    words.push_str("\"?")?;
-    Ok(words)
+    match site {
+        Site::Spec => Ok(Place::Spec(SpecPart::Spec)),
+        Site::Metric(number, metric) => {
+            let name = copy_of(alloc, text_member(metric, "name"))?;
+            Ok(Place::Metric(Within::Template, Item { number, name }))
+        }
+    }
+}
+
+// ---- fields that are ignored
+
+/// A field that isn't read, and that which is close to it.
+fn ignored(alloc: Global, place: Place, name: &str, meant: &str) -> Result<Diagnostic, AllocError>
+    ensures { IfOk result (λ it. it ≡ ignored place (close name.now meant.now)) }
+{
+    let mut it = Diagnostic::named(alloc, place, "IgnoredField")?;
+    it.found = Some(Text::from(format!(in alloc; "\"{name}\" is not read")?));
+    it.hint = Some(Text::from(format!(in alloc; "did you mean \"{meant}\"?")?));
+    Ok(it)
 }
 
 /// A warning of a name that an object has.
 fn push_close(
     alloc: Global,
-    out: &mut String,
-    at: &str,
+    out: &mut Vec<Diagnostic>,
+    site: Site<'_>,
     object: &Json,
     name: &str,
     meant: &str,
 ) -> Result<(), AllocError>
-    ensures { OnOk result (string_bytes out.new ≡ string_bytes out.old
-        ++ close_line at.now (view object.now) (close name.now meant.now)) }
+    ensures { OnOk result (out.new.items
+        ≡ out.old.items ++ close_warning (place_at site.entry) (view object.now) (close name.now meant.now)) }
 {
     if member(object, name).is_none() {
         return Ok(());
     }
-    push_warning(out, at, read_over(alloc, name, meant)?.as_str())
+    let it = ignored(alloc, place_at(alloc, site)?, name, meant)?;
+    Ok(out.push(it)?)
 }
 
 /// Warnings of the names that an object has of some.
-#[tactic(auto, using(crate::proofs::WarningLines::next_close, crate::proofs::WarningLines::no_close))]
+#[tactic(auto, using(crate::proofs::Warned::next_close, crate::proofs::Warned::no_close))]
 fn push_all_close(
     alloc: Global,
-    out: &mut String,
-    at: &str,
+    out: &mut Vec<Diagnostic>,
+    site: Site<'_>,
     object: &Json,
     names: &[Close],
 ) -> Result<(), AllocError>
-    ensures { OnOk result (string_bytes out.new ≡ string_bytes out.old
-        ++ close_lines at.now (map (λ name. close name.0.now name.1.now) names.now) (view object.now)) }
+    ensures { OnOk result (out.new.items ≡ out.old.items ++ close_warnings (place_at site.entry)
+        (map (λ name. close name.0.now name.1.now) names.now) (view object.now)) }
 {
     for name in names {
-        push_close(alloc, out, at, object, name.0, name.1)?;
+        push_close(alloc, out, site, object, name.0, name.1)?;
     }
     Ok(())
 }
+
+// ---- metrics without a condition
 
 fn is_left_out(text: Option<&str>) -> bool
     ensures { result ≡ is_left_out (option_map (λ text. text.now) text.entry) }
@@ -135,39 +148,58 @@ fn has_no_condition(metric: &Json) -> bool
         && is_left_out(text_member(metric, "failureCondition"))
 }
 
+/// A metric without a condition.
+fn unconditional(alloc: Global, place: Place) -> Result<Diagnostic, AllocError>
+    ensures { IfOk result (λ it. it ≡ unconditional place) }
+{
+    let mut it = Diagnostic::named(alloc, place, "NoCondition")?;
+    let found = "no condition, so each measured value is Successful";
+    it.found = Some(Text::of(alloc, found)?);
+    Ok(it)
+}
+
 /// A warning of a metric that has no condition.
-fn push_condition(out: &mut String, at: &str, metric: &Json) -> Result<(), AllocError>
-    ensures { OnOk result (string_bytes out.new ≡ string_bytes out.old ++ condition_line at.now (view metric.now)) }
+fn push_condition(
+    alloc: Global,
+    out: &mut Vec<Diagnostic>,
+    site: Site<'_>,
+    metric: &Json,
+) -> Result<(), AllocError>
+    ensures { OnOk result
+        (out.new.items ≡ out.old.items ++ condition_warning (place_at site.entry) (view metric.now)) }
 {
     if !has_no_condition(metric) {
         return Ok(());
     }
-    push_warning(
-        out,
-        at,
-        "no condition, so each measured value is Successful",
-    )
+    let it = unconditional(alloc, place_at(alloc, site)?)?;
+    Ok(out.push(it)?)
 }
 
+// ---- documents
+
 /// Warnings of a metric.
-#[tactic(auto, using(crate::proofs::WarningLines::two))]
+#[tactic(auto, using(crate::proofs::Warned::two))]
 fn push_metric(
     alloc: Global,
-    out: &mut String,
+    out: &mut Vec<Diagnostic>,
     number: usize,
     metric: &Json,
 ) -> Result<(), AllocError>
-    ensures { OnOk result (string_bytes out.new ≡ string_bytes out.old ++ metric_warnings number (view metric.now)) }
+    ensures { OnOk result (out.new.items ≡ out.old.items ++ metric_warnings number (view metric.now)) }
 {
-    let at = named_item(alloc, "metric", number, metric)?;
-    push_all_close(alloc, out, at.as_str(), metric, close_to_metric())?;
-    push_condition(out, at.as_str(), metric)
+    let site = Site::Metric(number, metric);
+    push_all_close(alloc, out, site, metric, close_to_metric())?;
+    push_condition(alloc, out, site, metric)
 }
 
-#[tactic(auto, using(crate::proofs::WarningLines::next_metric, crate::proofs::WarningLines::no_metric))]
-fn push_metrics(alloc: Global, out: &mut String, metrics: &[Json]) -> Result<(), AllocError>
-    ensures { OnOk result (string_bytes out.new ≡ string_bytes out.old
-        ++ lines_from 0 (map (λ metric. view metric) metrics.now)) }
+#[tactic(auto, using(crate::proofs::Warned::next_metric, crate::proofs::Warned::no_metric))]
+fn push_metrics(
+    alloc: Global,
+    out: &mut Vec<Diagnostic>,
+    metrics: &[Json],
+) -> Result<(), AllocError>
+    ensures { OnOk result (out.new.items
+        ≡ out.old.items ++ warnings_from 0 (map (λ metric. view metric) metrics.now)) }
 {
     for (number, metric) in metrics.iter().enumerate() {
         push_metric(alloc, out, number, metric)?;
@@ -175,30 +207,34 @@ fn push_metrics(alloc: Global, out: &mut String, metrics: &[Json]) -> Result<(),
     Ok(())
 }
 
-fn push_spec(alloc: Global, out: &mut String, spec: Option<&Json>) -> Result<(), AllocError>
-    ensures { OnOk result (string_bytes out.new ≡ string_bytes out.old
-        ++ spec_lines (option_map (λ spec. view spec.now) spec.entry)) }
+fn push_spec(
+    alloc: Global,
+    out: &mut Vec<Diagnostic>,
+    spec: Option<&Json>,
+) -> Result<(), AllocError>
+    ensures { OnOk result (out.new.items
+        ≡ out.old.items ++ spec_warnings (option_map (λ spec. view spec.now) spec.entry)) }
 {
     match spec {
-        Some(spec) => push_all_close(alloc, out, "spec", spec, close_to_spec()),
+        Some(spec) => push_all_close(alloc, out, Site::Spec, spec, close_to_spec()),
         None => Ok(()),
     }
 }
 
-/// The warnings of a document, a line each.
+/// The warnings of a document.
 ///
 /// # Errors
 ///
 /// Out of memory alone.
-pub fn warnings_text(alloc: Global, document: &Json) -> Result<String, AllocError>
-    ensures { IfOk result (λ text. string_bytes text ≡ warnings_text (view document.now)) }
+pub fn warnings_of(alloc: Global, document: &Json) -> Result<Vec<Diagnostic>, AllocError>
+    ensures { IfOk result (λ found. found.items ≡ warnings_of (view document.now)) }
 {
-    let mut out = String::new(alloc);
+    let mut found = Vec::new(alloc);
     push_spec(
         alloc,
-        &mut out,
+        &mut found,
         member_of_member(document, "manifest", "spec"),
     )?;
-    push_metrics(alloc, &mut out, metrics(document).unwrap_or(&[]))?;
-    Ok(out)
+    push_metrics(alloc, &mut found, metrics(document).unwrap_or(&[]))?;
+    Ok(found)
 }

@@ -1,0 +1,179 @@
+-- Refusals of documents: of those that have runs, and of that which `eval` reads. A document is as it was written, and may
+-- be any JSON value: what isn't there isn't named.
+use Rattle.std.specs.Prelude.{ℕ, Bool, true, false, if◌then◌else◌, List, [], ◌++◌, codes, is_some, Option, Some, None}
+use Rattle.serde_json.specs.Data.{Data}
+use Rattle.serde_json.specs.Find.{get}
+use Rattle.ar_value.specs.Terms.{Text}
+use Rattle.ar_diagnostic.specs.Diagnostic.{expecting, named}
+use Rattle.ar_diagnostic.specs.declared.diagnostic.Diagnostic.{Diagnostic}
+use Rattle.ar_diagnostic.specs.declared.diagnostic.Expected.{Expected}
+use Rattle.ar_diagnostic.specs.declared.diagnostic.Expected.TheVariants.{Thing, Rule}
+use Rattle.ar_diagnostic.specs.declared.place.ConditionField.{ConditionField}
+use Rattle.ar_diagnostic.specs.declared.place.ConditionField.TheVariants as condition
+use Rattle.ar_diagnostic.specs.declared.place.EntryPart.TheVariants as entries
+use Rattle.ar_diagnostic.specs.declared.place.Item.{Item}
+use Rattle.ar_diagnostic.specs.declared.place.Member.TheVariants as members
+use Rattle.ar_diagnostic.specs.declared.place.Place.{Place}
+use Rattle.ar_diagnostic.specs.declared.place.Place.TheVariants as places
+use Rattle.ar_diagnostic.specs.declared.place.Within.TheVariants as within
+use Rattle.ar_document.specs.Refusals.{bundle_error_name}
+use Rattle.ar_document.specs.declared.error.BundleError.{BundleError}
+use Rattle.ar_document.specs.declared.error.BundleError.TheVariants as errors
+use Rattle.ar_eval.specs.declared.eval.EvalError.{EvalError}
+use Rattle.ar_eval.specs.declared.eval.EvalError.TheVariants as eval
+use Rattle.ar_json.specs.Members.{text_member}
+use Rattle.ar_json.specs.Refusals.{shape_error_name, shape_fault_name}
+use Rattle.ar_json.specs.declared.shape_reading.ShapeError.{ShapeError}
+use Rattle.ar_json.specs.declared.shape_reading.ShapeError.TheVariants as shapes
+use Rattle.ar_json.specs.declared.value_reading.ShapeFault.{ShapeFault}
+use Rattle.ar_json.specs.declared.value_reading.ShapeFault.TheVariants as faults
+use Rattle.ar_judge.specs.declared.error.BuildCause.TheVariants as causes
+use Rattle.ar_judge.specs.declared.error.BuildError.{BuildError}
+use Rattle.ar_judge.specs.declared.error.BuildError.TheVariants as build
+use Rattle.ar_manifest.specs.Cut.{cut_at}
+use Rattle.ar_quote.specs.Shown.{quoted}
+use Rattle.ar_syntax.specs.declared.error.SyntaxError.{SyntaxError}
+use Rattle.ar_syntax.specs.declared.error.SyntaxError.TheVariants.{Unexpected}
+use Rattle.ar_words.specs.Bindings.{condition_bound_for}
+use Rattle.ar_words.specs.Conditions.{code_diagnostic, condition_diagnostic, length_diagnostic}
+use Rattle.ar_words.specs.Items.{metric_of, run_of}
+use Rattle.ar_words.specs.Lists.{entry_text, metrics, runs, text_at}
+use Rattle.ar_words.specs.Names.{nothing_named, those_there}
+use Rattle.ar_words.specs.Operands.{declaration_in, declared_shape}
+use Rattle.ar_words.specs.Templates.{binding_diagnostic, template_diagnostic}
+
+-- ---- shapes
+
+abbrev pub shape_expected : ShapeError → Option Expected
+shape_expected shapes.TooDeep = Some (Rule (codes "a shape has at most 16 levels"))
+shape_expected shapes.UnknownShape =
+    Some (Thing
+    (codes "\"bool\", \"whole\", \"decimal\", \"text\", {\"list\":shape,\"max\":number}, {\"record\":{name:shape,..}} or {\"optional\":shape}"))
+shape_expected shapes.MaxMissing =
+    Some (Thing (codes "a list's greatest length as \"max\", a whole number of 0 or more"))
+shape_expected shapes.MaxTooLarge = Some (Rule (codes "the greatest length of a list is at most 10000"))
+shape_expected shapes.NestedOptional = Some (Rule (codes "an optional shape holds one that isn't optional"))
+shape_expected shapes.OutOfMemory = None
+
+abbrev pub shape_diagnostic : Place → ShapeError → Diagnostic
+shape_diagnostic place error =
+    record (named place (shape_error_name error)) { expected = shape_expected error }
+
+-- ---- conditions of metrics
+
+abbrev pub built_place : Data → (run metric : ℕ) → ConditionField → Place
+built_place document run metric field = places.Condition (run_of document run) (metric_of document metric) field
+
+-- a condition that can't be run, bound to the arguments of a run
+unfoldable pub built_diagnostic : Data → (run metric : ℕ) → BuildError → Diagnostic
+built_diagnostic document run metric (build.Success cause) =
+    condition_diagnostic (built_place document run metric condition.Success)
+    (declared_shape (declaration_in document metric))
+    (condition_bound_for document run metric (build.Success cause)) cause
+built_diagnostic document run metric (build.Failure cause) =
+    condition_diagnostic (built_place document run metric condition.Failure)
+    (declared_shape (declaration_in document metric))
+    (condition_bound_for document run metric (build.Failure cause)) cause
+built_diagnostic document run metric build.OutOfMemory = named places.Document (codes "OutOfMemory")
+
+-- ---- entries
+
+abbrev pub unknown_diagnostic : Place → (error kind kinds : Text) → (name : Option Text) → Option (List Data) → Diagnostic
+unknown_diagnostic place error kind kinds (Some name) (Some items) =
+    record (named place error) {
+      found = Some (nothing_named kind name);
+      hint = Some (those_there kinds items);
+    }
+unknown_diagnostic place error kind kinds name items = named place error
+
+abbrev pub unknown_run : Data → (entry : ℕ) → Diagnostic
+unknown_run document entry =
+    unknown_diagnostic (places.EntryMember entry entries.Run) (codes "UnknownRun") (codes "run") (codes "runs")
+    (entry_text (codes "run") entry document) (runs document)
+
+abbrev pub unknown_metric : Data → (entry : ℕ) → Diagnostic
+unknown_metric document entry =
+    unknown_diagnostic (places.EntryMember entry entries.Metric) (codes "UnknownMetric") (codes "metric")
+    (codes "metrics") (entry_text (codes "metric") entry document) (metrics document)
+
+-- ---- documents that have runs
+
+abbrev pub double_run : (name : Option Text) → Text
+double_run None = codes "an earlier run has the name, too"
+double_run (Some name) = codes "an earlier run has the name " ++ (quoted name ++ codes ", too")
+
+abbrev pub run_diagnostic : Item → Diagnostic
+run_diagnostic run = record (named (places.Run run) (codes "DoubleRun")) { found = Some (double_run run.name) }
+
+abbrev pub shape_place : Data → (metric : ℕ) → Place
+shape_place document metric = places.Metric within.Shapes (metric_of document metric)
+
+-- an input that is too large or no JSON is no document
+unfoldable pub bundle_diagnostic : Data → BundleError → Diagnostic
+bundle_diagnostic document (errors.Manifest cause) = template_diagnostic document cause
+bundle_diagnostic document (errors.ShapeMissing metric) =
+    expecting (shape_place document metric) (codes "ShapeMissing")
+    (codes "a shape in `shapes` for each metric, by its name")
+bundle_diagnostic document (errors.Shapes metric error) =
+    shape_diagnostic (shape_place document metric) error
+bundle_diagnostic document errors.Runs =
+    expecting (places.Member members.Runs) (codes "Runs")
+    (codes "a list of 1 to 64 runs, each with a text `name` and no `args` but texts by name")
+bundle_diagnostic document (errors.DoubleRun run) = run_diagnostic (run_of document run)
+bundle_diagnostic document (errors.Bind run cause) = binding_diagnostic document run cause
+bundle_diagnostic document (errors.Build run metric error) = built_diagnostic document run metric error
+bundle_diagnostic document errors.TooManyMeasurements =
+    expecting (places.Member members.Measurements) (codes "TooManyMeasurements") (codes "at most 100000 entries")
+bundle_diagnostic document (errors.BadEntry entry) =
+    expecting (places.Entry entry) (codes "BadEntry")
+    (codes "a list of entries with a text `run`, and `\"stop\":true` or a text `metric` and one of `value` and `error`")
+bundle_diagnostic document (errors.UnknownRun entry) = unknown_run document entry
+bundle_diagnostic document (errors.UnknownMetric entry) = unknown_metric document entry
+bundle_diagnostic document error = named places.Document (bundle_error_name error)
+
+-- ---- the document that `eval` reads
+
+abbrev pub misfit_expected : ShapeFault → Text
+misfit_expected faults.WrongKind = codes "a value of the declared shape"
+misfit_expected faults.FloatNumber = codes "a whole JSON number, or a decimal as a text, as \"0.95\""
+misfit_expected faults.NotFinite = codes "a finite number"
+misfit_expected faults.BadDecimal =
+    codes "digits with at most one point and an exponent or none, as \"0.95\" or \"9.5e-1\""
+misfit_expected faults.OutOfRange = codes "a whole of 64 bits, or a decimal whose millionths fit them"
+misfit_expected faults.ListTooLong = codes "a list of at most its shape's \"max\" items"
+misfit_expected faults.MissingField = codes "each field of the record's shape that isn't optional"
+misfit_expected faults.OutOfMemory = []
+
+abbrev pub has_braces : (condition : Option Text) → Bool
+has_braces None = false
+has_braces (Some text) = is_some (cut_at (codes "{{") text)
+
+-- arguments in braces are bound in templates alone
+abbrev pub with_braces : SyntaxError → (condition : Option Text) → Diagnostic → Diagnostic
+with_braces (Unexpected at) condition it =
+    if has_braces condition
+    then record it { hint = Some (codes "arguments as {{args.NAME}} are bound in a template, by check, list and run") }
+    else it
+with_braces error condition it = it
+
+abbrev pub condition_place : Place
+condition_place = places.Member members.Condition
+
+unfoldable pub eval_diagnostic : Data → EvalError → Diagnostic
+eval_diagnostic document eval.TooLarge = named places.Document (codes "TooLarge")
+eval_diagnostic document eval.Utf8OrJson = named places.Document (codes "Utf8OrJson")
+eval_diagnostic document eval.BadDocument =
+    expecting places.Document (codes "BadDocument")
+    (codes "an object with a text `condition`, a `shape` and a `value`")
+eval_diagnostic document (eval.Shape error) = shape_diagnostic (places.Member members.Shape) error
+eval_diagnostic document (eval.Grammar error) =
+    with_braces error (text_member (codes "condition") document)
+    (condition_diagnostic condition_place None (text_member (codes "condition") document) (causes.Grammar error))
+eval_diagnostic document (eval.Kinds error) =
+    condition_diagnostic condition_place (declared_shape (get (codes "shape") document))
+    (text_member (codes "condition") document) (causes.Kinds error)
+eval_diagnostic document (eval.Compiler error) = length_diagnostic condition_place
+eval_diagnostic document (eval.Verifier index reason) = code_diagnostic condition_place reason
+eval_diagnostic document (eval.Misfit fault) =
+    expecting (places.Member members.Value) (shape_fault_name fault) (misfit_expected fault)
+eval_diagnostic document eval.OutOfMemory = named places.Document (codes "OutOfMemory")

@@ -1,0 +1,69 @@
+-- What helps where a condition has something of another language.
+use Rattle.std.specs.Prelude.{Bool, ◌&&◌, ◌||◌, nat_eq, if◌then◌else◌, codes, Option, Some, None, option_and_then}
+use Rattle.std.specs.List.{ends_with, starts_with}
+use Rattle.std.specs.Option.{option_or}
+use Rattle.std.specs.Str.{bytes_eq}
+use Rattle.ar_value.specs.Terms.{Text}
+use Rattle.ar_manifest.specs.Cut.{cut_at}
+use Rattle.ar_quote.specs.Tokens.{TokenAt}
+use Rattle.ar_syntax.specs.declared.error.SyntaxError.{SyntaxError}
+use Rattle.ar_syntax.specs.declared.error.SyntaxError.TheVariants.{BadCharacter, Unexpected, UnknownName, ItemOutside}
+
+-- ---- Argo Rollouts' functions
+
+abbrev pub is_conversion : (token : Text) → Bool
+is_conversion token = bytes_eq token (codes "asFloat") || bytes_eq token (codes "asInt")
+
+abbrev pub is_float_test : (token : Text) → Bool
+is_float_test token = bytes_eq token (codes "isNaN") || bytes_eq token (codes "isInf")
+
+abbrev pub function_hint : (token : Text) → Option Text
+function_hint token =
+    if is_conversion token then Some (codes "leave it out: the shape says the kind")
+    else (if is_float_test token
+    then Some
+    (codes "NaN and infinities are no values: such a measurement is the error NotFinite, which counts towards `consecutiveErrorLimit`")
+    else None)
+
+-- ---- signs and words
+
+abbrev pub token_hint : (token : Text) → Option Text
+token_hint token =
+    if bytes_eq token (codes "=") then Some (codes "`==` compares")
+    else (if bytes_eq token (codes "`") then Some (codes "a text stands in \"..\" or '..'")
+    else (if bytes_eq token (codes "|") then Some (codes "there are no pipes; a call has its arguments in parentheses, as len(result)")
+    else (if bytes_eq token (codes "matches")
+    then Some (codes "there are no regular expressions; contains, startsWith and endsWith compare texts")
+    else None)))
+
+abbrev pub comes_after : (sign before : Text) → Bool
+comes_after sign before = ends_with nat_eq before sign
+
+abbrev pub begins_with : (sign token : Text) → Bool
+begins_with sign token = starts_with nat_eq token sign
+
+-- of a sign that two others make
+abbrev pub pair_hint : (before token : Text) → Option Text
+pair_hint before token =
+    if comes_after (codes "?") before && begins_with (codes "?") token
+    then Some (codes "there is no `??`; default(a, b) is b where a is nil")
+    else (if comes_after (codes "?") before && begins_with (codes ".") token
+    then Some (codes "there is no `?.`; isNil(a) || a.b > 0 tests a first")
+    else (if comes_after (codes "*") before && begins_with (codes "*") token
+    then Some (codes "there is no power; write a product")
+    else (if comes_after (codes ".") before && begins_with (codes ".") token
+    then Some (codes "there are no ranges; write two comparisons")
+    else None)))
+
+-- of a letter that continues a number
+abbrev pub exponent_hint : (token : Text) → Option Text
+exponent_hint token =
+    if begins_with (codes "e") token || begins_with (codes "E") token
+    then Some (codes "a number has no exponent; write 0.001 in place of 1e-3") else None
+
+abbrev pub syntax_hint : SyntaxError → TokenAt → Option Text
+syntax_hint (BadCharacter at) here = option_or (token_hint here.token) (exponent_hint here.token)
+syntax_hint (Unexpected at) here = option_or (token_hint here.token) (pair_hint here.before here.token)
+syntax_hint (ItemOutside at) here = pair_hint here.before here.token
+syntax_hint (UnknownName at) here = option_or (function_hint here.token) (token_hint here.token)
+syntax_hint error here = None

@@ -1,0 +1,337 @@
+//! Refusals of documents: of those that have runs, and of that which `eval` reads.
+
+ghost use Rattle.std.specs.Prelude.{◌≡◌, IfOk, map, option_map};
+ghost use Rattle.serde_json.specs.View.{view};
+ghost use Rattle.ar_words.specs.Documents.{built_diagnostic, built_place, bundle_diagnostic, condition_place, double_run, eval_diagnostic, has_braces, misfit_expected, run_diagnostic, shape_diagnostic, shape_expected, shape_place, unknown_diagnostic, unknown_metric, unknown_run, with_braces};
+
+use crate::bindings::{bound_of, refused_condition};
+use crate::conditions::{code_diagnostic, condition_diagnostic, length_diagnostic, rule, thing};
+use crate::items::{metric_of, run_of};
+use crate::lists::{entry_text, metrics, runs};
+use crate::names::{nothing_named, those_there};
+use crate::operands::{declaration_in, declared_shape};
+use crate::said::with_quoted;
+use crate::templates::{binding_diagnostic, template_diagnostic};
+use ar_diagnostic::{ConditionField, Diagnostic, EntryPart, Expected, Item, Member, Place, Within};
+use ar_document::BundleError;
+use ar_eval::EvalError;
+use ar_json::ShapeFault;
+use ar_json::members::text_member;
+use ar_json::shape_reading::ShapeError;
+use ar_judge::{BuildCause, BuildError};
+use ar_syntax::SyntaxError;
+use ar_value::Text;
+use serde_json::Value as Json;
+use std::alloc::{AllocError, Global};
+
+// ---- shapes
+
+fn shape_expected(alloc: Global, error: ShapeError) -> Result<Option<Expected>, AllocError>
+    ensures { IfOk result (λ expected. expected ≡ shape_expected error) }
+{
+    match error {
+        ShapeError::TooDeep => rule(alloc, "a shape has at most 16 levels"),
+        ShapeError::UnknownShape => thing(
+            alloc,
+            "\"bool\", \"whole\", \"decimal\", \"text\", {\"list\":shape,\"max\":number}, \
+             {\"record\":{name:shape,..}} or {\"optional\":shape}",
+        ),
+        ShapeError::MaxMissing => thing(
+            alloc,
+            "a list's greatest length as \"max\", a whole number of 0 or more",
+        ),
+        ShapeError::MaxTooLarge => rule(alloc, "the greatest length of a list is at most 10000"),
+        ShapeError::NestedOptional => {
+            rule(alloc, "an optional shape holds one that isn't optional")
+        }
+        ShapeError::OutOfMemory => Ok(None),
+    }
+}
+
+fn shape_diagnostic(
+    alloc: Global,
+    place: Place,
+    error: ShapeError,
+) -> Result<Diagnostic, AllocError>
+    ensures { IfOk result (λ it. it ≡ shape_diagnostic place error) }
+{
+    let mut it = Diagnostic::named(alloc, place, error.name())?;
+    it.expected = shape_expected(alloc, error)?;
+    Ok(it)
+}
+
+// ---- conditions of metrics
+
+fn built_place(
+    alloc: Global,
+    document: &Json,
+    run: usize,
+    metric: usize,
+    field: ConditionField,
+) -> Result<Place, AllocError>
+    ensures { IfOk result (λ place. place ≡ built_place (view document.now) run metric field) }
+{
+    let run = run_of(alloc, document, run)?;
+    let metric = metric_of(alloc, document, metric)?;
+    Ok(Place::Condition(run, metric, field))
+}
+
+/// The refusal of a condition of a metric, bound to the arguments of a run.
+#[tactic(auto, unfolding(crate::specs::Bindings::condition_bound_for, crate::specs::Documents::built_diagnostic))]
+fn built_diagnostic(
+    alloc: Global,
+    document: &Json,
+    run: usize,
+    metric: usize,
+    error: BuildError,
+) -> Result<Diagnostic, AllocError>
+    ensures { IfOk result (λ it. it ≡ built_diagnostic (view document.now) run metric error) }
+{
+    let (field, cause) = match error {
+        BuildError::Success(cause) => (ConditionField::Success, cause),
+        BuildError::Failure(cause) => (ConditionField::Failure, cause),
+        BuildError::OutOfMemory => return Diagnostic::named(alloc, Place::Document, "OutOfMemory"),
+    };
+    let bound = bound_of(alloc, document, run)?;
+    let condition = refused_condition(&bound, metric, error);
+    let shape = declared_shape(alloc, declaration_in(document, metric))?;
+    let place = built_place(alloc, document, run, metric, field)?;
+    condition_diagnostic(alloc, place, &shape, condition, cause)
+}
+
+// ---- entries
+
+/// An entry names nothing that there is.
+fn unknown_diagnostic(
+    alloc: Global,
+    place: Place,
+    error: &str,
+    kind: &str,
+    kinds: &str,
+    name: Option<&str>,
+    items: Option<&[Json]>,
+) -> Result<Diagnostic, AllocError>
+    ensures { IfOk result (λ it. it ≡ unknown_diagnostic place error.now kind.now kinds.now
+        (option_map (λ name. name.now) name.entry)
+        (option_map (λ list. map (λ item. view item) list.now) items.entry)) }
+{
+    let mut it = Diagnostic::named(alloc, place, error)?;
+    let (Some(name), Some(items)) = (name, items) else {
+        return Ok(it);
+    };
+    it.found = Some(nothing_named(alloc, kind, name)?);
+    it.hint = Some(those_there(alloc, kinds, items)?);
+    Ok(it)
+}
+
+fn unknown_run(alloc: Global, document: &Json, entry: usize) -> Result<Diagnostic, AllocError>
+    ensures { IfOk result (λ it. it ≡ unknown_run (view document.now) entry) }
+{
+    let place = Place::EntryMember(entry, EntryPart::Run);
+    let name = entry_text(document, entry, "run");
+    unknown_diagnostic(
+        alloc,
+        place,
+        "UnknownRun",
+        "run",
+        "runs",
+        name,
+        runs(document),
+    )
+}
+
+fn unknown_metric(alloc: Global, document: &Json, entry: usize) -> Result<Diagnostic, AllocError>
+    ensures { IfOk result (λ it. it ≡ unknown_metric (view document.now) entry) }
+{
+    let place = Place::EntryMember(entry, EntryPart::Metric);
+    let name = entry_text(document, entry, "metric");
+    let found = metrics(document);
+    unknown_diagnostic(
+        alloc,
+        place,
+        "UnknownMetric",
+        "metric",
+        "metrics",
+        name,
+        found,
+    )
+}
+
+// ---- documents that have runs
+
+fn double_run(alloc: Global, name: &Option<Text>) -> Result<Text, AllocError>
+    ensures { IfOk result (λ text. text ≡ double_run name.now) }
+{
+    match name {
+        Some(name) => with_quoted(
+            alloc,
+            "an earlier run has the name ",
+            name.as_str(),
+            ", too",
+        ),
+        None => Text::of(alloc, "an earlier run has the name, too"),
+    }
+}
+
+/// A run has the name of an earlier one.
+fn run_diagnostic(alloc: Global, run: Item) -> Result<Diagnostic, AllocError>
+    ensures { IfOk result (λ it. it ≡ run_diagnostic run) }
+{
+    let found = double_run(alloc, &run.name)?;
+    let mut it = Diagnostic::named(alloc, Place::Run(run), "DoubleRun")?;
+    it.found = Some(found);
+    Ok(it)
+}
+
+fn shape_place(alloc: Global, document: &Json, metric: usize) -> Result<Place, AllocError>
+    ensures { IfOk result (λ place. place ≡ shape_place (view document.now) metric) }
+{
+    Ok(Place::Metric(Within::Shapes, metric_of(alloc, document, metric)?))
+}
+
+/// The refusal of a document that has runs.
+///
+/// # Errors
+///
+/// Out of memory alone.
+#[tactic(auto, unfolding(crate::specs::Documents::bundle_diagnostic))]
+pub fn bundle_diagnostic(
+    alloc: Global,
+    document: &Json,
+    error: BundleError,
+) -> Result<Diagnostic, AllocError>
+    ensures { IfOk result (λ it. it ≡ bundle_diagnostic (view document.now) error) }
+{
+    match error {
+        BundleError::Manifest(cause) => template_diagnostic(alloc, document, cause),
+        BundleError::ShapeMissing(metric) => {
+            let place = shape_place(alloc, document, metric)?;
+            let expected = "a shape in `shapes` for each metric, by its name";
+            Diagnostic::expecting(alloc, place, error.name(), expected)
+        }
+        BundleError::Shapes(metric, cause) => {
+            let place = shape_place(alloc, document, metric)?;
+            shape_diagnostic(alloc, place, cause)
+        }
+        BundleError::Runs => {
+            let expected =
+                "a list of 1 to 64 runs, each with a text `name` and no `args` but texts by name";
+            Diagnostic::expecting(alloc, Place::Member(Member::Runs), error.name(), expected)
+        }
+        BundleError::DoubleRun(run) => run_diagnostic(alloc, run_of(alloc, document, run)?),
+        BundleError::Bind(run, cause) => binding_diagnostic(alloc, document, run, cause),
+        BundleError::Build(run, metric, cause) => {
+            built_diagnostic(alloc, document, run, metric, cause)
+        }
+        BundleError::TooManyMeasurements => {
+            let place = Place::Member(Member::Measurements);
+            Diagnostic::expecting(alloc, place, error.name(), "at most 100000 entries")
+        }
+        BundleError::BadEntry(entry) => {
+            let expected = "a list of entries with a text `run`, and `\"stop\":true` or a text \
+                            `metric` and one of `value` and `error`";
+            Diagnostic::expecting(alloc, Place::Entry(entry), error.name(), expected)
+        }
+        BundleError::UnknownRun(entry) => unknown_run(alloc, document, entry),
+        BundleError::UnknownMetric(entry) => unknown_metric(alloc, document, entry),
+        BundleError::TooLarge | BundleError::Utf8OrJson | BundleError::OutOfMemory => {
+            Diagnostic::named(alloc, Place::Document, error.name())
+        }
+    }
+}
+
+// ---- the document that `eval` reads
+
+fn misfit_expected(fault: ShapeFault) -> &'static str
+    ensures { result.now ≡ misfit_expected fault }
+{
+    match fault {
+        ShapeFault::WrongKind => "a value of the declared shape",
+        ShapeFault::FloatNumber => "a whole JSON number, or a decimal as a text, as \"0.95\"",
+        ShapeFault::NotFinite => "a finite number",
+        ShapeFault::BadDecimal =>
+            "digits with at most one point and an exponent or none, as \"0.95\" or \"9.5e-1\"",
+        ShapeFault::OutOfRange => "a whole of 64 bits, or a decimal whose millionths fit them",
+        ShapeFault::ListTooLong => "a list of at most its shape's \"max\" items",
+        ShapeFault::MissingField => "each field of the record's shape that isn't optional",
+        ShapeFault::OutOfMemory => "",
+    }
+}
+
+/// Whether a condition has braces, as references to arguments have in a template.
+fn has_braces(condition: Option<&str>) -> bool
+    ensures { result ≡ has_braces (option_map (λ text. text.now) condition.entry) }
+{
+    match condition {
+        Some(text) => text.contains("{{"),
+        None => false,
+    }
+}
+
+/// Arguments in braces are bound in templates alone.
+fn with_braces(
+    alloc: Global,
+    error: SyntaxError,
+    condition: Option<&str>,
+    mut it: Diagnostic,
+) -> Result<Diagnostic, AllocError>
+    ensures { IfOk result
+        (λ after. after ≡ with_braces error (option_map (λ text. text.now) condition.entry) it) }
+{
+    match error {
+        SyntaxError::Unexpected(_) if has_braces(condition) => {
+            let hint = "arguments as {{args.NAME}} are bound in a template, by check, list and run";
+            it.hint = Some(Text::of(alloc, hint)?);
+            Ok(it)
+        }
+        _ => Ok(it),
+    }
+}
+
+fn condition_place() -> Place
+    ensures { result ≡ condition_place }
+{
+    Place::Member(Member::Condition)
+}
+
+/// The refusal of what `eval` reads.
+///
+/// # Errors
+///
+/// Out of memory alone.
+#[tactic(auto, unfolding(crate::specs::Documents::eval_diagnostic))]
+pub fn eval_diagnostic(
+    alloc: Global,
+    document: &Json,
+    error: EvalError,
+) -> Result<Diagnostic, AllocError>
+    ensures { IfOk result (λ it. it ≡ eval_diagnostic (view document.now) error) }
+{
+    let condition = text_member(document, "condition");
+    match error {
+        EvalError::BadDocument => {
+            let expected = "an object with a text `condition`, a `shape` and a `value`";
+            Diagnostic::expecting(alloc, Place::Document, "BadDocument", expected)
+        }
+        EvalError::Shape(error) => { shape_diagnostic(alloc, Place::Member(Member::Shape), error) }
+        EvalError::Grammar(error) => {
+            let cause = BuildCause::Grammar(error);
+            let it = condition_diagnostic(alloc, condition_place(), &None, condition, cause)?;
+            with_braces(alloc, error, condition, it)
+        }
+        EvalError::Kinds(error) => {
+            let shape = declared_shape(alloc, document.get("shape"))?;
+            let cause = BuildCause::Kinds(error);
+            condition_diagnostic(alloc, condition_place(), &shape, condition, cause)
+        }
+        EvalError::Compiler(_) => length_diagnostic(alloc, condition_place()),
+        EvalError::Verifier(_, reason) => code_diagnostic(alloc, condition_place(), reason),
+        EvalError::Misfit(fault) => {
+            let place = Place::Member(Member::Value);
+            Diagnostic::expecting(alloc, place, fault.name(), misfit_expected(fault))
+        }
+        EvalError::TooLarge => Diagnostic::named(alloc, Place::Document, "TooLarge"),
+        EvalError::Utf8OrJson => Diagnostic::named(alloc, Place::Document, "Utf8OrJson"),
+        EvalError::OutOfMemory => Diagnostic::named(alloc, Place::Document, "OutOfMemory"),
+    }
+}

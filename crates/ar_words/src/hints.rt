@@ -1,0 +1,108 @@
+//! What helps where a condition has something of another language.
+
+ghost use Rattle.std.specs.Prelude.{◌≡◌, IfOk, option_map};
+ghost use Rattle.ar_quote.specs.Tokens.{found};
+ghost use Rattle.ar_words.specs.Hints.{begins_with, comes_after, exponent_hint, function_hint, is_conversion, is_float_test, pair_hint, syntax_hint, token_hint};
+
+use ar_quote::TokenAt;
+use ar_syntax::SyntaxError;
+
+// ---- Argo Rollouts' functions
+
+fn is_conversion(token: &str) -> bool
+    ensures { result ≡ is_conversion token.now }
+{
+    matches!(token, "asFloat" | "asInt")
+}
+
+fn is_float_test(token: &str) -> bool
+    ensures { result ≡ is_float_test token.now }
+{
+    matches!(token, "isNaN" | "isInf")
+}
+
+fn function_hint(token: &str) -> Option<&'static str>
+    ensures { option_map (λ hint. hint.now) result ≡ function_hint token.now }
+{
+    if is_conversion(token) {
+        Some("leave it out: the shape says the kind")
+    } else if is_float_test(token) {
+        Some(
+            "NaN and infinities are no values: such a measurement is the error NotFinite, which counts towards `consecutiveErrorLimit`",
+        )
+    } else {
+        None
+    }
+}
+
+// ---- signs and words
+
+fn token_hint(token: &str) -> Option<&'static str>
+    ensures { option_map (λ hint. hint.now) result ≡ token_hint token.now }
+{
+    match token {
+        "=" => Some("`==` compares"),
+        "`" => Some("a text stands in \"..\" or '..'"),
+        "|" => Some("there are no pipes; a call has its arguments in parentheses, as len(result)"),
+        "matches" => Some(
+            "there are no regular expressions; contains, startsWith and endsWith compare texts",
+        ),
+        _ => None,
+    }
+}
+
+fn comes_after(sign: &str, before: &str) -> bool
+    ensures { result ≡ comes_after sign.now before.now }
+{
+    before.ends_with(sign)
+}
+
+fn begins_with(sign: &str, token: &str) -> bool
+    ensures { result ≡ begins_with sign.now token.now }
+{
+    token.starts_with(sign)
+}
+
+/// Of a sign that two others make.
+fn pair_hint(before: &str, token: &str) -> Option<&'static str>
+    ensures { option_map (λ hint. hint.now) result ≡ pair_hint before.now token.now }
+{
+    if comes_after("?", before) && begins_with("?", token) {
+        Some("there is no `??`; default(a, b) is b where a is nil")
+    } else if comes_after("?", before) && begins_with(".", token) {
+        Some("there is no `?.`; isNil(a) || a.b > 0 tests a first")
+    } else if comes_after("*", before) && begins_with("*", token) {
+        Some("there is no power; write a product")
+    } else if comes_after(".", before) && begins_with(".", token) {
+        Some("there are no ranges; write two comparisons")
+    } else {
+        None
+    }
+}
+
+/// Of a letter that continues a number.
+fn exponent_hint(token: &str) -> Option<&'static str>
+    ensures { option_map (λ hint. hint.now) result ≡ exponent_hint token.now }
+{
+    if begins_with("e", token) || begins_with("E", token) {
+        Some("a number has no exponent; write 0.001 in place of 1e-3")
+    } else {
+        None
+    }
+}
+
+/// What helps at the token at which a condition is refused.
+pub(crate) fn syntax_hint(error: SyntaxError, here: TokenAt<'_>) -> Option<&'static str>
+    ensures { option_map (λ hint. hint.now) result
+        ≡ syntax_hint error (found here.entry.before.now here.entry.token.now here.entry.after.now) }
+{
+    match error {
+        SyntaxError::BadCharacter(_) => token_hint(here.token).or(exponent_hint(here.token)),
+        SyntaxError::Unexpected(_) => {
+            token_hint(here.token).or(pair_hint(here.before, here.token))
+        }
+        SyntaxError::ItemOutside(_) => pair_hint(here.before, here.token),
+        SyntaxError::UnknownName(_) => function_hint(here.token).or(token_hint(here.token)),
+        _ => None,
+    }
+}

@@ -1,0 +1,48 @@
+//! Items of a document's lists, as places name them.
+
+ghost use Rattle.std.specs.Prelude.{◌≡◌, IfOk, map, option_map};
+ghost use Rattle.serde_json.specs.View.{view};
+ghost use Rattle.ar_words.specs.Items.{item_of, metric_of, run_of};
+
+use crate::lists::{metrics, runs, text_at};
+use ar_diagnostic::Item;
+use ar_value::Text;
+use serde_json::Value as Json;
+use std::alloc::{AllocError, Global};
+
+/// A copy of a text, if there is one.
+pub(crate) fn copy_of(alloc: Global, text: Option<&str>) -> Result<Option<Text>, AllocError>
+    ensures { IfOk result (λ copy. copy ≡ option_map (λ text. text.now) text.entry) }
+{
+    match text {
+        Some(text) => Ok(Some(Text::of(alloc, text)?)),
+        None => Ok(None),
+    }
+}
+
+/// The item of a number, with its name, if it has one.
+pub(crate) fn item_of(
+    alloc: Global,
+    number: usize,
+    items: Option<&[Json]>,
+) -> Result<Item, AllocError>
+    ensures { IfOk result (λ item. item
+        ≡ item_of number (option_map (λ list. map (λ item. view item) list.now) items.entry)) }
+{
+    Ok(Item {
+        number,
+        name: copy_of(alloc, text_at(items, number, "name"))?,
+    })
+}
+
+pub(crate) fn metric_of(alloc: Global, document: &Json, number: usize) -> Result<Item, AllocError>
+    ensures { IfOk result (λ item. item ≡ metric_of (view document.now) number) }
+{
+    item_of(alloc, number, metrics(document))
+}
+
+pub(crate) fn run_of(alloc: Global, document: &Json, number: usize) -> Result<Item, AllocError>
+    ensures { IfOk result (λ item. item ≡ run_of (view document.now) number) }
+{
+    item_of(alloc, number, runs(document))
+}
