@@ -1,6 +1,7 @@
 //! What is said of something that is refused, or probably not meant.
 
-ghost use Rattle.std.specs.Prelude.{◌≡◌, IfOk};
+ghost use Rattle.std.specs.Prelude.{◌≡◌, IfOk, Some, option_map};
+ghost use Rattle.ar_diagnostic.specs.declared.diagnostic.Expected.TheVariants as wanted;
 ghost use Rattle.ar_diagnostic.specs.Diagnostic.{expecting, named};
 
 use crate::place::Place;
@@ -77,4 +78,30 @@ impl Diagnostic {
         it.expected = Some(Expected::Thing(Text::of(alloc, expected)?));
         Ok(it)
     }
+}
+
+// ---- parts
+
+/// A copy of a text, if there is one.
+pub fn copy_of(alloc: Global, text: Option<&str>) -> Result<Option<Text>, AllocError>
+    ensures { IfOk result (λ copy. copy ≡ option_map (λ text. text.now) text.entry) }
+{
+    match text {
+        Some(text) => Ok(Some(Text::of(alloc, text)?)),
+        None => Ok(None),
+    }
+}
+
+/// Something is expected in place of what was found.
+pub fn thing(alloc: Global, words: &str) -> Result<Option<Expected>, AllocError>
+    ensures { IfOk result (λ expected. expected ≡ Some (wanted.Thing words.now)) }
+{
+    Ok(Some(Expected::Thing(Text::of(alloc, words)?)))
+}
+
+/// A rule is expected to hold.
+pub fn rule(alloc: Global, words: &str) -> Result<Option<Expected>, AllocError>
+    ensures { IfOk result (λ expected. expected ≡ Some (wanted.Rule words.now)) }
+{
+    Ok(Some(Expected::Rule(Text::of(alloc, words)?)))
 }

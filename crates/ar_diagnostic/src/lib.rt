@@ -17,6 +17,6 @@ mod place;
 mod place_text;
 
 pub use data::{refusal_json, warnings_json};
-pub use diagnostic::{Diagnostic, Expected, Position, Spot};
+pub use diagnostic::{Diagnostic, Expected, Position, Spot, copy_of, rule, thing};
 pub use line::{refusal_line, warning_line};
 pub use place::{ConditionField, EntryPart, Flag, Item, Member, Place, SpecPart, Within};

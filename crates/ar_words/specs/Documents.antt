@@ -35,11 +35,11 @@ use Rattle.ar_quote.specs.Shown.{quoted}
 use Rattle.ar_syntax.specs.declared.error.SyntaxError.{SyntaxError}
 use Rattle.ar_syntax.specs.declared.error.SyntaxError.TheVariants.{Unexpected}
 use Rattle.ar_words.specs.Bindings.{condition_bound_for}
-use Rattle.ar_words.specs.Conditions.{code_diagnostic, condition_diagnostic, length_diagnostic}
+use Rattle.ar_condition_words.specs.Conditions.{code_diagnostic, condition_diagnostic, length_diagnostic}
 use Rattle.ar_words.specs.Items.{metric_of, run_of}
 use Rattle.ar_words.specs.Lists.{entry_text, metrics, runs, text_at}
 use Rattle.ar_words.specs.Names.{nothing_named, those_there}
-use Rattle.ar_words.specs.Operands.{declaration_in, declared_shape}
+use Rattle.ar_words.specs.Shapes.{declaration_in, declared_shape}
 use Rattle.ar_words.specs.Templates.{binding_diagnostic, template_diagnostic}
 
 -- ---- shapes

@@ -4,9 +4,7 @@ pub mod Names
 pub mod Items
 pub mod Fields
 pub mod Bindings
-pub mod Operands
-pub mod Hints
-pub mod Conditions
+pub mod Shapes
 pub mod Templates
 pub mod Documents
 pub mod Warnings

@@ -5,14 +5,16 @@ ghost use Rattle.serde_json.specs.View.{view};
 ghost use Rattle.ar_words.specs.Documents.{built_diagnostic, built_place, bundle_diagnostic, condition_place, double_run, eval_diagnostic, has_braces, misfit_expected, run_diagnostic, shape_diagnostic, shape_expected, shape_place, unknown_diagnostic, unknown_metric, unknown_run, with_braces};
 
 use crate::bindings::{bound_of, refused_condition};
-use crate::conditions::{code_diagnostic, condition_diagnostic, length_diagnostic, rule, thing};
 use crate::items::{metric_of, run_of};
 use crate::lists::{entry_text, metrics, runs};
 use crate::names::{nothing_named, those_there};
-use crate::operands::{declaration_in, declared_shape};
 use crate::said::with_quoted;
+use crate::shapes::{declaration_in, declared_shape};
 use crate::templates::{binding_diagnostic, template_diagnostic};
-use ar_diagnostic::{ConditionField, Diagnostic, EntryPart, Expected, Item, Member, Place, Within};
+use ar_condition_words::{code_diagnostic, condition_diagnostic, length_diagnostic};
+use ar_diagnostic::{
+    ConditionField, Diagnostic, EntryPart, Expected, Item, Member, Place, Within, rule, thing,
+};
 use ar_document::BundleError;
 use ar_eval::EvalError;
 use ar_json::ShapeFault;

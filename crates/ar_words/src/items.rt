@@ -5,20 +5,9 @@ ghost use Rattle.serde_json.specs.View.{view};
 ghost use Rattle.ar_words.specs.Items.{item_of, metric_of, run_of};
 
 use crate::lists::{metrics, runs, text_at};
-use ar_diagnostic::Item;
-use ar_value::Text;
+use ar_diagnostic::{Item, copy_of};
 use serde_json::Value as Json;
 use std::alloc::{AllocError, Global};
-
-/// A copy of a text, if there is one.
-pub(crate) fn copy_of(alloc: Global, text: Option<&str>) -> Result<Option<Text>, AllocError>
-    ensures { IfOk result (λ copy. copy ≡ option_map (λ text. text.now) text.entry) }
-{
-    match text {
-        Some(text) => Ok(Some(Text::of(alloc, text)?)),
-        None => Ok(None),
-    }
-}
 
 /// The item of a number, with its name, if it has one.
 pub(crate) fn item_of(

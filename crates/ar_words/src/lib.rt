@@ -2,26 +2,23 @@
 //!
 //! [`bundle_diagnostic`] and [`eval_diagnostic`] take a refusal and the document that was read, and return the diagnostic
 //! that `specs/Documents` defines: where in the document, by number and name, what was found there, what is expected,
-//! and what helps. A condition is shown round the token at which it is refused. [`warnings_of`] is what a document has
+//! and what helps. What is said of a condition `ar_condition_words` says. [`warnings_of`] is what a document has
 //! that is probably not meant (`specs/Warnings`).
 //!
-//! - `documents`: refusals of documents; `templates`: of templates and their binding; `conditions`: of conditions
-//! - `fields`, `operands`, `hints`: what is said of what was found
+//! - `documents`: refusals of documents; `templates`: of templates and their binding; `fields`: a metric's fields
 //! - `bindings`: what the template's texts are bound to by a run's arguments, and where they can't be
-//! - `lists`: lists of a document, whose items have names; `items`: those items; `names`: names, listed
+//! - `lists`: lists of a document, whose items have names; `items`: those items; `names`: names, listed; `shapes`: shapes
 //! - `said`: texts with names in them; `warnings`: warnings
 #![tactic(auto)]
 
 mod bindings;
-mod conditions;
 mod documents;
 mod fields;
-mod hints;
 mod items;
 mod lists;
 mod names;
-mod operands;
 mod said;
+mod shapes;
 mod templates;
 mod warnings;
 

@@ -9,11 +9,11 @@ ghost use Rattle.ar_words.specs.Templates.{argument_place, arguments_there, argu
 
 use crate::bindings::{limit_in, unbound_in};
 use crate::fields::{Misfit, field_said, metric_misfit};
-use crate::items::{copy_of, item_of, metric_of, run_of};
+use crate::items::{item_of, metric_of, run_of};
 use crate::lists::{item_at, list_in, metrics, template_list, text_at};
 use crate::names::{no_metric_named, those_there};
 use crate::said::with_quoted;
-use ar_diagnostic::{Diagnostic, Item, Member, Place, SpecPart, Within};
+use ar_diagnostic::{Diagnostic, Item, Member, Place, SpecPart, Within, copy_of};
 use ar_json::members::text_member;
 use ar_manifest::{LimitValue, ManifestError, RefusedLimit};
 use ar_quote::push_quoted;

@@ -6,9 +6,8 @@ ghost use Rattle.serde_json.specs.View.{view};
 ghost use Rattle.ar_words.specs.Private.Sites.{place_at};
 ghost use Rattle.ar_words.specs.Warnings.{close, close_to_metric, close_to_spec, close_warning, close_warnings, condition_warning, has_no_condition, ignored, is_left_out, metric_warnings, spec_warnings, unconditional, warnings_from, warnings_of};
 
-use crate::items::copy_of;
 use crate::lists::metrics;
-use ar_diagnostic::{Diagnostic, Item, Place, SpecPart, Within};
+use ar_diagnostic::{Diagnostic, Item, Place, SpecPart, Within, copy_of};
 use ar_json::members::{member, member_of_member, text_member};
 use ar_value::Text;
 use serde_json::Value as Json;

@@ -1,8 +1,7 @@
 -- What the operands of a condition are where one isn't of a kind that is taken.
 use Rattle.std.specs.Prelude.{ℕ, Bool, true, false, if◌then◌else◌, List, ◌++◌, codes, Option, Some, None, option_and_then}
+use Rattle.std.specs.Result.{result_ok}
 use Rattle.ar_value.specs.Terms.{Text}
-use Rattle.serde_json.specs.Data.{Data}
-use Rattle.serde_json.specs.Find.{get}
 use Rattle.ar_check.specs.Found.{operands_at}
 use Rattle.ar_check.specs.declared.error.TypeError.{TypeError}
 use Rattle.ar_check.specs.declared.error.TypeError.TheVariants as kinds
@@ -10,28 +9,12 @@ use Rattle.ar_check.specs.declared.found.OperandKind.{OperandKind}
 use Rattle.ar_check.specs.declared.found.OperandKind.TheVariants as operand
 use Rattle.ar_check.specs.declared.found.Operands.{Operands}
 use Rattle.ar_check.specs.declared.found.Operands.TheVariants.{Before, One, Two}
-use Rattle.ar_json.specs.Declaration.{shape_of}
 use Rattle.ar_syntax.specs.Parse.{parse_of}
 use Rattle.ar_value.specs.Shape.{Shape}
-use Rattle.ar_words.specs.Bindings.{made}
-use Rattle.ar_words.specs.Lists.{metrics, text_at}
-
--- ---- shapes
-
-abbrev pub declared_shape : Option Data → Option Shape
-declared_shape json = option_and_then (λ json. made (shape_of json)) json
-
--- the declaration of a metric's shape, by the metric's name
-abbrev pub declaration_in : Data → (metric : ℕ) → Option Data
-declaration_in document metric =
-    option_and_then (λ name. option_and_then (get name) (get (codes "shapes") document))
-    (text_at (codes "name") metric (metrics document))
-
--- ---- operands
 
 abbrev pub operands_in : Option Shape → (condition : Option Text) → (offset : ℕ) → Option Operands
 operands_in (Some shape) (Some condition) offset =
-    option_and_then (λ tree. operands_at shape tree offset) (made (parse_of condition))
+    option_and_then (λ tree. operands_at shape tree offset) (result_ok (parse_of condition))
 operands_in shape condition offset = None
 
 -- those of the operator at which a condition is refused

@@ -25,8 +25,8 @@ use Rattle.ar_safety.specs.declared.error.Reason.TheVariants.{StackTooDeep, Budg
 use Rattle.ar_syntax.specs.Refused.{syntax_error_name, syntax_refused_at}
 use Rattle.ar_syntax.specs.declared.error.SyntaxError.{SyntaxError}
 use Rattle.ar_syntax.specs.declared.error.SyntaxError.TheVariants as syntax
-use Rattle.ar_words.specs.Hints.{syntax_hint}
-use Rattle.ar_words.specs.Operands.{are_two, operands_found, refused_operands}
+use Rattle.ar_condition_words.specs.Hints.{syntax_hint}
+use Rattle.ar_condition_words.specs.Operands.{are_two, operands_found, refused_operands}
 
 -- ---- where
 

@@ -5,15 +5,14 @@ ghost use Rattle.ar_value.specs.View.{shape_view};
 ghost use Rattle.ar_diagnostic.specs.declared.diagnostic.Expected.TheVariants as wanted;
 ghost use Rattle.ar_quote.specs.Quote.{quoted_round};
 ghost use Rattle.ar_quote.specs.Tokens.{found};
-ghost use Rattle.ar_words.specs.Hints.{syntax_hint as grammar_hint};
-ghost use Rattle.ar_words.specs.Conditions.{code_diagnostic, condition_diagnostic, has_predicate, is_field, is_membership, kinds_expected, kinds_found, kinds_with, length_diagnostic, operands_at_token, operator_rule, spot_of, syntax_expected, syntax_found, syntax_token, syntax_with, taken, takes_alike, takes_numbers, takes_texts, token_in, unexpected_at};
+ghost use Rattle.ar_condition_words.specs.Hints.{syntax_hint as grammar_hint};
+ghost use Rattle.ar_condition_words.specs.Conditions.{code_diagnostic, condition_diagnostic, has_predicate, is_field, is_membership, kinds_expected, kinds_found, kinds_with, length_diagnostic, operands_at_token, operator_rule, spot_of, syntax_expected, syntax_found, syntax_token, syntax_with, taken, takes_alike, takes_numbers, takes_texts, token_in, unexpected_at};
 
 use crate::hints::syntax_hint;
-use crate::items::copy_of;
 use crate::operands::{operands_found, refused_operands};
 use ar_check::TypeError;
 use ar_check::found::Operands;
-use ar_diagnostic::{Diagnostic, Expected, Place, Spot};
+use ar_diagnostic::{Diagnostic, Expected, Place, Spot, copy_of, rule, thing};
 use ar_judge::BuildCause;
 use ar_quote::{TokenAt, push_quoted, push_round, token_at};
 use ar_safety::Reason;
@@ -59,20 +58,6 @@ fn spot_of(
     };
     let excerpt = excerpt_of(alloc, here)?;
     Ok(Some(Spot { offset, excerpt }))
-}
-
-// ---- what is expected
-
-pub(crate) fn thing(alloc: Global, words: &str) -> Result<Option<Expected>, AllocError>
-    ensures { IfOk result (λ expected. expected ≡ Some (wanted.Thing words.now)) }
-{
-    Ok(Some(Expected::Thing(Text::of(alloc, words)?)))
-}
-
-pub(crate) fn rule(alloc: Global, words: &str) -> Result<Option<Expected>, AllocError>
-    ensures { IfOk result (λ expected. expected ≡ Some (wanted.Rule words.now)) }
-{
-    Ok(Some(Expected::Rule(Text::of(alloc, words)?)))
 }
 
 // ---- the grammar
@@ -351,8 +336,12 @@ fn kinds_with(
 // ---- code
 
 /// Code that the verifier refuses: compiled code for its size alone.
+///
+/// # Errors
+///
+/// Out of memory alone.
 #[tactic(auto, unfolding(crate::specs::Conditions::code_diagnostic))]
-pub(crate) fn code_diagnostic(
+pub fn code_diagnostic(
     alloc: Global,
     place: Place,
     reason: Reason,
@@ -374,8 +363,12 @@ pub(crate) fn code_diagnostic(
 }
 
 /// A condition whose code would be too long.
+///
+/// # Errors
+///
+/// Out of memory alone.
 #[tactic(auto, unfolding(crate::specs::Conditions::length_diagnostic))]
-pub(crate) fn length_diagnostic(alloc: Global, place: Place) -> Result<Diagnostic, AllocError>
+pub fn length_diagnostic(alloc: Global, place: Place) -> Result<Diagnostic, AllocError>
     ensures { IfOk result (λ it. it ≡ length_diagnostic place) }
 {
     let expected = "a condition of at most 4096 operations";
@@ -387,8 +380,12 @@ pub(crate) fn length_diagnostic(alloc: Global, place: Place) -> Result<Diagnosti
 // ---- a condition
 
 /// A condition that is refused, where `result` has a shape.
+///
+/// # Errors
+///
+/// Out of memory alone.
 #[tactic(auto, unfolding(crate::specs::Conditions::condition_diagnostic))]
-pub(crate) fn condition_diagnostic(
+pub fn condition_diagnostic(
     alloc: Global,
     place: Place,
     shape: &Option<Shape>,

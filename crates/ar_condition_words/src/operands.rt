@@ -1,49 +1,15 @@
 //! What the operands of a condition are where one isn't of a kind that is taken.
 
 ghost use Rattle.std.specs.Prelude.{◌≡◌, ◌++◌, IfOk, OnOk, option_map, string_bytes};
-ghost use Rattle.serde_json.specs.View.{view};
 ghost use Rattle.ar_value.specs.View.{shape_view};
-ghost use Rattle.ar_words.specs.Operands.{between_operands, declaration_in, declared_shape, kind_said, operands_found, operands_in, refused_operands};
+ghost use Rattle.ar_condition_words.specs.Operands.{between_operands, kind_said, operands_found, operands_in, refused_operands};
 
-use crate::lists::{metrics, text_at};
 use ar_check::found::{OperandKind, Operands};
 use ar_check::{TypeError, operands_at};
-use ar_json::shape_reading::{ShapeError, read_shape};
 use ar_syntax::{SyntaxError, parse};
 use ar_value::Text;
 use ar_value::shape::Shape;
-use serde_json::Value as Json;
 use std::alloc::{AllocError, Global};
-
-// ---- shapes
-
-/// The shape that is declared, if one is.
-pub(crate) fn declared_shape(
-    alloc: Global,
-    json: Option<&Json>,
-) -> Result<Option<Shape>, AllocError>
-    ensures { IfOk result (λ shape. option_map shape_view shape
-        ≡ declared_shape (option_map (λ json. view json.now) json.entry)) }
-{
-    let Some(json) = json else {
-        return Ok(None);
-    };
-    match read_shape(alloc, json) {
-        Ok(shape) => Ok(Some(shape)),
-        Err(ShapeError::OutOfMemory) => Err(AllocError),
-        Err(_) => Ok(None),
-    }
-}
-
-/// The declaration of a metric's shape.
-pub(crate) fn declaration_in(document: &Json, metric: usize) -> Option<&Json>
-    ensures { option_map (λ json. view json.now) result ≡ declaration_in (view document.now) metric }
-{
-    let name = text_at(metrics(document), metric, "name")?;
-    document.get("shapes")?.get(name)
-}
-
-// ---- operands
 
 fn operands_in(
     alloc: Global,

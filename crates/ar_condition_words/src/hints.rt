@@ -2,7 +2,7 @@
 
 ghost use Rattle.std.specs.Prelude.{◌≡◌, IfOk, option_map};
 ghost use Rattle.ar_quote.specs.Tokens.{found};
-ghost use Rattle.ar_words.specs.Hints.{begins_with, comes_after, exponent_hint, function_hint, is_conversion, is_float_test, pair_hint, syntax_hint, token_hint};
+ghost use Rattle.ar_condition_words.specs.Hints.{begins_with, comes_after, exponent_hint, function_hint, is_conversion, is_float_test, pair_hint, syntax_hint, token_hint};
 
 use ar_quote::TokenAt;
 use ar_syntax::SyntaxError;

@@ -1,6 +1,6 @@
 use Rattle.std.proofs.Common.{arith}
 use Rattle.std.proofs.lemmas.Grind.{common_steps}
-use Rattle.ar_words.proofs.operands.push_operands.Goals as goal
+use Rattle.ar_condition_words.proofs.operands.push_operands.Goals as goal
 
 pub returns-in_ok-push_str-in-Before : goal.returns-in_ok-push_str-in-Before
 returns-in_ok-push_str-in-Before c = grind (arith, common_steps) steps 2000000
