@@ -1,6 +1,5 @@
 -- Worked command lines, computed by the definitions alone.
-use Rattle.std.proofs.Common.{◌≡◌, ◌++◌, ◌-◌, ◌^◌, List, [], ◌∷◌, Result, Ok, Err, codes, refl}
-use Rattle.ar_quote.specs.Shown.{quoted}
+use Rattle.std.proofs.Common.{◌≡◌, ◌-◌, ◌^◌, List, [], ◌∷◌, Result, Ok, Err, codes, refl}
 use Rattle.clap.specs.Words.{Kinds, Text, fault_of, subcommand_of}
 use Rattle.clap.specs.declared.error.kind.ErrorKind.TheVariants as kind
 use Rattle.clap.proofs.OnLiterals.{clap_on_literals}
@@ -8,7 +7,6 @@ use Rattle.ar_command_line.specs.CommandLine.{application, command_named}
 use Rattle.ar_command_line.specs.Selection as selection
 use Rattle.ar_command_line.specs.Task.{Task}
 use Rattle.ar_command_line.specs.Task as task
-use Rattle.ar_command_line.specs.Usage.{event_text, first_refused, value_given, words_text}
 use Rattle.ar_command_line.specs.declared.command_line.Format.TheVariants as formats
 use Rattle.ar_command_line.specs.declared.command_line.UsageError.{UsageError}
 use Rattle.ar_command_line.specs.declared.command_line.UsageError.TheVariants.{Workers, Event, Output, Conflict, Several}
@@ -129,42 +127,3 @@ explain_takes_few : (faults (codes "explain" ∷ codes "--workers=2" ∷ []) ≡
     × (asked (codes "explain" ∷ codes "--event=-1" ∷ []) ≡ Err Event)
 unfolding application clap_on_literals
 explain_takes_few = (refl, refl, refl, refl)
-
--- ---- what is said of words that are refused
-
-abbrev said_of : List Text → Text
-said_of words = words_text (codes "argo_judge" ∷ words)
-
-abbrev refuses : (word why : Text) → Text
-refuses word why = codes "command line: Words: " ++ (quoted word ++ why)
-
-of_explain : (said_of (codes "explain" ∷ codes "--event" ∷ [])
-    ≡ refuses (codes "--event") (codes " has no number after it; expected the number of a measurement, from 0"))
-    × (said_of (codes "explain" ∷ codes "--run" ∷ codes "--metric" ∷ codes "a" ∷ [])
-    ≡ refuses (codes "--metric") (codes " is no name; expected --run and the name of a run"))
-    × (said_of (codes "explain" ∷ codes "--run=a" ∷ codes "--output=json" ∷ codes "--run" ∷ codes "b" ∷ [])
-    ≡ refuses (codes "--run") (codes " isn't taken; `explain` takes one of --event N, --run NAME and --metric NAME, and --output FORMAT, each once"))
-    × (said_of (codes "explain" ∷ codes "--event=3" ∷ codes "3" ∷ [])
-    ≡ refuses (codes "3") (codes " isn't taken; the document is read from standard input, as by: argo_judge explain < document.json"))
-unfolding first_refused
-of_explain = (refl, refl, refl, refl)
-
-of_others : (said_of (codes "run" ∷ codes "--event=3" ∷ [])
-    ≡ refuses (codes "--event=3") (codes " isn't taken; `run` takes --workers N, --plain, --ordered and --output FORMAT, each once"))
-    × (said_of (codes "run" ∷ codes "--workers=3" ∷ codes "--plain" ∷ codes "--workers" ∷ codes "2" ∷ [])
-    ≡ refuses (codes "--workers") (codes " isn't taken; `run` takes --workers N, --plain, --ordered and --output FORMAT, each once"))
-    × (said_of (codes "eval" ∷ codes "--nonsense" ∷ [])
-    ≡ refuses (codes "--nonsense") (codes " isn't taken; `eval` and `check` take --output FORMAT, once"))
-    × (said_of (codes "list" ∷ codes "--output" ∷ codes "json" ∷ [])
-    ≡ refuses (codes "--output") (codes " isn't taken; `list` has no options but --help"))
-    × (said_of (codes "explains" ∷ [])
-    ≡ refuses (codes "explains") (codes " is no command; expected `eval`, `check`, `list`, `run` or `explain`, or --help"))
-unfolding first_refused
-of_others = (refl, refl, refl, refl, refl)
-
-of_events : (event_text (codes "argo_judge" ∷ codes "explain" ∷ codes "--event" ∷ codes "first" ∷ [])
-    ≡ codes "command line, --event: Event: " ++ ((quoted (codes "first") ++ codes " isn't taken; ") ++ codes "expected the number of a measurement, from 0"))
-    × (event_text (codes "argo_judge" ∷ codes "explain" ∷ codes "--event=x" ∷ [])
-    ≡ codes "command line, --event: Event: " ++ ((quoted (codes "x") ++ codes " isn't taken; ") ++ codes "expected the number of a measurement, from 0"))
-unfolding value_given
-of_events = (refl, refl)

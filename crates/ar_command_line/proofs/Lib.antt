@@ -4,7 +4,6 @@ pub mod Building
 pub mod Facts
 pub mod Faults
 pub mod Parsing
-pub mod Refused
 pub mod Histories
 pub mod Retries
 pub mod Writing

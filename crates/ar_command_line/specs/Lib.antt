@@ -7,4 +7,4 @@ pub mod Output
 pub mod Selection
 pub mod Task
 pub mod CommandLine
-pub mod Usage
+pub mod Refusals

@@ -3,6 +3,7 @@
 ghost use Rattle.std.specs.Prelude.{◌≡◌, ◌≢◌, ◌≤◌, [], codes, false, is_some, Err, IfOk, IsErr, IsTrue, Ok};
 ghost use Rattle.clap.specs.Words.{App, app_of, fault_of, found_of, kind_of, new_app, rows_of, rule_of, subcommand_rows_of, with_rule, with_subcommand};
 ghost use Rattle.ar_command_line.specs.CommandLine.{AsksForText, application, command_named, explain_app, explain_command, flag_named, has_flag, is_request, format_named, format_of, named, number_of_workers, option_named, program, run_app, run_command, texts_of, with_output, without_run, workers_of, AsksForCommand};
+ghost use Rattle.ar_command_line.specs.Refusals.{usage_error_name};
 ghost use Rattle.ar_command_line.specs.Task.{asked};
 
 use crate::help::{CHECK_HELP, EVAL_HELP, EXPLAIN_HELP, HELP, LIST_HELP, RUN_HELP};
@@ -53,21 +54,37 @@ pub enum Command<'w> {
 /// Why a command line asks for nothing.
 #[derive(Clone, Copy, Debug, Error)]
 pub enum UsageError {
-    #[error("command line: Words: expected `eval`, `check`, `list`, `run` or `explain`, with the document on \
-             standard input, or --help")]
+    #[error("Words")]
     Words,
-    #[error("command line, --workers: Workers: expected a whole number from 1 to 16")]
+    #[error("Workers")]
     Workers,
-    #[error("command line, --event: Event: expected the number of a measurement, from 0")]
+    #[error("Event")]
     Event,
-    #[error("command line, --output: Output: expected text or json")]
+    #[error("Output")]
     Output,
-    #[error("command line, --ordered: Conflict: expected --ordered or --plain, not both")]
+    #[error("Conflict")]
     Conflict,
-    #[error("command line: Several: expected one of --event, --run and --metric, not several")]
+    #[error("Several")]
     Several,
-    #[error("out of memory")]
+    #[error("OutOfMemory")]
     OutOfMemory,
+}
+
+impl UsageError {
+    /// The variant's name.
+    pub fn name(self) -> &'static str
+        ensures { result.now ≡ usage_error_name self }
+    {
+        match self {
+            UsageError::Words => "Words",
+            UsageError::Workers => "Workers",
+            UsageError::Event => "Event",
+            UsageError::Output => "Output",
+            UsageError::Conflict => "Conflict",
+            UsageError::Several => "Several",
+            UsageError::OutOfMemory => "OutOfMemory",
+        }
+    }
 }
 
 impl From<AllocError> for UsageError {

@@ -7,9 +7,9 @@
 //! number of workers is none from 1 to 16, `Event` where the number of an event is none; else `Output` where
 //! its [`Format`] is none; else `Conflict` where `run` is to be both ordered and plain, and `Several` where
 //! the [`Selection`] of `explain` has several options. Where `clap` finds a fault, `Words` is returned. Only
-//! out of memory can keep it from that. [`shown`] is the text of `--help` or `--version`, where the words
-//! ask for one. The names in a selection are words of the command line, which it borrows; contracts compare
-//! commands by their tasks (`specs/Task`), in which a name is its bytes.
+//! out of memory can keep it from that. What is said of a [`UsageError`] is `ar_usage`'s. [`shown`] is the text of
+//! `--help` or `--version`, where the words ask for one. The names in a selection are words of the command line,
+//! which it borrows; contracts compare commands by their tasks (`specs/Task`), in which a name is its bytes.
 //!
 //! A [`Source`] and a [`Sink`] report what was read and written and whether that failed. A [`Device`] makes
 //! either of a reader or a writer of the standard library, and keeps the first fault; [`Kept`] is a source
@@ -20,9 +20,6 @@
 //! - `command_line`: the calls, and the command line as `clap` builds it; `selection`: which events are
 //!   explained
 //! - `help`: the texts of `--help`
-//! - [`usage`]: what is said of words that are refused (`specs/Usage`, which reads the words without
-//!   `clap`): the first that isn't taken, and why ([`words_text`]), the number of workers
-//!   ([`workers_text`]) or of an event ([`event_text`]), or the format ([`output_text`])
 //! - [`stream`]: what an input is read from and what an output is written to; [`input`]: reading a whole
 //!   document; [`output`]: writing a whole output
 //! - [`device`]: readers and writers of the standard library, over `retrying`, which makes interrupted calls again;
@@ -39,7 +36,6 @@ pub mod raw;
 mod retrying;
 mod selection;
 pub mod stream;
-pub mod usage;
 
 pub use command_line::{Command, DEFAULT_WORKERS, Format, UsageError, VERSION, command_of, shown};
 pub use device::Device;
@@ -49,4 +45,3 @@ pub use output::write_output;
 pub use raw::{RawRead, RawWrite};
 pub use selection::Selection;
 pub use stream::{DeviceFault, Sink, Source};
-pub use usage::{event_text, output_text, words_text, workers_text};

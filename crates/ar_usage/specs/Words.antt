@@ -1,36 +1,33 @@
--- The first word of a command line that isn't taken, and what is said of it.
-use Rattle.std.specs.Prelude.{ℕ, Bool, true, false, not, ◌&&◌, ◌||◌, nat_eq, if◌then◌else◌, List, [], ◌∷◌, ◌++◌, codes, drop, length, Option, Some, None, is_some}
+-- The words of a command line: the first that isn't taken, and the values of options.
+use Rattle.std.specs.Prelude.{ℕ, Bool, true, false, not, ◌&&◌, ◌||◌, nat_eq, if◌then◌else◌, List, [], ◌∷◌, codes, drop, length, Option, Some, None, is_some}
 use Rattle.std.specs.List.{starts_with}
 use Rattle.std.specs.Option.{option_and_then, option_or}
 use Rattle.std.specs.Str.{bytes_eq}
 use Rattle.ar_value.specs.Terms.{Text}
-use Rattle.ar_command_line.specs.declared.usage.Given.{Given}
-use Rattle.ar_command_line.specs.declared.usage.Next.{Next}
-use Rattle.ar_command_line.specs.declared.usage.Next.TheVariants.{Command, Nothing, Options, Value}
-use Rattle.ar_command_line.specs.declared.usage.Taker.{Taker}
-use Rattle.ar_command_line.specs.declared.usage.Taker.TheVariants.{EvalOrCheck, Run, Explain}
-use Rattle.ar_command_line.specs.declared.usage.Valued.{Valued}
-use Rattle.ar_command_line.specs.declared.usage.Valued.TheVariants.{Workers, Output, Event, RunName, MetricName}
-use Rattle.ar_quote.specs.Shown.{quoted}
+use Rattle.ar_diagnostic.specs.Place.{flag_name}
+use Rattle.ar_diagnostic.specs.declared.place.Flag.{Flag}
+use Rattle.ar_diagnostic.specs.declared.place.Flag.TheVariants as flags
+use Rattle.ar_usage.specs.declared.words.Given.{Given}
+use Rattle.ar_usage.specs.declared.words.Next.{Next}
+use Rattle.ar_usage.specs.declared.words.Next.TheVariants.{Command, Nothing, Options, Value}
+use Rattle.ar_usage.specs.declared.words.Taker.{Taker}
+use Rattle.ar_usage.specs.declared.words.Taker.TheVariants.{EvalOrCheck, Run, Explain}
+use Rattle.ar_usage.specs.declared.words.Valued.{Valued}
+use Rattle.ar_usage.specs.declared.words.Valued.TheVariants.{Workers, Output, Event, RunName, MetricName}
 
 -- ---- options that have a value
 
+abbrev pub flag_of : Valued → Flag
+flag_of Workers = flags.Workers
+flag_of Output = flags.Output
+flag_of Event = flags.Event
+flag_of RunName = flags.Run
+flag_of MetricName = flags.Metric
+
 abbrev pub name_of : Valued → Text
-name_of Workers = codes "--workers"
-name_of Output = codes "--output"
-name_of Event = codes "--event"
-name_of RunName = codes "--run"
-name_of MetricName = codes "--metric"
+name_of option = flag_name (flag_of option)
 
--- what the value is,
-abbrev pub noun_of : Valued → Text
-noun_of Workers = codes "number"
-noun_of Output = codes "format"
-noun_of Event = codes "number"
-noun_of RunName = codes "name"
-noun_of MetricName = codes "name"
-
--- and of what
+-- what is expected as the value
 abbrev pub expected : Valued → Text
 expected Workers = codes "a whole number from 1 to 16"
 expected Output = codes "text or json"
@@ -137,49 +134,6 @@ first_refused next [] = at_end next
 first_refused next (word ∷ words) =
     following_or (next, word) (λ following. first_refused following words) (after next word)
 
--- ---- what is said of it
-
-abbrev pub option_reason : Taker → Text
-option_reason EvalOrCheck = codes " isn't taken; `eval` and `check` take --output FORMAT, once"
-option_reason Run =
-    codes " isn't taken; `run` takes --workers N, --plain, --ordered and --output FORMAT, each once"
-option_reason Explain =
-    codes
-    " isn't taken; `explain` takes one of --event N, --run NAME and --metric NAME, and --output FORMAT, each once"
-
--- a word that is no option
-abbrev pub word_reason : Taker → Text
-word_reason EvalOrCheck =
-    codes " isn't taken; the document is read from standard input, as by: argo_judge COMMAND < document.json"
-word_reason Run =
-    codes " isn't taken; the document is read from standard input, as by: argo_judge run --plain < document.json"
-word_reason Explain =
-    codes " isn't taken; the document is read from standard input, as by: argo_judge explain < document.json"
-
--- an option that nothing follows, or what follows it in place of its value
-abbrev pub value_reason : Valued → (word : Text) → Text
-value_reason option word =
-    if bytes_eq word (name_of option)
-    then codes " has no " ++ (noun_of option ++ (codes " after it; expected " ++ expected option))
-    else codes " is no "
-    ++ (noun_of option ++ (codes "; expected " ++ (name_of option ++ (codes " and " ++ expected option))))
-
-abbrev pub reason : Next → (word : Text) → Text
-reason Command word = codes " is no command; expected `eval`, `check`, `list`, `run` or `explain`, or --help"
-reason Nothing word =
-    if is_option word then codes " isn't taken; `list` has no options but --help" else word_reason EvalOrCheck
-reason (Options taker given) word = if is_option word then option_reason taker else word_reason taker
-reason (Value option taker given) word = value_reason option word
-
-abbrev pub said : Option (Next × List ℕ) → Text
-said None =
-    codes "expected `eval`, `check`, `list`, `run` or `explain`, with the document on standard input, or --help"
-said (Some refused) = quoted refused.1 ++ reason refused.0 refused.1
-
--- of words of which the first is the program's name
-abbrev pub words_text : (words : List (List ℕ)) → Text
-words_text words = codes "command line: Words: " ++ said (first_refused Command (drop 1 words))
-
 -- ---- the values of options
 
 abbrev pub first_of : (words : List (List ℕ)) → Option (List ℕ)
@@ -194,20 +148,3 @@ value_of option word rest = if bytes_eq word (name_of option) then first_of rest
 unfoldable pub value_given : Valued → (words : List (List ℕ)) → Option (List ℕ)
 value_given option [] = None
 value_given option (word ∷ words) = option_or (value_of option word words) (value_given option words)
-
-abbrev pub value_said : Option (List ℕ) → Text
-value_said None = []
-value_said (Some value) = quoted value ++ codes " isn't taken; "
-
-abbrev pub option_text : Valued → (place : Text) → (words : List (List ℕ)) → Text
-option_text option place words =
-    place ++ (value_said (value_given option words) ++ (codes "expected " ++ expected option))
-
-abbrev pub workers_text : (words : List (List ℕ)) → Text
-workers_text words = option_text Workers (codes "command line, --workers: Workers: ") words
-
-abbrev pub event_text : (words : List (List ℕ)) → Text
-event_text words = option_text Event (codes "command line, --event: Event: ") words
-
-abbrev pub output_text : (words : List (List ℕ)) → Text
-output_text words = option_text Output (codes "command line, --output: Output: ") words

@@ -6,9 +6,9 @@ use Rattle.std.proofs.lemmas.Str.Pattern.{starts_text}
 use Rattle.std.specs.List.{starts_with}
 use Rattle.std.specs.Option.{option_and_then}
 use Rattle.std.specs.Str.Pattern.{LacksTextAt}
-use Rattle.ar_command_line.specs.Usage.{after, after_prefix, at_end, first_refused, name_of, value_given, value_in, value_of}
-use Rattle.ar_command_line.specs.declared.usage.Next.{Next}
-use Rattle.ar_command_line.specs.declared.usage.Valued.{Valued}
+use Rattle.ar_usage.specs.Words.{after, after_prefix, at_end, first_refused, name_of, value_given, value_in, value_of}
+use Rattle.ar_usage.specs.declared.words.Next.{Next}
+use Rattle.ar_usage.specs.declared.words.Valued.{Valued}
 
 module _ {B : Type 0} (text : B → List ℕ) (words : List B) (index : ℕ) (word : B) (within : index < length words) (is : word ≡ slice_index_or words index word) where
   left : drop index words ≡ word ∷ drop (suc index) words

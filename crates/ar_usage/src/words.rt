@@ -1,10 +1,9 @@
-//! What is said of a command line whose words aren't taken.
+//! The words of a command line: the first that isn't taken, and the values of options.
 
-ghost use Rattle.std.specs.Prelude.{◌≡◌, ◌++◌, IfOk, OnOk, drop, map, option_map, string_bytes};
-ghost use Rattle.ar_command_line.specs.Usage.{after, after_flag, after_option, after_own, after_valued, at_end, event_text, expected, first_refused, has_output, is_given, is_new, is_option, name_of, noun_of, option_reason, option_text, output_text, reason, said, value_given, value_in, value_of, value_reason, value_said, with, word_reason, words_text, workers_text};
+ghost use Rattle.std.specs.Prelude.{◌≡◌, map, option_map, string_bytes};
+ghost use Rattle.ar_usage.specs.Words.{after, after_flag, after_option, after_own, after_valued, at_end, expected, first_refused, flag_of, has_output, is_given, is_new, is_option, name_of, value_given, value_in, value_of, with};
 
-use ar_quote::push_quoted;
-use std::alloc::{AllocError, Global};
+use ar_diagnostic::Flag;
 
 /// The options that a command was given.
 #[derive(Clone, Copy)]
@@ -58,31 +57,26 @@ const NONE: Given = Given {
     metric: false,
 };
 
-fn name_of(option: Valued) -> &'static str
-    ensures { result.now ≡ name_of option }
+pub fn flag_of(option: Valued) -> Flag
+    ensures { result ≡ flag_of option }
 {
     match option {
-        Valued::Workers => "--workers",
-        Valued::Output => "--output",
-        Valued::Event => "--event",
-        Valued::RunName => "--run",
-        Valued::MetricName => "--metric",
+        Valued::Workers => Flag::Workers,
+        Valued::Output => Flag::Output,
+        Valued::Event => Flag::Event,
+        Valued::RunName => Flag::Run,
+        Valued::MetricName => Flag::Metric,
     }
 }
 
-/// What the value of an option is.
-fn noun_of(option: Valued) -> &'static str
-    ensures { result.now ≡ noun_of option }
+pub fn name_of(option: Valued) -> &'static str
+    ensures { result.now ≡ name_of option }
 {
-    match option {
-        Valued::Workers | Valued::Event => "number",
-        Valued::Output => "format",
-        Valued::RunName | Valued::MetricName => "name",
-    }
+    flag_of(option).name()
 }
 
 /// What is expected as the value of an option.
-fn expected(option: Valued) -> &'static str
+pub fn expected(option: Valued) -> &'static str
     ensures { result.now ≡ expected option }
 {
     match option {
@@ -197,7 +191,7 @@ fn has_output(word: &str) -> bool
 }
 
 /// Whether a word is an option, as `-` alone isn't.
-fn is_option(word: &str) -> bool
+pub fn is_option(word: &str) -> bool
     ensures { result ≡ is_option word.now }
 {
     word.starts_with("-") && word != "-"
@@ -232,7 +226,7 @@ fn at_end(next: Next) -> Option<(Next, &'static str)>
 /// The first word that isn't taken, with what could have come instead, or the last if something
 /// has to come after it.
 #[tactic(auto, using(crate::proofs::Refused::taken, crate::proofs::Refused::refused, crate::proofs::Refused::none_left))]
-fn first_refused(words: &[String]) -> Option<(Next, &str)>
+pub fn first_refused(words: &[String]) -> Option<(Next, &str)>
     ensures { option_map (λ found. (found.0, found.1.now)) result
         ≡ first_refused Next.Command (map (λ word. string_bytes word) words.now) }
 {
@@ -244,103 +238,6 @@ fn first_refused(words: &[String]) -> Option<(Next, &str)>
         }
     }
     at_end(next)
-}
-
-/// Why an option isn't taken.
-fn option_reason(taker: Taker) -> &'static str
-    ensures { result.now ≡ option_reason taker }
-{
-    match taker {
-        Taker::EvalOrCheck => " isn't taken; `eval` and `check` take --output FORMAT, once",
-        Taker::Run => {
-            " isn't taken; `run` takes --workers N, --plain, --ordered and --output FORMAT, each once"
-        }
-        Taker::Explain => {
-            " isn't taken; `explain` takes one of --event N, --run NAME and --metric NAME, and \
-             --output FORMAT, each once"
-        }
-    }
-}
-
-/// Why a word that is no option isn't taken.
-fn word_reason(taker: Taker) -> &'static str
-    ensures { result.now ≡ word_reason taker }
-{
-    match taker {
-        Taker::EvalOrCheck => {
-            " isn't taken; the document is read from standard input, as by: argo_judge COMMAND < document.json"
-        }
-        Taker::Run => {
-            " isn't taken; the document is read from standard input, as by: argo_judge run --plain < document.json"
-        }
-        Taker::Explain => {
-            " isn't taken; the document is read from standard input, as by: argo_judge explain < document.json"
-        }
-    }
-}
-
-/// Why an option has no value, or a word is none.
-fn push_value_reason(out: &mut String, option: Valued, word: &str) -> Result<(), AllocError>
-    ensures { OnOk result (string_bytes out.new ≡ string_bytes out.old ++ value_reason option word.now) }
-{
-    if word == name_of(option) {
-        out.push_str(" has no ")?;
-        out.push_str(noun_of(option))?;
-        out.push_str(" after it; expected ")?;
-    } else {
-        out.push_str(" is no ")?;
-        out.push_str(noun_of(option))?;
-        out.push_str("; expected ")?;
-        out.push_str(name_of(option))?;
-        out.push_str(" and ")?;
-    }
-    out.push_str(expected(option))
-}
-
-fn push_reason(out: &mut String, next: Next, word: &str) -> Result<(), AllocError>
-    ensures { OnOk result (string_bytes out.new ≡ string_bytes out.old ++ reason next word.now) }
-{
-    match next {
-        Next::Command => out.push_str(
-            " is no command; expected `eval`, `check`, `list`, `run` or `explain`, or --help",
-        ),
-        Next::Nothing if is_option(word) => {
-            out.push_str(" isn't taken; `list` has no options but --help")
-        }
-        Next::Nothing => out.push_str(word_reason(Taker::EvalOrCheck)),
-        Next::Options(taker, _) if is_option(word) => out.push_str(option_reason(taker)),
-        Next::Options(taker, _) => out.push_str(word_reason(taker)),
-        Next::Value(option, _, _) => push_value_reason(out, option, word),
-    }
-}
-
-fn push_said(out: &mut String, refused: Option<(Next, &str)>) -> Result<(), AllocError>
-    ensures { OnOk result (string_bytes out.new ≡ string_bytes out.old
-        ++ said (option_map (λ found. (found.0, found.1.now)) refused.entry)) }
-{
-    match refused {
-        Some((next, word)) => {
-            push_quoted(out, word)?;
-            push_reason(out, next, word)
-        }
-        None => out.push_str(
-            "expected `eval`, `check`, `list`, `run` or `explain`, with the document on standard input, or --help",
-        ),
-    }
-}
-
-/// What is said of a command line whose words aren't taken, the program's name first: the first that
-/// isn't, and why.
-///
-/// # Errors
-///
-/// Out of memory alone.
-pub fn words_text(alloc: Global, words: &[String]) -> Result<String, AllocError>
-    ensures { IfOk result (λ text. string_bytes text ≡ words_text (map (λ word. string_bytes word) words.now)) }
-{
-    let mut text = String::from_str(alloc, "command line: Words: ")?;
-    push_said(&mut text, first_refused(words.get(1..).unwrap_or(&[])))?;
-    Ok(text)
 }
 
 // ---- the values of options
@@ -358,7 +255,7 @@ fn value_of<'a>(option: Valued, word: &'a str, rest: &'a [String]) -> Option<&'a
 }
 
 /// The value of an option as it is written, if one is.
-fn value_given(option: Valued, words: &[String]) -> Option<&str>
+pub fn value_given(option: Valued, words: &[String]) -> Option<&str>
     ensures { option_map (λ value. value.now) result
         ≡ value_given option (map (λ word. string_bytes word) words.now) }
 {
@@ -370,83 +267,4 @@ fn value_given(option: Valued, words: &[String]) -> Option<&str>
         rest = following;
     }
     None
-}
-
-fn push_value(out: &mut String, value: Option<&str>) -> Result<(), AllocError>
-    ensures { OnOk result (string_bytes out.new ≡ string_bytes out.old
-        ++ value_said (option_map (λ value. value.now) value.entry)) }
-{
-    let Some(value) = value else {
-        return Ok(());
-    };
-    push_quoted(out, value)?;
-    out.push_str(" isn't taken; ")
-}
-
-/// Where the value of an option is, the value, and what was expected.
-fn option_text(
-    alloc: Global,
-    option: Valued,
-    place: &str,
-    words: &[String],
-) -> Result<String, AllocError>
-    ensures { IfOk result (λ text. string_bytes text
-        ≡ option_text option place.now (map (λ word. string_bytes word) words.now)) }
-{
-    let mut text = String::from_str(alloc, place)?;
-    push_value(&mut text, value_given(option, words))?;
-    text.push_str("expected ")?;
-    text.push_str(expected(option))?;
-    Ok(text)
-}
-
-/// What is said of a number of workers that isn't taken: the number, and what was expected.
-///
-/// # Errors
-///
-/// Out of memory alone.
-pub fn workers_text(alloc: Global, words: &[String]) -> Result<String, AllocError>
-    ensures { IfOk result
-        (λ text. string_bytes text ≡ workers_text (map (λ word. string_bytes word) words.now)) }
-{
-    option_text(
-        alloc,
-        Valued::Workers,
-        "command line, --workers: Workers: ",
-        words,
-    )
-}
-
-/// What is said of an event's number that isn't taken: the number, and what was expected.
-///
-/// # Errors
-///
-/// Out of memory alone.
-pub fn event_text(alloc: Global, words: &[String]) -> Result<String, AllocError>
-    ensures { IfOk result
-        (λ text. string_bytes text ≡ event_text (map (λ word. string_bytes word) words.now)) }
-{
-    option_text(
-        alloc,
-        Valued::Event,
-        "command line, --event: Event: ",
-        words,
-    )
-}
-
-/// What is said of a format that isn't taken: its name, and what was expected.
-///
-/// # Errors
-///
-/// Out of memory alone.
-pub fn output_text(alloc: Global, words: &[String]) -> Result<String, AllocError>
-    ensures { IfOk result
-        (λ text. string_bytes text ≡ output_text (map (λ word. string_bytes word) words.now)) }
-{
-    option_text(
-        alloc,
-        Valued::Output,
-        "command line, --output: Output: ",
-        words,
-    )
 }

@@ -1,7 +1,7 @@
 use Rattle.std.proofs.Common.{◌≡◌, drop, map, string_bytes}
-use Rattle.ar_command_line.specs.Usage.{first_refused}
-use Rattle.ar_command_line.specs.declared.usage.Next.TheVariants.{Command}
-use Rattle.ar_command_line.proofs.usage.first_refused.Given as goal
+use Rattle.ar_usage.specs.Words.{first_refused}
+use Rattle.ar_usage.specs.declared.words.Next.TheVariants.{Command}
+use Rattle.ar_usage.proofs.words.first_refused.Given as goal
 
 -- the words so far are taken
 abbrev pub invariant-loop-word : goal.invariant-loop-word

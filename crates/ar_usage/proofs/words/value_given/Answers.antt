@@ -1,6 +1,6 @@
 use Rattle.std.proofs.Common.{◌∙◌, ap, option_map, string_bytes, sym}
-use Rattle.ar_command_line.proofs.Refused.{no_value, no_value_yet, value_found}
-use Rattle.ar_command_line.proofs.usage.value_given.Goals as goal
+use Rattle.ar_usage.proofs.Refused.{no_value, no_value_yet, value_found}
+use Rattle.ar_usage.proofs.words.value_given.Goals as goal
 
 pub returns-in-Some-value_of : goal.returns-in-Some-value_of
 returns-in-Some-value_of c =

@@ -1,7 +1,7 @@
 use Rattle.std.proofs.Common.{arith, ◌∙◌, ap, string_bytes, sym}
-use Rattle.ar_command_line.specs.Usage.{after}
-use Rattle.ar_command_line.proofs.Refused.{none_left, refused, taken}
-use Rattle.ar_command_line.proofs.usage.first_refused.Goals as goal
+use Rattle.ar_usage.specs.Words.{after}
+use Rattle.ar_usage.proofs.Refused.{none_left, refused, taken}
+use Rattle.ar_usage.proofs.words.first_refused.Goals as goal
 
 pub returns-in-None : goal.returns-in-None
 returns-in-None c =

@@ -1,6 +1,6 @@
 use Rattle.std.proofs.Common.{◌≡◌, length, map, string_bytes}
-use Rattle.ar_command_line.specs.Usage.{value_given}
-use Rattle.ar_command_line.proofs.usage.value_given.Given as goal
+use Rattle.ar_usage.specs.Words.{value_given}
+use Rattle.ar_usage.proofs.words.value_given.Given as goal
 
 -- the words so far have no value of the option
 abbrev pub invariant-loop-word : goal.invariant-loop-word

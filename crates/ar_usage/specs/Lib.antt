@@ -1,0 +1,3 @@
+pub mod Words
+pub mod Usage
+pub mod Examples
