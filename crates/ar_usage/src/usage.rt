@@ -2,7 +2,6 @@
 
 ghost use Rattle.std.specs.Prelude.{◌≡◌, ◌++◌, IfOk, map, option_map, string_bytes};
 ghost use Rattle.ar_quote.specs.Shown.{quoted};
-ghost use Rattle.ar_command_line.specs.declared.command_line.UsageError.{UsageError};
 ghost use Rattle.ar_usage.specs.Usage.{asks_for_json, document_hint, first_refusal, list_hint, no_value_after, no_value_is, option_and_expected, option_hint, taker_hint, usage_diagnostic, value_diagnostic, value_found, value_refusal, word_expecting, word_hinted, word_refusal, words_diagnostic};
 
 use crate::words::{
