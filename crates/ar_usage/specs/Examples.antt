@@ -20,7 +20,8 @@ unfolding usage_diagnostic first_refused line_of words_of
 no_words = refl
 
 no_command : line (codes "explains" ∷ []) Words
-    ≡ codes "command line: Words: \"explains\" is no command; expected `eval`, `check`, `list`, `run` or `explain`, or --help"
+    ≡ codes "command line: Words: \"explains\" is no command; "
+    ++ codes "expected `eval`, `check`, `list`, `run` or `explain`, or --help"
 unfolding usage_diagnostic first_refused line_of words_of quoted chars lib.Utf8.encode
 no_command = refl
 
@@ -56,7 +57,8 @@ bad_value : (line (codes "run" ∷ codes "--workers" ∷ codes "17" ∷ []) Work
 unfolding usage_diagnostic value_given line_of words_of quoted chars lib.Utf8.encode
 bad_value = (refl, refl, refl)
 
-both_or_several : (line [] Conflict ≡ codes "command line, --ordered: Conflict: expected --ordered or --plain, not both")
+both_or_several : (line [] Conflict
+    ≡ codes "command line, --ordered: Conflict: expected --ordered or --plain, not both")
     × (line [] Several ≡ codes "command line: Several: expected one of --event, --run and --metric, not several")
 unfolding usage_diagnostic line_of words_of
 both_or_several = (refl, refl)

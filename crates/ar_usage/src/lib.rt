@@ -4,8 +4,8 @@
 //! [`UsageError`](ar_command_line::UsageError) that `ar_command_line` refuses them by. For `Words` it is of the first
 //! word that isn't taken, with what could have come instead; for an option's value it has the value as it is written;
 //! its name is the error's. [`asks_for_json`] says whether such a command line asks for answers in JSON. Both are
-//! proved to be what `specs/Usage` defines, and only out of memory can keep the first from that. `specs/Words`, on
-//! which it stands, reads the words without `clap`. `specs/Examples` has worked rows.
+//! proved to be what `specs/Usage` defines, by `specs/Words`, which reads the words without `clap`; only out of memory
+//! can keep the first from that. `specs/Examples` has worked rows.
 //!
 //! - `words`: which word isn't taken, and the values of options
 //! - `usage`: the diagnostics
