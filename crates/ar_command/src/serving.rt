@@ -32,7 +32,7 @@ pub enum Refusal {
     #[error(transparent)]
     Bundle(BundleError),
     /// There is no run, metric or measurement that was named.
-    #[error("command line: NotThere: the document has none that was named")]
+    #[error("NotThere")]
     NotThere,
 }
 

@@ -57,7 +57,7 @@ measurement_count document = count_of (list_in (codes "measurements") document)
 abbrev pub lacking_event : (number count : ℕ) → Diagnostic
 lacking_event number count =
     record (expecting (places.CommandLine (Some flags.Event)) (codes "NotThere") (codes "a number below " ++ decimal count)) {
-      found = Some (codes "the document has no measurement " ++ decimal number)
+      found = Some (codes "the document has no measurement " ++ decimal number);
     }
 
 abbrev pub no_item : (kind name : Text) → Text
@@ -67,7 +67,7 @@ abbrev pub lacking_name : Flag → (kind name there : Text) → Diagnostic
 lacking_name flag kind name there =
     record (expecting (places.CommandLine (Some flag)) (codes "NotThere") (codes "the name of one that it has")) {
       found = Some (no_item kind name);
-      hint = Some there
+      hint = Some there;
     }
 
 unfoldable pub lacking_diagnostic : Selected → Data → Diagnostic
@@ -110,7 +110,7 @@ unfoldable pub no_json : (input : Bytes) → Option Position → Diagnostic
 no_json input position =
     record (expecting places.Document (codes "Utf8OrJson") (codes "one JSON value in UTF-8")) {
       position = position;
-      hint = input_hint input
+      hint = input_hint input;
     }
 
 -- where it ceases to be JSON the reader of JSON says, whose contract doesn't tie it to the input

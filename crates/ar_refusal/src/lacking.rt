@@ -55,9 +55,7 @@ fn lacking_event(alloc: Global, number: u64, count: usize) -> Result<Diagnostic,
     let place = Place::CommandLine(Some(Flag::Event));
     let expected = format!(in alloc; "a number below {count}")?;
     let mut it = Diagnostic::expecting(alloc, place, "NotThere", expected.as_str())?;
-    it.found = Some(Text::from(
-        format!(in alloc; "the document has no measurement {number}")?,
-    ));
+    it.found = Some(Text::from(format!(in alloc; "the document has no measurement {number}")?));
     Ok(it)
 }
 

@@ -40,9 +40,7 @@ fn diagnostic_of(
         (Refusal::NotThere, Command::Explain(selection, _)) => {
             lacking_diagnostic(alloc, selection, document)
         }
-        (Refusal::NotThere, _) => {
-            Diagnostic::named(alloc, Place::CommandLine(None), "NotThere")
-        }
+        (Refusal::NotThere, _) => { Diagnostic::named(alloc, Place::CommandLine(None), "NotThere") }
     }
 }
 

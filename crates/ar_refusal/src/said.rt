@@ -11,7 +11,7 @@ use ar_usage::{asks_for_json, usage_diagnostic};
 use std::alloc::{AllocError, Global};
 
 /// The format of a command's answer, and of its refusal.
-pub(crate) fn format_of(command: Command<'_>) -> Format
+pub fn format_of(command: Command<'_>) -> Format
     ensures { result ≡ format_of command.entry }
 {
     match command {
@@ -25,8 +25,12 @@ pub(crate) fn format_of(command: Command<'_>) -> Format
     }
 }
 
-/// A diagnostic, as a line or as one JSON object.
-pub(crate) fn said(alloc: Global, format: Format, it: &Diagnostic) -> Result<String, AllocError>
+/// A diagnostic in a format: a line without a line feed, or one JSON object with one.
+///
+/// # Errors
+///
+/// Out of memory alone.
+pub fn said(alloc: Global, format: Format, it: &Diagnostic) -> Result<String, AllocError>
     ensures { IfOk result (λ text. IsSaid format it.now (string_bytes text)) }
 {
     match format {

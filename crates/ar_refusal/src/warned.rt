@@ -58,11 +58,7 @@ fn object_of(alloc: Global, warnings: &[Diagnostic]) -> Result<String, AllocErro
 /// # Errors
 ///
 /// Out of memory alone.
-pub fn warnings_text(
-    alloc: Global,
-    format: Format,
-    input: &[u8],
-) -> Result<String, AllocError>
+pub fn warnings_text(alloc: Global, format: Format, input: &[u8]) -> Result<String, AllocError>
     ensures { IfOk result (λ text. AreWarned format (warnings_in (json_of input.now)) (string_bytes text)) }
 {
     let warnings = warnings_in(alloc, input)?;

@@ -4,8 +4,8 @@
 //! The program reads one JSON document from standard input, carries a command out on it, and
 //! writes the answer to standard output. `ar_command` is all of that over any reader and writer:
 //! `serve` with workers, `serve_plain` without. `ar_command_line` says what the words of the command
-//! line ask for, and `ar_refusal` what is said of a refused input. What is left to this crate are the
-//! standard streams and the exit status.
+//! line ask for, and `ar_refusal` what is said of a refused input or command line. What is left to this crate
+//! are the standard streams and the exit status.
 #![tactic(auto)]
 
 ghost use Rattle.std.specs.Prelude.{◌≡◌, ◌≢◌, ◌≤◌, ◌⊎◌, ℕ, Ok, false};
@@ -18,13 +18,11 @@ ghost use Rattle.argo_judge.specs.Ending.{EndsWith};
 
 use ar_board::MOST_WORKERS;
 use ar_command::{
-    Closing, Command, Device, Kept, Refusal, ServeError, Sink, Source, serve, serve_plain, status,
-    write_output,
+    Closing, Command, Device, Format, Kept, Refusal, ServeError, Sink, Source, serve, serve_plain,
+    status, write_output,
 };
-use ar_command_line::{
-    UsageError, command_of, event_text, output_text, shown, words_text, workers_text,
-};
-use ar_refusal::{refusal_text, warning_lines};
+use ar_command_line::{UsageError, command_of, shown};
+use ar_refusal::{format_of, refusal_text, usage_text, warnings_text};
 use ar_workers::{FreeGate, WorkError};
 use std::alloc::{AllocError, Global};
 use std::process::ExitCode;
@@ -51,7 +49,7 @@ fn run<R: Env + AllocGlobal + Input + Print + Eprint + Threads + Wait + Sync>(rt
 {
     match arguments(rt) {
         Ok(words) => obey(rt, &words),
-        Err(error) => refuse_usage(rt, error),
+        Err(error) => refuse_words(rt, &[], error),
     }
 }
 
@@ -68,42 +66,29 @@ where
     }
 }
 
-/// Reports a command line that asks for nothing in one line, with the word at fault, and returns the exit status.
+/// Reports a command line that asks for nothing, with the word at fault, and returns the exit status.
 fn refuse_words<R: AllocGlobal + Eprint>(rt: &R, words: &[String], error: UsageError) -> u8
-    ensures { (result ≡ 2) ⊎ (result ≡ 3) }
-{
-    match usage_text(rt.alloc(), words, error) {
-        Ok(text) => {
-            let _ = eprintln!(rt; "argo_judge: {text}");
-            status::REFUSED
-        }
-        Err(error) => refuse_usage(rt, error),
-    }
-}
-
-/// Reports a command line that asks for nothing in one line, and returns the exit status.
-fn refuse_usage<R: Eprint>(rt: &R, error: UsageError) -> u8
     ensures memory { error ≡ UsageError.OutOfMemory → result ≡ 3 }
-    ensures refused { error ≢ UsageError.OutOfMemory → result ≡ 2 }
+    ensures refused { error ≢ UsageError.OutOfMemory → (result ≡ 2) ⊎ (result ≡ 3) }
 {
     match error {
         UsageError::OutOfMemory => out_of_memory(rt, ServeError::OutOfMemory),
-        error => {
-            let _ = eprintln!(rt; "argo_judge: {error}");
-            status::REFUSED
-        }
+        error => match usage_text(rt.alloc(), words, error) {
+            Ok((format, text)) => report(rt, format, text.as_str()),
+            Err(AllocError) => out_of_memory(rt, ServeError::OutOfMemory),
+        },
     }
 }
 
-/// What is said of a command line that asks for nothing, with the word at fault.
-fn usage_text(alloc: Global, words: &[String], error: UsageError) -> Result<String, UsageError> {
-    match error {
-        UsageError::Words => Ok(words_text(alloc, words)?),
-        UsageError::Workers => Ok(workers_text(alloc, words)?),
-        UsageError::Event => Ok(event_text(alloc, words)?),
-        UsageError::Output => Ok(output_text(alloc, words)?),
-        UsageError::Conflict | UsageError::Several | UsageError::OutOfMemory => Err(error),
-    }
+/// Reports a refusal: a line after the program's name, or a JSON object by itself.
+fn report<R: Eprint>(rt: &R, format: Format, text: &str) -> u8
+    ensures { result ≡ 2 }
+{
+    let _ = match format {
+        Format::Text => eprintln!(rt; "argo_judge: {text}"),
+        Format::Json => eprint!(rt; "{text}"),
+    };
+    status::REFUSED
 }
 
 /// Writes a text, and returns the exit status.
@@ -149,7 +134,7 @@ fn arguments<R: Env + AllocGlobal>(rt: &R) -> Result<Vec<String>, UsageError> {
     Ok(words)
 }
 
-/// Carries a command out on the standard streams, and reports a fault in one line.
+/// Carries a command out on the standard streams, and reports a fault.
 fn carry_out<R>(rt: &R, command: Command<'_>) -> u8
 where
     R: AllocGlobal + Input + Print + Eprint + Threads + Wait + Sync,
@@ -161,7 +146,7 @@ where
     let mut writer = Device::new(io::writer(rt));
     let outcome = served(rt, command, &mut reader, &mut writer);
     if warns(command, &outcome) {
-        warn(rt, reader.bytes());
+        warn(rt, format_of(command), reader.bytes());
     }
     close(rt, command, &reader, &writer, &outcome)
 }
@@ -171,10 +156,10 @@ fn warns(command: Command<'_>, outcome: &Result<Closing, ServeError>) -> bool {
     matches!(command, Command::Check(_)) && outcome.is_ok()
 }
 
-/// Reports what a document has that is probably not meant, a line each.
-fn warn<R: AllocGlobal + Eprint>(rt: &R, input: &[u8]) {
-    let _ = match warning_lines(rt.alloc(), input) {
-        Ok(lines) => eprint!(rt; "{lines}"),
+/// Reports what a document has that is probably not meant.
+fn warn<R: AllocGlobal + Eprint>(rt: &R, format: Format, input: &[u8]) {
+    let _ = match warnings_text(rt.alloc(), format, input) {
+        Ok(text) => eprint!(rt; "{text}"),
         Err(_) => eprintln!(rt;
             "argo_judge: warning: out of memory: the document is not looked at"
         ),
@@ -246,7 +231,7 @@ fn cause<'a, I, O>(
     }
 }
 
-/// Reports a refused input in one line.
+/// Reports a refused input.
 fn refuse<R: AllocGlobal + Eprint>(
     rt: &R,
     command: Command<'_>,
@@ -255,24 +240,10 @@ fn refuse<R: AllocGlobal + Eprint>(
 ) -> u8
     ensures { (result ≡ 2) ⊎ (result ≡ 3) }
 {
-    match refusal_line(rt.alloc(), command, input, refusal) {
-        Ok(text) => {
-            let _ = eprintln!(rt; "argo_judge: {text}");
-            status::REFUSED
-        }
+    match refusal_text(rt.alloc(), command, input, refusal) {
+        Ok(text) => report(rt, format_of(command), text.as_str()),
         Err(AllocError) => out_of_memory(rt, ServeError::OutOfMemory),
     }
-}
-
-/// The line of a refused input.
-fn refusal_line(
-    alloc: Global,
-    command: Command<'_>,
-    input: &[u8],
-    refusal: &Refusal,
-) -> Result<String, AllocError> {
-    let own = format!(in alloc; "{refusal}")?;
-    refusal_text(alloc, command, input, refusal, own)
 }
 
 fn out_of_memory<R: Eprint>(rt: &R, error: ServeError) -> u8

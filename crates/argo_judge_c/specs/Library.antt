@@ -9,7 +9,10 @@ use Rattle.ar_command_line.specs.declared.selection.Selection.TheVariants.{All}
 use Rattle.ar_command.specs.Serving.{RefusesInput, Says, status_of}
 use Rattle.ar_command.specs.declared.serving.Closing.{Closing}
 use Rattle.ar_command.specs.declared.serving.Refusal.{Refusal}
-use Rattle.ar_refusal.specs.Refused.{IsLine}
+use Rattle.ar_diagnostic.specs.Diagnostic.{expecting}
+use Rattle.ar_diagnostic.specs.declared.diagnostic.Diagnostic.{Diagnostic}
+use Rattle.ar_diagnostic.specs.declared.place.Place.TheVariants.{CommandNumber}
+use Rattle.ar_refusal.specs.Refused.{IsRefusalText, IsSaid}
 use Rattle.argo_judge_c.specs.Buffers.{IsLeft, IsPut}
 
 -- ---- commands
@@ -37,10 +40,15 @@ abbrev pub command_of : (number : ℕ) → Option Command
 command_of number =
     if nat_lt number json then command_in number formats.Text else command_in (number - json) formats.Json
 
-abbrev pub unknown_words : (number : ℕ) → Text
-unknown_words number =
-    codes "command: Unknown: " ++ (decimal number
-    ++ codes " is no command; expected 0 to 4, or 16, 17, 19 or 20 for JSON")
+abbrev pub format_of_number : (number : ℕ) → Format
+format_of_number number = if nat_lt number json then formats.Text else formats.Json
+
+-- a number that no command has
+abbrev pub unknown_diagnostic : (number : ℕ) → Diagnostic
+unknown_diagnostic number =
+    record (expecting CommandNumber (codes "Unknown") (codes "0 to 4, or 16, 17, 19 or 20 for JSON")) {
+      found = Some (decimal number ++ codes " is no command");
+    }
 
 -- ---- answers
 
@@ -50,12 +58,11 @@ pub record IsSaid (command : Command) (input : Bytes) (text : Text) (status : �
   pub says : Says command input text closing
   pub closes : status ≡ status_of (Ok closing)
 
--- the first fault of an input, in the line that the program has for it
+-- the first fault of an input, as the program reports it
 pub record IsRefusedInput (command : Command) (input : Bytes) (text : Text) (status : ℕ) : Type 0 where
   pub refusal : Refusal
   pub refuses : RefusesInput command input refusal
-  pub own : Text
-  pub line : IsLine command input refusal own text
+  pub reports : IsRefusalText command input refusal text
   pub closes : status ≡ 2
 
 -- what a command says of an input, or why it is refused
@@ -64,7 +71,7 @@ IsSaidOrRefused command input text status = IsSaid command input text status ⊎
 
 -- the text of a number's command for an input, and its status
 abbrev pub IsAnswer : (number : ℕ) → Option Command → (input : Bytes) (text : Text) (status : ℕ) → Type 0
-IsAnswer number None input text status = (text ≡ unknown_words number) × (status ≡ 2)
+IsAnswer number None input text status = IsSaid (format_of_number number) (unknown_diagnostic number) text × (status ≡ 2)
 IsAnswer number (Some command) input text status = IsSaidOrRefused command input text status
 
 -- ---- a call

@@ -2,12 +2,15 @@
 
 ghost use Rattle.std.specs.Prelude.{◌≡◌, ◌≤◌, IfOk, string_bytes};
 ghost use Rattle.ar_command.specs.Serving.{RefusesInput, RunsAlone};
-ghost use Rattle.argo_judge_c.specs.Library.{IsAnswer, IsRefusedInput, IsSaidOrRefused, command_of, unknown_words};
+ghost use Rattle.ar_refusal.specs.Refused.{IsSaid};
+ghost use Rattle.argo_judge_c.specs.Library.{IsAnswer, IsRefusedInput, IsSaidOrRefused, command_of, format_of_number, unknown_diagnostic};
 
 use crate::buffers::{Document, Written};
-use crate::commands::command_of;
+use crate::commands::{command_of, format_of_number};
 use ar_command::{Command, Refusal, ServeError, serve_plain, status};
-use ar_refusal::refusal_text;
+use ar_diagnostic::{Diagnostic, Place};
+use ar_refusal::{refusal_text, said};
+use ar_value::Text;
 use std::alloc::{AllocError, Global};
 
 /// A text, and its status.
@@ -29,22 +32,31 @@ pub(crate) fn answer_of(alloc: Global, number: u32, input: &[u8]) -> Result<Answ
     }
 }
 
-/// What is said of a number that no command has.
-fn unknown_text(alloc: Global, number: u32) -> Result<String, AllocError>
-    ensures { IfOk result (λ text. string_bytes text ≡ unknown_words number) }
+/// A number that no command has.
+fn unknown_diagnostic(alloc: Global, number: u32) -> Result<Diagnostic, AllocError>
+    ensures { IfOk result (λ it. it ≡ unknown_diagnostic number) }
 {
-    format!(in alloc;
-        "command: Unknown: {number} is no command; expected 0 to 4, or 16, 17, 19 or 20 for JSON"
-    )
+    let expected = "0 to 4, or 16, 17, 19 or 20 for JSON";
+    let mut it = Diagnostic::expecting(alloc, Place::CommandNumber, "Unknown", expected)?;
+    it.found = Some(Text::from(format!(in alloc; "{number} is no command")?));
+    Ok(it)
 }
 
-/// A refusal in its line.
-fn refused(line: String) -> Answer
-    ensures text { result.text.items ≡ string_bytes line }
+/// What is said of a number that no command has.
+fn unknown_text(alloc: Global, number: u32) -> Result<String, AllocError>
+    ensures { IfOk result (λ text. IsSaid (format_of_number number) (unknown_diagnostic number) (string_bytes text)) }
+{
+    let it = unknown_diagnostic(alloc, number)?;
+    said(alloc, format_of_number(number), &it)
+}
+
+/// What is said of a refusal.
+fn refused(text: String) -> Answer
+    ensures text { result.text.items ≡ string_bytes text }
     ensures status { result.status ≡ 2 }
 {
     Answer {
-        text: line.into_bytes(),
+        text: text.into_bytes(),
         status: status::REFUSED,
     }
 }
@@ -65,23 +77,22 @@ fn carried_out(alloc: Global, command: Command<'_>, input: &[u8]) -> Result<Answ
             status: status::status_of(&outcome),
         }),
         Err(ServeError::Refused(refusal)) => {
-            Ok(refused(refusal_line(alloc, command, input, refusal)?))
+            Ok(refused(refused_text(alloc, command, input, refusal)?))
         }
         Err(ServeError::Write | ServeError::OutOfMemory) => Err(AllocError),
         Err(ServeError::Read | ServeError::Work(_)) => unreachable!(),
     }
 }
 
-/// The line of a refused input.
-fn refusal_line(
+/// What is said of a refused input.
+fn refused_text(
     alloc: Global,
     command: Command<'_>,
     input: &[u8],
     refusal: &Refusal,
 ) -> Result<String, AllocError>
     requires { RefusesInput command input.now refusal.now }
-    ensures { IfOk result (λ line. IsRefusedInput command.entry input.now (string_bytes line) 2) }
+    ensures { IfOk result (λ text. IsRefusedInput command.entry input.now (string_bytes text) 2) }
 {
-    let own = format!(in alloc; "{refusal}")?;
-    refusal_text(alloc, command, input, refusal, own)
+    refusal_text(alloc, command, input, refusal)
 }

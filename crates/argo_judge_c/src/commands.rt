@@ -1,12 +1,23 @@
 //! The commands of numbers.
 
 ghost use Rattle.std.specs.Prelude.{◌≡◌};
-ghost use Rattle.argo_judge_c.specs.Library.{command_in, command_of};
+ghost use Rattle.argo_judge_c.specs.Library.{command_in, command_of, format_of_number};
 
 use ar_command::{Command, Format, Selection};
 
 /// What is added to a command's number where its answer is to be JSON.
 const JSON: u32 = 16;
+
+/// The format of the answer that a number asks for.
+pub(crate) fn format_of_number(number: u32) -> Format
+    ensures { result ≡ format_of_number number }
+{
+    if number < JSON {
+        Format::Text
+    } else {
+        Format::Json
+    }
+}
 
 /// The command of a number, if it has one.
 pub(crate) fn command_of(number: u32) -> Option<Command<'static>>
