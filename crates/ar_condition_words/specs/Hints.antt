@@ -4,7 +4,6 @@ use Rattle.std.specs.List.{ends_with, starts_with}
 use Rattle.std.specs.Option.{option_or}
 use Rattle.std.specs.Str.{bytes_eq}
 use Rattle.ar_value.specs.Terms.{Text}
-use Rattle.ar_manifest.specs.Cut.{cut_at}
 use Rattle.ar_quote.specs.Tokens.{TokenAt}
 use Rattle.ar_syntax.specs.declared.error.SyntaxError.{SyntaxError}
 use Rattle.ar_syntax.specs.declared.error.SyntaxError.TheVariants.{BadCharacter, Unexpected, UnknownName, ItemOutside}
