@@ -31,7 +31,7 @@ extern "C" {
 /* Statuses, which are the program's but for the last. */
 #define ARGO_JUDGE_GOOD 0          /* done; the answer is in `output` */
 #define ARGO_JUDGE_BAD 1           /* done, and a run is Failed, Error or Inconclusive; the answer is in `output` */
-#define ARGO_JUDGE_REFUSED 2       /* the command or the input is refused; a line that says why is in `output` */
+#define ARGO_JUDGE_REFUSED 2       /* the command or the input is refused; why is in `output`, as a line or as JSON */
 #define ARGO_JUDGE_OUT_OF_MEMORY 3 /* memory ran out; `output` is as it was, and `*written` is 0 */
 #define ARGO_JUDGE_TOO_SMALL 4     /* `output` is too small and is as it was; `*written` is how large it has to be */
 
@@ -39,8 +39,9 @@ extern "C" {
  * Carries a command out on the document of `input_length` bytes at `input`.
  *
  * The text that the program would write is put at the front of the `output_capacity` bytes at `output`, without a byte
- * 0 at its end, and its length into `*written`: the answer on its standard output, or, without `argo_judge: ` before it
- * and a line feed after it, the line of a refusal on its standard error. The other bytes at `output` stay as they are.
+ * 0 at its end, and its length into `*written`: the answer on its standard output, or what it writes of a refusal on its
+ * standard error: the JSON object with its line feed for the numbers from 16 on, and the line without `argo_judge: ` before
+ * it and a line feed after it for the others. The other bytes at `output` stay as they are.
  *
  * `input` and `output` may not be null, also where their lengths are 0, and `output`, `input` and `*written` may not
  * overlap. An input of more than 16,777,216 bytes is refused.

@@ -38,18 +38,23 @@ def kept_notes():
         KEPT.pop()
 
 
-def note(text):
+def say(text):
     """Writes a line to standard error, where there is one that can be written."""
-    if KEPT:
-        KEPT[-1].append(text)
-        return
     if sys.stderr is None:
         return
     try:
-        sys.stderr.write(f"{sys.argv[0].rsplit('/', 1)[-1]}: {one_line(text)}\n")
+        sys.stderr.write(f"{one_line(text)}\n")
         sys.stderr.flush()
     except OSError:
         pass
+
+
+def note(text):
+    """Writes a line of the recipe itself to standard error, or keeps it."""
+    if KEPT:
+        KEPT[-1].append(text)
+    else:
+        say(f"{sys.argv[0].rsplit('/', 1)[-1]}: {text}")
 
 
 def stop(_signal=None, _frame=None):

@@ -2,18 +2,13 @@
 import json
 import os
 from concurrent.futures import ThreadPoolExecutor
-from typing import NamedTuple
 
 from documents import Refused, judged
+from refusals import refusal_in
 from reports import checked
 
 # A document may have 16 MiB.
 MOST_BYTES = 8 << 20
-
-
-class Refusal(NamedTuple):
-    """What the engine says of a document that it refuses."""
-    line: str
 
 
 def weight(made):
@@ -56,7 +51,7 @@ def reports_of(engine, documents, batch):
     if ended.returncode != 2:
         raise Refused(f"the engine ended with status {ended.returncode}: {ended.stderr.strip()}")
     if len(batch) == 1:
-        return {batch[0]: Refusal(ended.stderr.strip().removeprefix("argo_judge: "))}
+        return {batch[0]: refusal_in(ended.stderr)}
     return {place: report for one in batch for place, report in reports_of(engine, documents, [one]).items()}
 
 

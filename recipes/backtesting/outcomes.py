@@ -2,9 +2,10 @@
 from collections import Counter
 from typing import NamedTuple
 
+from refusals import Refusal
 from reports import COUNTS
 
-from backtesting.batches import Refusal, judged_runs
+from backtesting.batches import judged_runs
 from backtesting.histories import LeftOut
 from backtesting.sweeps import sums_of
 
@@ -61,7 +62,7 @@ def outcomes_of(judgements, engine):
     reports = iter(judged_runs(engine, documents))
     for one in judgements:
         own, other, *swept = [next(reports) for _ in range(2 + len(one.swept))]
-        refusals = [report.line for report in (own, other, *swept) if isinstance(report, Refusal)]
+        refusals = [report.text for report in (own, other, *swept) if isinstance(report, Refusal)]
         if refusals:
             left_out.append(LeftOut(one.name, refusals[0]))
         else:

@@ -1,17 +1,16 @@
 """What the engine answers: on conditions and values in one start, and on a whole template."""
-import re
-import subprocess
 from typing import NamedTuple, Optional
 
 from documents import Refused, judged, member
-from ending import Status, note
+from ending import REFUSED, Status, note
+from refusals import Refusal, refusal_in
 from reports import report_in
-from templates import API_VERSION
+from templates import API_VERSION, CONDITIONS
 
 MOST_LIMIT = 1_000_000_000
 MOST_METRICS = 64
-OF_METRIC = re.compile(
-    r'argo_judge: (?:run 0 "lint", |shapes: )metric (\d+) "\d+"(?:, successCondition(?:, (byte \d+))?)?: (.*)')
+# How the text of a refusal begins, by what it is of in the documents that are made here.
+OF_RUN, OF_SHAPES, OF_MANIFEST = 'run 0 "lint", ', "shapes: ", "manifest: "
 
 
 class Question(NamedTuple):
@@ -23,7 +22,7 @@ class Question(NamedTuple):
 
 class Answer(NamedTuple):
     """What the engine says of a condition: why it is refused, or else of each value true, false, or a fault's name."""
-    refusal: Optional[str]
+    refusal: Optional[Refusal]
     answers: list
 
 
@@ -47,8 +46,8 @@ def document_of(questions, has_values):
 
 def ended(engine, words, made):
     """A start of the engine that ended with a verdict or a refusal."""
-    start = judged(engine, words, made, stdout=subprocess.PIPE, stderr=subprocess.PIPE)
-    if start.returncode not in (0, 1, 2):
+    start = judged(engine, words, made, capture_output=True)
+    if start.returncode not in (0, 1, REFUSED):
         for line in start.stderr.splitlines()[:1]:
             note(line)
         raise Status(start.returncode if start.returncode > 0 else 128 - start.returncode)
@@ -60,26 +59,36 @@ def answer_of(event):
     return verdict == "Successful" if fault is None else fault
 
 
+def without(refusal, *fronts):
+    """A refusal whose text has no place in the document that is made here: fronts of it are left out, one after another,
+    where they are there."""
+    text = refusal.text
+    for front in fronts:
+        text = text.removeprefix(front)
+    return refusal._replace(text=text)
+
+
 def refused_one(start, questions):
-    """The number of the question that the engine refuses, and its words."""
-    found = OF_METRIC.match(start.stderr)
-    if found is None:
-        raise Refused(f"the engine refuses the questions: {start.stderr.strip()}")
-    words = f"{found[2]}: {found[3]}" if found[2] else found[3]
-    return questions[int(found[1])][0], words
+    """The number of the question that the engine refuses, and the refusal."""
+    refusal = refusal_in(start.stderr)
+    if refusal.metric is None:
+        raise Refused(f"the engine refuses the questions: {refusal.line}")
+    number, _ = questions[refusal.metric]
+    metric = f'metric {refusal.metric} "{number}"'
+    return number, without(refusal, OF_RUN, OF_SHAPES, metric, f", {refusal.field}", ", ", ": ")
 
 
 def some_answered(engine, questions):
     """The answers to at most 64 questions that have numbers. What is refused is found without values."""
     refused = {}
     start = ended(engine, ["run", "--plain", "--output", "json"], document_of(questions, True))
-    while start.returncode == 2:
-        number, words = refused_one(start, questions)
-        refused[number] = Answer(words, [])
+    while start.returncode == REFUSED:
+        number, refusal = refused_one(start, questions)
+        refused[number] = Answer(refusal, [])
         questions = [one for one in questions if one[0] != number]
         if not questions:
             return refused
-        start = ended(engine, ["check"], document_of(questions, False))
+        start = ended(engine, ["check", "--output", "json"], document_of(questions, False))
     if refused:
         start = ended(engine, ["run", "--plain", "--output", "json"], document_of(questions, True))
     events = report_in(start.stdout, "report")["runs"][0]["events"]
@@ -98,17 +107,13 @@ def answered(engine, questions):
 
 # ---- the whole template
 
-OF_CONDITION = re.compile(r'argo_judge: run 0 "lint", metric \d+ .*?, (success|failure)Condition')
-OF_TEMPLATE = re.compile(r'argo_judge: (?:run 0 "lint"|manifest)[,:] (.*)')
-
-
 def refusal_of_template(engine, template, names, args):
     """Why the engine refuses a template whose metrics have these names, whatever their conditions are; None where it
     takes it."""
     made = {"manifest": template, "shapes": {name: "bool" for name in names},
             "runs": [{"name": "lint", "args": args}], "measurements": []}
-    start = ended(engine, ["check"], made)
-    if start.returncode != 2 or OF_CONDITION.match(start.stderr):
+    start = ended(engine, ["check", "--output", "json"], made)
+    if start.returncode != REFUSED:
         return None
-    found = OF_TEMPLATE.match(start.stderr)
-    return found[1] if found else start.stderr.strip()
+    refusal = refusal_in(start.stderr)
+    return None if refusal.field in CONDITIONS else without(refusal, OF_RUN, OF_MANIFEST)

@@ -36,7 +36,6 @@ MENDS_OF_RULES = {
 BY_SHAPE = ("NotAList", "NoSuchField", "NotScalar", "NoCommonKind", "PredicatesTooDeep", "WrongOperand", "NotTruth",
             "TooManyOps", "StackTooDeep", "BudgetTooLarge")
 ANY_SHAPE = "bool"
-OF_SHAPES = ("TooDeep: a shape", "UnknownShape", "MaxMissing", "MaxTooLarge", "NestedOptional")
 
 
 class Asked(NamedTuple):
@@ -145,27 +144,21 @@ def conditions_missing(subject):
 
 # ---- what the engine refuses
 
-def fault_in(words):
-    """The name of a refusal in the engine's words."""
-    return next((part for part in words.split(": ") if part and not part.startswith("byte ")), "")
-
-
-def text_and_number(words):
+def text_and_number(refusal):
     """Whether a text and a number are the operands that don't fit."""
-    found = words.partition("; found ")[2].partition("; in ")[0]
-    return fault_in(words) == "WrongOperand" and '"text"' in found and ('"decimal"' in found or '"whole"' in found)
+    found = refusal.found or ""
+    return refusal.name == "WrongOperand" and '"text"' in found and ('"decimal"' in found or '"whole"' in found)
 
 
-def refused(asked, words, declared):
+def refused(asked, refusal, declared):
     """The finding of a condition or a shape that the engine refuses; none of what depends on a missing shape."""
-    if not asked.has_shape and fault_in(words) in BY_SHAPE:
+    if not asked.has_shape and refusal.name in BY_SHAPE:
         return None
-    if words.startswith(OF_SHAPES):
+    if refusal.part == "shapes":
         title = metric_title(asked.place, asked.metric)
-        return error("shape", declared or metric_pointer(asked.place), f"{title}: the shape is refused: {words}",
+        return error("shape", declared or metric_pointer(asked.place), f"{title}: the shape is refused: {refusal.text}",
                      "docs/use/formats.md has what shapes may be")
-    fault = fault_in(words)
-    rule = "text-and-number" if text_and_number(words) else RULES_OF_FAULTS.get(fault, "refused-condition")
-    mend = MENDS_OF_RULES.get(rule) or MENDS.get(fault, DOCS)
+    rule = "text-and-number" if text_and_number(refusal) else RULES_OF_FAULTS.get(refusal.name, "refused-condition")
+    mend = MENDS_OF_RULES.get(rule) or MENDS.get(refusal.name, DOCS)
     kind = warning if asked.has_stand_in else error
-    return kind(rule, asked.pointer, f"{asked.title} is refused{asked.noted}: {words}", mend)
+    return kind(rule, asked.pointer, f"{asked.title} is refused{asked.noted}: {refusal.text}", mend)

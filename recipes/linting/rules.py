@@ -1,6 +1,4 @@
 """All findings of a template, in the order of its lines or fields."""
-import re
-
 from documents import member
 from linting.arguments import arguments_without_value, unknown_arguments, unused_arguments
 from linting.asking import refusal_of_template
@@ -20,7 +18,6 @@ OF_TEXT = (unknown_fields, wrong_types, refused_by_controller, conditions_missin
            metric_patterns)
 # What the engine would refuse, too, and name in the place of anything else.
 REFUSED_ALREADY = ("refused-by-controller", "unknown-argument")
-METRIC = re.compile(r"metric (\d+)\b")
 
 
 def manifest_of(subject):
@@ -37,11 +34,10 @@ def refused_by_engine(engine, subject):
     """What the engine refuses of a template besides its conditions."""
     names = metric_names(subject)
     args = {name: subject.values.get(name, STAND_IN) for _, name in subject.args}
-    words = refusal_of_template(engine, manifest_of(subject), names, args)
-    if words is not None:
-        place = METRIC.match(words)
-        pointer = metric_pointer(int(place[1])) if place else pointer_to("spec")
-        yield error("refused-by-engine", pointer, f"argo_judge refuses the template: {words}",
+    refusal = refusal_of_template(engine, manifest_of(subject), names, args)
+    if refusal is not None:
+        pointer = pointer_to("spec") if refusal.metric is None else metric_pointer(refusal.metric)
+        yield error("refused-by-engine", pointer, f"argo_judge refuses the template: {refusal.text}",
                     "docs/use/formats.md#refusals-of-templates has each refusal")
 
 

@@ -2,7 +2,6 @@
 from typing import NamedTuple
 
 from reports import effect_text, verdict_text
-from suites.judging import name_of_refusal
 
 
 class Difference(NamedTuple):
@@ -69,10 +68,10 @@ def of_run(case, run):
 
 def differences(case, outcome):
     """What differs of a case, of which there may be much."""
-    wanted, line = case.expected.refused, outcome.refusal
-    if line is None and wanted is None:
+    wanted, refusal = case.expected.refused, outcome.refusal
+    if refusal is None and wanted is None:
         yield from of_run(case, outcome.run)
-    elif line is None:
+    elif refusal is None:
         yield Difference("refused", wanted, f"no refusal, run {outcome.run['phase']}")
-    elif name_of_refusal(line) != wanted:
-        yield Difference("refused", wanted or "no refusal", line.replace("argo_judge: ", "", 1))
+    elif refusal.name != wanted:
+        yield Difference("refused", wanted or "no refusal", refusal.text)

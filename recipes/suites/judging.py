@@ -1,18 +1,14 @@
 """What the engine says of cases: many of them are runs of one document."""
 import json
-import re
-import subprocess
-import sys
 from typing import NamedTuple, Optional
 
 from documents import judged
-from ending import Status
+from ending import REFUSED, Status
+from refusals import Refusal, hand_on, refusal_in
 from reports import checked
 from suites.cases import MOST_BYTES, MOST_MEASUREMENTS
 
 MOST_RUNS = 64
-TEXT = re.compile(r'"(?:[^"\\]|\\.)*"')
-NAME = re.compile(r": ([A-Z][A-Za-z0-9]*)(?=:|$)")
 
 
 class Subject(NamedTuple):
@@ -23,15 +19,9 @@ class Subject(NamedTuple):
 
 
 class Outcome(NamedTuple):
-    """What the engine says of a case: its run of a report, or the line of a refusal."""
+    """What the engine says of a case: its run of a report, or a refusal."""
     run: Optional[dict]
-    refusal: Optional[str]
-
-
-def name_of_refusal(line):
-    """The name in the line of a refusal, which comes after where it is."""
-    found = NAME.search(TEXT.sub('""', line))
-    return found[1] if found else line
+    refusal: Optional[Refusal]
 
 
 # ---- documents
@@ -66,15 +56,15 @@ def parts_of(cases, first_size):
 
 def ended_otherwise(ended):
     """Ends as the engine did where it neither judged nor refused a document, with its own line."""
-    sys.stderr.write(ended.stderr)
+    hand_on(ended.returncode, ended.stderr)
     raise Status(ended.returncode if ended.returncode > 0 else 128 - ended.returncode)
 
 
 def answered(engine, words, document):
     """What the engine writes of a document, or its refusal, one of which is None."""
-    ended = judged(engine, words, document, stdout=subprocess.PIPE, stderr=subprocess.PIPE)
-    if ended.returncode == 2:
-        return None, ended.stderr.strip()
+    ended = judged(engine, words, document, capture_output=True)
+    if ended.returncode == REFUSED:
+        return None, refusal_in(ended.stderr)
     if ended.returncode not in (0, 1):
         ended_otherwise(ended)
     return ended.stdout, None

@@ -5,7 +5,7 @@ from dataclasses import dataclass, field
 
 from documents import Refused, shown
 from suites.comparing import differences
-from suites.judging import Subject, name_of_refusal, outcomes_of
+from suites.judging import Subject, outcomes_of
 from suites.moves import moves_of
 
 
@@ -30,7 +30,7 @@ def tried(engine, trial, move):
     refusals = []
     for case, outcome in outcomes_of(engine, subject, trial.cases):
         if outcome.refusal is not None:
-            refusals.append(name_of_refusal(outcome.refusal))
+            refusals.append(outcome.refusal.name)
         elif next(differences(case, outcome), None) is not None:
             return True
     return refusals[0] if refusals and len(refusals) == len(trial.cases) else False

@@ -1,4 +1,5 @@
--- Refusals of conditions by their kinds: their names, and the byte at which the tree begins that requires something else.
+-- Refusals of conditions by their kinds: their names, and the byte at which the tree begins that requires something
+-- else.
 use Rattle.std.specs.Prelude.{ℕ, codes, Option, Some, None}
 use Rattle.ar_value.specs.Terms.{Text}
 use Rattle.ar_check.specs.declared.error.TypeError.{TypeError}

@@ -8,7 +8,7 @@ use Rattle.ar_check.specs.Refused.{refused_at as kinds_refused_at, type_error_na
 use Rattle.ar_check.specs.declared.error.TypeError.{TypeError}
 use Rattle.ar_check.specs.declared.error.TypeError.TheVariants as kinds
 use Rattle.ar_check.specs.declared.found.Operands.{Operands}
-use Rattle.ar_diagnostic.specs.Diagnostic.{expecting, named}
+use Rattle.ar_diagnostic.specs.Diagnostic.{expecting, plain_diagnostic}
 use Rattle.ar_diagnostic.specs.declared.diagnostic.Diagnostic.{Diagnostic}
 use Rattle.ar_diagnostic.specs.declared.diagnostic.Expected.{Expected}
 use Rattle.ar_diagnostic.specs.declared.diagnostic.Expected.TheVariants.{Thing, Rule}
@@ -82,7 +82,7 @@ syntax_token condition error = token_in condition (syntax_refused_at error)
 
 unfoldable pub syntax_with : Place → SyntaxError → Option TokenAt → Diagnostic
 syntax_with place error here =
-    record (named place (syntax_error_name error)) {
+    record (plain_diagnostic place (syntax_error_name error)) {
       spot = spot_of (syntax_refused_at error) here;
       found = syntax_found error here;
       expected = syntax_expected error;
@@ -158,7 +158,7 @@ kinds_found error here operands = None
 
 unfoldable pub kinds_with : Place → TypeError → Option TokenAt → Option Operands → Diagnostic
 kinds_with place error here operands =
-    record (named place (type_error_name error)) {
+    record (plain_diagnostic place (type_error_name error)) {
       spot = spot_of (kinds_refused_at error) here;
       found = kinds_found error here operands;
       expected = kinds_expected error here operands;
@@ -170,11 +170,11 @@ kinds_with place error here operands =
 unfoldable pub code_diagnostic : Place → Reason → Diagnostic
 code_diagnostic place StackTooDeep = expecting place (reason_name StackTooDeep) (codes "at most 64 operands")
 code_diagnostic place BudgetTooLarge =
-    record (named place (reason_name BudgetTooLarge)) {
+    record (plain_diagnostic place (reason_name BudgetTooLarge)) {
       found = Some (codes "a run may cost over 1000000000");
       hint = Some (codes "lower a list's max or nest fewer predicates");
     }
-code_diagnostic place reason = named place (reason_name reason)
+code_diagnostic place reason = plain_diagnostic place (reason_name reason)
 
 unfoldable pub length_diagnostic : Place → Diagnostic
 length_diagnostic place =
@@ -192,4 +192,4 @@ condition_diagnostic place shape condition (causes.Kinds error) =
     kinds_with place error (token_in condition (kinds_refused_at error)) (refused_operands shape condition error)
 condition_diagnostic place shape condition (causes.Compiler error) = length_diagnostic place
 condition_diagnostic place shape condition (causes.Verifier index reason) = code_diagnostic place reason
-condition_diagnostic place shape condition causes.OutOfMemory = named place (codes "OutOfMemory")
+condition_diagnostic place shape condition causes.OutOfMemory = plain_diagnostic place (codes "OutOfMemory")

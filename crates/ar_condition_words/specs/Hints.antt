@@ -21,7 +21,7 @@ function_hint token =
     if is_conversion token then Some (codes "leave it out: the shape says the kind")
     else (if is_float_test token
     then Some
-    (codes "NaN and infinities are no values: such a measurement is the error NotFinite, which counts towards `consecutiveErrorLimit`")
+    (codes "NaN is no value here: it is the error NotFinite, which consecutiveErrorLimit counts")
     else None)
 
 -- ---- signs and words
@@ -30,7 +30,7 @@ abbrev pub token_hint : (token : Text) → Option Text
 token_hint token =
     if bytes_eq token (codes "=") then Some (codes "`==` compares")
     else (if bytes_eq token (codes "`") then Some (codes "a text stands in \"..\" or '..'")
-    else (if bytes_eq token (codes "|") then Some (codes "there are no pipes; a call has its arguments in parentheses, as len(result)")
+    else (if bytes_eq token (codes "|") then Some (codes "there are no pipes; write calls as len(result)")
     else (if bytes_eq token (codes "matches")
     then Some (codes "there are no regular expressions; contains, startsWith and endsWith compare texts")
     else None)))
@@ -38,26 +38,26 @@ token_hint token =
 abbrev pub comes_after : (sign before : Text) → Bool
 comes_after sign before = ends_with nat_eq before sign
 
-abbrev pub begins_with : (sign token : Text) → Bool
-begins_with sign token = starts_with nat_eq token sign
+abbrev pub token_begins : (sign token : Text) → Bool
+token_begins sign token = starts_with nat_eq token sign
 
 -- of a sign that two others make
 abbrev pub pair_hint : (before token : Text) → Option Text
 pair_hint before token =
-    if comes_after (codes "?") before && begins_with (codes "?") token
+    if comes_after (codes "?") before && token_begins (codes "?") token
     then Some (codes "there is no `??`; default(a, b) is b where a is nil")
-    else (if comes_after (codes "?") before && begins_with (codes ".") token
-    then Some (codes "there is no `?.`; isNil(a) || a.b > 0 tests a first")
-    else (if comes_after (codes "*") before && begins_with (codes "*") token
+    else (if comes_after (codes "?") before && token_begins (codes ".") token
+    then Some (codes "there is no `?.`; test isNil(a) first")
+    else (if comes_after (codes "*") before && token_begins (codes "*") token
     then Some (codes "there is no power; write a product")
-    else (if comes_after (codes ".") before && begins_with (codes ".") token
+    else (if comes_after (codes ".") before && token_begins (codes ".") token
     then Some (codes "there are no ranges; write two comparisons")
     else None)))
 
 -- of a letter that continues a number
 abbrev pub exponent_hint : (token : Text) → Option Text
 exponent_hint token =
-    if begins_with (codes "e") token || begins_with (codes "E") token
+    if token_begins (codes "e") token || token_begins (codes "E") token
     then Some (codes "a number has no exponent; write 0.001 in place of 1e-3") else None
 
 abbrev pub syntax_hint : SyntaxError → TokenAt → Option Text

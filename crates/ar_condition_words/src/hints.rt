@@ -2,7 +2,7 @@
 
 ghost use Rattle.std.specs.Prelude.{◌≡◌, IfOk, option_map};
 ghost use Rattle.ar_quote.specs.Tokens.{found};
-ghost use Rattle.ar_condition_words.specs.Hints.{begins_with, comes_after, exponent_hint, function_hint, is_conversion, is_float_test, pair_hint, syntax_hint, token_hint};
+ghost use Rattle.ar_condition_words.specs.Hints.{token_begins, comes_after, exponent_hint, function_hint, is_conversion, is_float_test, pair_hint, syntax_hint, token_hint};
 
 use ar_quote::TokenAt;
 use ar_syntax::SyntaxError;
@@ -27,9 +27,7 @@ fn function_hint(token: &str) -> Option<&'static str>
     if is_conversion(token) {
         Some("leave it out: the shape says the kind")
     } else if is_float_test(token) {
-        Some(
-            "NaN and infinities are no values: such a measurement is the error NotFinite, which counts towards `consecutiveErrorLimit`",
-        )
+        Some("NaN is no value here: it is the error NotFinite, which consecutiveErrorLimit counts")
     } else {
         None
     }
@@ -43,7 +41,7 @@ fn token_hint(token: &str) -> Option<&'static str>
     match token {
         "=" => Some("`==` compares"),
         "`" => Some("a text stands in \"..\" or '..'"),
-        "|" => Some("there are no pipes; a call has its arguments in parentheses, as len(result)"),
+        "|" => Some("there are no pipes; write calls as len(result)"),
         "matches" => Some(
             "there are no regular expressions; contains, startsWith and endsWith compare texts",
         ),
@@ -57,8 +55,8 @@ fn comes_after(sign: &str, before: &str) -> bool
     before.ends_with(sign)
 }
 
-fn begins_with(sign: &str, token: &str) -> bool
-    ensures { result ≡ begins_with sign.now token.now }
+fn token_begins(sign: &str, token: &str) -> bool
+    ensures { result ≡ token_begins sign.now token.now }
 {
     token.starts_with(sign)
 }
@@ -67,13 +65,13 @@ fn begins_with(sign: &str, token: &str) -> bool
 fn pair_hint(before: &str, token: &str) -> Option<&'static str>
     ensures { option_map (λ hint. hint.now) result ≡ pair_hint before.now token.now }
 {
-    if comes_after("?", before) && begins_with("?", token) {
+    if comes_after("?", before) && token_begins("?", token) {
         Some("there is no `??`; default(a, b) is b where a is nil")
-    } else if comes_after("?", before) && begins_with(".", token) {
-        Some("there is no `?.`; isNil(a) || a.b > 0 tests a first")
-    } else if comes_after("*", before) && begins_with("*", token) {
+    } else if comes_after("?", before) && token_begins(".", token) {
+        Some("there is no `?.`; test isNil(a) first")
+    } else if comes_after("*", before) && token_begins("*", token) {
         Some("there is no power; write a product")
-    } else if comes_after(".", before) && begins_with(".", token) {
+    } else if comes_after(".", before) && token_begins(".", token) {
         Some("there are no ranges; write two comparisons")
     } else {
         None
@@ -84,7 +82,7 @@ fn pair_hint(before: &str, token: &str) -> Option<&'static str>
 fn exponent_hint(token: &str) -> Option<&'static str>
     ensures { option_map (λ hint. hint.now) result ≡ exponent_hint token.now }
 {
-    if begins_with("e", token) || begins_with("E", token) {
+    if token_begins("e", token) || token_begins("E", token) {
         Some("a number has no exponent; write 0.001 in place of 1e-3")
     } else {
         None

@@ -10,8 +10,8 @@ use Rattle.serde_json.specs.Data.{Data, depth}
 use Rattle.serde_json.specs.Read.{max_depth}
 use Rattle.serde_json.specs.Written.{has_float}
 use Rattle.ar_object.proofs.Values.{above, count_exact, count_flat, few, none_deep, none_float, one_deep, text_exact, text_flat}
-use Rattle.ar_diagnostic.specs.Diagnostic.{line_of, warning_of}
-use Rattle.ar_diagnostic.specs.DiagnosticData.{argument_of, diagnostic_with, entry_of, expected_text, field_of, item_or_null, metric_of, place_data, position_data, refusal_data, run_of, warning_data, warnings_data}
+use Rattle.ar_diagnostic.specs.Diagnostic.{refusal_text_of, warning_text_of}
+use Rattle.ar_diagnostic.specs.DiagnosticData.{place_argument, diagnostic_with, place_entry, expected_words, place_field, item_or_null, place_metric, place_data, position_data, refusal_data, place_run, warning_data, warnings_data}
 use Rattle.ar_diagnostic.specs.Place.{pointer}
 use Rattle.ar_diagnostic.specs.declared.diagnostic.Diagnostic.{Diagnostic}
 use Rattle.ar_diagnostic.specs.declared.diagnostic.Position.{Position}
@@ -27,7 +27,7 @@ item_exact None = refl
 place_exact : (place : Place) (spot : Option Spot) → has_float (place_data place spot) ≡ false
 unfolding place_data
 place_exact place spot =
-    rw (item_exact (argument_of place), count_exact (entry_of place), text_exact (option_and_then (λ (spot : Spot). spot.excerpt) spot), text_exact (field_of place), item_exact (metric_of place), count_exact (option_map (λ (spot : Spot). spot.offset) spot), item_exact (run_of place)) refl
+    rw (item_exact (place_argument place), count_exact (place_entry place), text_exact (option_and_then (λ (spot : Spot). spot.excerpt) spot), text_exact (place_field place), item_exact (place_metric place), count_exact (option_map (λ (spot : Spot). spot.offset) spot), item_exact (place_run place)) refl
 
 position_exact : (position : Option Position) → has_float (position_data position) ≡ false
 position_exact None = refl
@@ -37,15 +37,15 @@ position_exact (Some (At line column)) = refl
 with_exact : (line : List ℕ) (it : Diagnostic) → has_float (diagnostic_with line it) ≡ false
 unfolding diagnostic_with
 with_exact line it =
-    rw (text_exact (option_map expected_text it.expected), text_exact it.found, text_exact it.hint, place_exact it.place it.spot, text_exact (pointer it.place), position_exact it.position) refl
+    rw (text_exact (option_map expected_words it.expected), text_exact it.found, text_exact it.hint, place_exact it.place it.spot, text_exact (pointer it.place), position_exact it.position) refl
 
 pub refusal_exact : (it : Diagnostic) → has_float (refusal_data it) ≡ false
 unfolding refusal_data
-refusal_exact it = rw (with_exact (line_of it) it) refl
+refusal_exact it = rw (with_exact (refusal_text_of it) it) refl
 
 pub warnings_exact : (warnings : List Diagnostic) → has_float (warnings_data warnings) ≡ false
 unfolding warnings_data
-warnings_exact warnings = rw (none_float warning_data (λ it. with_exact (warning_of it) it) warnings) refl
+warnings_exact warnings = rw (none_float warning_data (λ it. with_exact (warning_text_of it) it) warnings) refl
 
 -- ---- and none is deep
 
@@ -61,7 +61,7 @@ three one two last =
 place_flat : (place : Place) (spot : Option Spot) → depth (place_data place spot) ≤ 2
 unfolding place_data
 place_flat place spot =
-    rw (count_flat (entry_of place), text_flat (option_and_then (λ (spot : Spot). spot.excerpt) spot), text_flat (field_of place), count_flat (option_map (λ (spot : Spot). spot.offset) spot)) (three (item_flat (argument_of place)) (item_flat (metric_of place)) (item_flat (run_of place)))
+    rw (count_flat (place_entry place), text_flat (option_and_then (λ (spot : Spot). spot.excerpt) spot), text_flat (place_field place), count_flat (option_map (λ (spot : Spot). spot.offset) spot)) (three (item_flat (place_argument place)) (item_flat (place_metric place)) (item_flat (place_run place)))
 
 position_flat : (position : Option Position) → depth (position_data position) ≤ 2
 position_flat None = omega arith
@@ -76,12 +76,12 @@ two one last =
 with_flat : (line : List ℕ) (it : Diagnostic) → depth (diagnostic_with line it) ≤ 3
 unfolding diagnostic_with
 with_flat line it =
-    rw (text_flat (option_map expected_text it.expected), text_flat it.found, text_flat it.hint, text_flat (pointer it.place)) (two (place_flat it.place it.spot) (position_flat it.position))
+    rw (text_flat (option_map expected_words it.expected), text_flat it.found, text_flat it.hint, text_flat (pointer it.place)) (two (place_flat it.place it.spot) (position_flat it.position))
 
 pub refusal_flat : (it : Diagnostic) → depth (refusal_data it) ≤ max_depth
 unfolding refusal_data
 refusal_flat it =
-    let inner = with_flat (line_of it) it in
+    let inner = with_flat (refusal_text_of it) it in
     let none : 0 ≤ 9 = omega arith in
     few (above (max-le (omega arith) (max-le none none)))
 
@@ -89,7 +89,7 @@ pub warnings_flat : (warnings : List Diagnostic) → depth (warnings_data warnin
 unfolding warnings_data
 warnings_flat warnings =
     let none : 0 ≤ 9 = omega arith in
-    few (above (max-le none (max-le (above (none_deep warning_data 8 (λ it. let less = with_flat (warning_of it) it in omega arith) warnings)) none)))
+    few (above (max-le none (max-le (above (none_deep warning_data 8 (λ it. let less = with_flat (warning_text_of it) it in omega arith) warnings)) none)))
 
 -- ---- warnings, one after another
 

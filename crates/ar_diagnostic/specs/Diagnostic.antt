@@ -13,8 +13,8 @@ use Rattle.ar_diagnostic.specs.declared.place.Place.{Place}
 -- ---- parts
 
 -- what has a place and a name, and no more
-abbrev pub named : Place → (name : Text) → Diagnostic
-named place name =
+abbrev pub plain_diagnostic : Place → (name : Text) → Diagnostic
+plain_diagnostic place name =
     record {
       place = place;
       spot = None;
@@ -27,7 +27,7 @@ named place name =
 
 -- something else is expected
 abbrev pub expecting : Place → (name expected : Text) → Diagnostic
-expecting place name expected = record (named place name) { expected = Some (Thing expected) }
+expecting place name expected = record (plain_diagnostic place name) { expected = Some (Thing expected) }
 
 -- ---- a line
 
@@ -52,10 +52,12 @@ thing_part expected = None
 
 abbrev pub position_text : Position → Text
 position_text End = codes "the text ends too early"
-position_text (At line column) = codes "the fault is at line " ++ (decimal line ++ (codes ", column " ++ decimal column))
+position_text (At line column) =
+    codes "the fault is at line " ++ (decimal line ++ (codes ", column " ++ decimal column))
 
 abbrev pub excerpt_part : Option Spot → Option Text
-excerpt_part spot = option_map (λ excerpt. codes "in " ++ excerpt) (option_and_then (λ (spot : Spot). spot.excerpt) spot)
+excerpt_part spot =
+    option_map (λ excerpt. codes "in " ++ excerpt) (option_and_then (λ (spot : Spot). spot.excerpt) spot)
 
 -- words, ready for a further part
 abbrev pub begun : (words : Text) → Text
@@ -80,9 +82,10 @@ after_colon [] = []
 after_colon (byte ∷ words) = codes ": " ++ (byte ∷ words)
 
 -- as `runs: Runs: expected a list`
-unfoldable pub line_of : Diagnostic → Text
-line_of it = place_text it.place ++ (spot_text it.spot ++ (codes ": " ++ (it.name ++ after_colon (words_of it))))
+unfoldable pub refusal_text_of : Diagnostic → Text
+refusal_text_of it =
+    place_text it.place ++ (spot_text it.spot ++ (codes ": " ++ (it.name ++ after_colon (words_of it))))
 
 -- as `metric 0 "rate": no condition`, without the name
-unfoldable pub warning_of : Diagnostic → Text
-warning_of it = place_text it.place ++ (spot_text it.spot ++ after_colon (words_of it))
+unfoldable pub warning_text_of : Diagnostic → Text
+warning_text_of it = place_text it.place ++ (spot_text it.spot ++ after_colon (words_of it))

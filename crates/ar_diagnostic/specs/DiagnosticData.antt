@@ -5,7 +5,7 @@ use Rattle.std.specs.Option.{option_map_or}
 use Rattle.serde_json.specs.Data.{Data, boolean, member, no_members, null, object, string}
 use Rattle.ar_object.specs.Object.{array_of, count_data, count_or_null, text_or_null, version}
 use Rattle.ar_value.specs.Terms.{Text}
-use Rattle.ar_diagnostic.specs.Diagnostic.{line_of, warning_of}
+use Rattle.ar_diagnostic.specs.Diagnostic.{refusal_text_of, warning_text_of}
 use Rattle.ar_diagnostic.specs.Place.{entry_part_name, flag_name, member_name, pointer, condition_field_name}
 use Rattle.ar_diagnostic.specs.declared.diagnostic.Diagnostic.{Diagnostic}
 use Rattle.ar_diagnostic.specs.declared.diagnostic.Expected.{Expected}
@@ -29,51 +29,51 @@ metric_part within.Manifest = codes "manifest"
 metric_part within.Shapes = codes "shapes"
 
 -- the part of the input
-abbrev pub part_of : Place → Text
-part_of (places.CommandLine flag) = codes "command line"
-part_of places.CommandNumber = codes "command"
-part_of places.Document = codes "document"
-part_of (places.Member of) = member_name of
-part_of (places.Metric part item) = metric_part part
-part_of (places.Run item) = codes "runs"
-part_of (places.Entry number) = codes "measurements"
-part_of (places.EntryMember number part) = codes "measurements"
-part_of place = codes "manifest"
+abbrev pub place_part : Place → Text
+place_part (places.CommandLine flag) = codes "command line"
+place_part places.CommandNumber = codes "command"
+place_part places.Document = codes "document"
+place_part (places.Member of) = member_name of
+place_part (places.Metric part item) = metric_part part
+place_part (places.Run item) = codes "runs"
+place_part (places.Entry number) = codes "measurements"
+place_part (places.EntryMember number part) = codes "measurements"
+place_part place = codes "manifest"
 
-abbrev pub run_of : Place → Option Item
-run_of (places.Run item) = Some item
-run_of (places.BoundMetric run metric) = Some run
-run_of (places.Condition run metric field) = Some run
-run_of place = None
+abbrev pub place_run : Place → Option Item
+place_run (places.Run item) = Some item
+place_run (places.BoundMetric run metric) = Some run
+place_run (places.Condition run metric field) = Some run
+place_run place = None
 
-abbrev pub metric_of : Place → Option Item
-metric_of (places.Metric part item) = Some item
-metric_of (places.BoundMetric run metric) = Some metric
-metric_of (places.Condition run metric field) = Some metric
-metric_of place = None
+abbrev pub place_metric : Place → Option Item
+place_metric (places.Metric part item) = Some item
+place_metric (places.BoundMetric run metric) = Some metric
+place_metric (places.Condition run metric field) = Some metric
+place_metric place = None
 
-abbrev pub argument_of : Place → Option Item
-argument_of (places.Argument item) = Some item
-argument_of place = None
+abbrev pub place_argument : Place → Option Item
+place_argument (places.Argument item) = Some item
+place_argument place = None
 
 -- the number of an item of `measurements`
-abbrev pub entry_of : Place → Option ℕ
-entry_of (places.Entry number) = Some number
-entry_of (places.EntryMember number part) = Some number
-entry_of place = None
+abbrev pub place_entry : Place → Option ℕ
+place_entry (places.Entry number) = Some number
+place_entry (places.EntryMember number part) = Some number
+place_entry place = None
 
 abbrev pub spec_field : SpecPart → Option Text
 spec_field spec.Spec = None
 spec_field spec.Args = Some (codes "args")
 spec_field spec.DryRun = Some (codes "dryRun")
 
-abbrev pub field_of : Place → Option Text
-field_of (places.CommandLine flag) = option_map flag_name flag
-field_of (places.Spec part) = spec_field part
-field_of (places.DryRunName number) = Some (codes "metricName")
-field_of (places.Condition run metric field) = Some (condition_field_name field)
-field_of (places.EntryMember number part) = Some (entry_part_name part)
-field_of place = None
+abbrev pub place_field : Place → Option Text
+place_field (places.CommandLine flag) = option_map flag_name flag
+place_field (places.Spec part) = spec_field part
+place_field (places.DryRunName number) = Some (codes "metricName")
+place_field (places.Condition run metric field) = Some (condition_field_name field)
+place_field (places.EntryMember number part) = Some (entry_part_name part)
+place_field place = None
 
 -- ---- objects
 
@@ -87,14 +87,14 @@ item_or_null found = option_map_or item_data found null
 
 unfoldable pub place_data : Place → Option Spot → Data
 place_data place spot = object
-    (member (codes "argument") (item_or_null (argument_of place))
-    (member (codes "entry") (count_or_null (entry_of place))
+    (member (codes "argument") (item_or_null (place_argument place))
+    (member (codes "entry") (count_or_null (place_entry place))
     (member (codes "excerpt") (text_or_null (option_and_then (λ (spot : Spot). spot.excerpt) spot))
-    (member (codes "field") (text_or_null (field_of place))
-    (member (codes "metric") (item_or_null (metric_of place))
+    (member (codes "field") (text_or_null (place_field place))
+    (member (codes "metric") (item_or_null (place_metric place))
     (member (codes "offset") (count_or_null (option_map (λ (spot : Spot). spot.offset) spot))
-    (member (codes "part") (string (part_of place))
-    (member (codes "run") (item_or_null (run_of place)) no_members))))))))
+    (member (codes "part") (string (place_part place))
+    (member (codes "run") (item_or_null (place_run place)) no_members))))))))
 
 abbrev pub position_data : Option Position → Data
 position_data None = null
@@ -107,14 +107,14 @@ position_data (Some (At line column)) = object
     (member (codes "end") (boolean false)
     (member (codes "line") (count_data line) no_members)))
 
-abbrev pub expected_text : Expected → Text
-expected_text (Thing thing) = thing
-expected_text (Rule rule) = rule
+abbrev pub expected_words : Expected → Text
+expected_words (Thing thing) = thing
+expected_words (Rule rule) = rule
 
 -- a diagnostic, with a line that says it
 unfoldable pub diagnostic_with : (line : Text) → Diagnostic → Data
 diagnostic_with line it = object
-    (member (codes "expected") (text_or_null (option_map expected_text it.expected))
+    (member (codes "expected") (text_or_null (option_map expected_words it.expected))
     (member (codes "found") (text_or_null it.found)
     (member (codes "hint") (text_or_null it.hint)
     (member (codes "name") (string it.name)
@@ -125,11 +125,11 @@ diagnostic_with line it = object
 
 unfoldable pub refusal_data : Diagnostic → Data
 refusal_data it = object
-    (member (codes "refusal") (diagnostic_with (line_of it) it)
+    (member (codes "refusal") (diagnostic_with (refusal_text_of it) it)
     (member (codes "version") version no_members))
 
 abbrev pub warning_data : Diagnostic → Data
-warning_data it = diagnostic_with (warning_of it) it
+warning_data it = diagnostic_with (warning_text_of it) it
 
 unfoldable pub warnings_data : List Diagnostic → Data
 warnings_data warnings = object

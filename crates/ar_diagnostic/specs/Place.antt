@@ -54,8 +54,8 @@ after_blank None = []
 after_blank (Some name) = codes " " ++ quoted name
 
 -- as `metric 3 "rate"`
-abbrev pub item_text : (kind : Text) → Item → Text
-item_text kind item = kind ++ (codes " " ++ (decimal item.number ++ after_blank item.name))
+abbrev pub item_place_text : (kind : Text) → Item → Text
+item_place_text kind item = kind ++ (codes " " ++ (decimal item.number ++ after_blank item.name))
 
 abbrev pub spec_text : SpecPart → Text
 spec_text spec.Spec = codes "spec"
@@ -68,11 +68,12 @@ within_text within.Manifest = codes "manifest: "
 within_text within.Shapes = codes "shapes: "
 
 -- a metric, with the arguments of a run
-abbrev pub bound_text : (run metric : Item) → Text
-bound_text run metric = item_text (codes "run") run ++ (codes ", " ++ item_text (codes "metric") metric)
+abbrev pub bound_metric_text : (run metric : Item) → Text
+bound_metric_text run metric =
+    item_place_text (codes "run") run ++ (codes ", " ++ item_place_text (codes "metric") metric)
 
-abbrev pub entry_text : (number : ℕ) → Text
-entry_text number = codes "measurements[" ++ (decimal number ++ codes "]")
+abbrev pub entry_place_text : (number : ℕ) → Text
+entry_place_text number = codes "measurements[" ++ (decimal number ++ codes "]")
 
 abbrev pub place_text : Place → Text
 place_text (places.CommandLine None) = codes "command line"
@@ -81,14 +82,15 @@ place_text places.CommandNumber = codes "command"
 place_text places.Document = codes "document"
 place_text (places.Member member) = member_name member
 place_text (places.Spec part) = spec_text part
-place_text (places.Argument item) = codes "manifest: " ++ item_text (codes "argument") item
+place_text (places.Argument item) = codes "manifest: " ++ item_place_text (codes "argument") item
 place_text (places.DryRunName number) = codes "manifest: spec.dryRun[" ++ (decimal number ++ codes "].metricName")
-place_text (places.Metric part item) = within_text part ++ item_text (codes "metric") item
+place_text (places.Metric part item) = within_text part ++ item_place_text (codes "metric") item
 place_text (places.Run item) = codes "runs[" ++ (decimal item.number ++ codes "]")
-place_text (places.BoundMetric run metric) = bound_text run metric
-place_text (places.Condition run metric field) = bound_text run metric ++ (codes ", " ++ condition_field_name field)
-place_text (places.Entry number) = entry_text number
-place_text (places.EntryMember number part) = entry_text number ++ (codes "." ++ entry_part_name part)
+place_text (places.BoundMetric run metric) = bound_metric_text run metric
+place_text (places.Condition run metric field) =
+    bound_metric_text run metric ++ (codes ", " ++ condition_field_name field)
+place_text (places.Entry number) = entry_place_text number
+place_text (places.EntryMember number part) = entry_place_text number ++ (codes "." ++ entry_part_name part)
 
 -- ---- as a pointer
 

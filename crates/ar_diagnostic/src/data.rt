@@ -7,7 +7,7 @@ ghost use Rattle.ar_object.specs.Line.{IsJsonLine};
 ghost use Rattle.ar_object.specs.Object.{Has, count_or_null, text_or_null};
 ghost use Rattle.ar_diagnostic.specs.Place.{pointer};
 ghost use Rattle.ar_diagnostic.specs.declared.diagnostic.Spot.{Spot};
-ghost use Rattle.ar_diagnostic.specs.DiagnosticData.{diagnostic_with, expected_text, item_data, item_or_null, place_data, position_data, refusal_data, warning_data, warnings_data};
+ghost use Rattle.ar_diagnostic.specs.DiagnosticData.{diagnostic_with, expected_words, item_data, item_or_null, place_data, position_data, refusal_data, warning_data, warnings_data};
 
 use crate::diagnostic::{Diagnostic, Expected, Position, Spot};
 use crate::line::{refusal_line, warning_line};
@@ -115,7 +115,7 @@ fn position_json(alloc: Global, position: Option<Position>) -> Result<Json, Allo
 }
 
 fn expected_of(expected: &Option<Expected>) -> Option<&str>
-    ensures { option_map (λ text. text.now) result ≡ option_map expected_text expected.now }
+    ensures { option_map (λ text. text.now) result ≡ option_map expected_words expected.now }
 {
     match expected {
         Some(Expected::Thing(text) | Expected::Rule(text)) => Some(text.as_str()),

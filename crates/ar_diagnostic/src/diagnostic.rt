@@ -2,7 +2,7 @@
 
 ghost use Rattle.std.specs.Prelude.{◌≡◌, IfOk, Some, option_map};
 ghost use Rattle.ar_diagnostic.specs.declared.diagnostic.Expected.TheVariants as wanted;
-ghost use Rattle.ar_diagnostic.specs.Diagnostic.{expecting, named};
+ghost use Rattle.ar_diagnostic.specs.Diagnostic.{expecting, plain_diagnostic};
 
 use crate::place::Place;
 use ar_value::Text;
@@ -52,7 +52,7 @@ pub enum Position {
 impl Diagnostic {
     /// What has a place and a name, and no more.
     pub fn named(alloc: Global, place: Place, name: &str) -> Result<Diagnostic, AllocError>
-        ensures { IfOk result (λ it. it ≡ named place name.now) }
+        ensures { IfOk result (λ it. it ≡ plain_diagnostic place name.now) }
     {
         Ok(Diagnostic {
             place,

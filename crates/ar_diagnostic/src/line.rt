@@ -2,7 +2,7 @@
 
 ghost use Rattle.std.specs.Prelude.{◌≡◌, ◌++◌, IfOk, OnOk, Some, option_map, string_bytes};
 ghost use Rattle.ar_diagnostic.specs.Place.{place_text};
-ghost use Rattle.ar_diagnostic.specs.Diagnostic.{after_colon, begun, excerpt_part, found_part, line_of, position_text, rule_part, spot_text, then_part, thing_part, warning_of, words_of};
+ghost use Rattle.ar_diagnostic.specs.Diagnostic.{after_colon, begun, excerpt_part, found_part, refusal_text_of, position_text, rule_part, spot_text, then_part, thing_part, warning_text_of, words_of};
 
 use crate::diagnostic::{Diagnostic, Expected, Position, Spot};
 use crate::place_text::push_place;
@@ -153,9 +153,9 @@ fn push_after_colon(out: &mut String, words: &str) -> Result<(), AllocError>
 /// # Errors
 ///
 /// Out of memory alone.
-#[tactic(auto, unfolding(crate::specs::Diagnostic::line_of))]
+#[tactic(auto, unfolding(crate::specs::Diagnostic::refusal_text_of))]
 pub fn refusal_line(alloc: Global, it: &Diagnostic) -> Result<String, AllocError>
-    ensures { IfOk result (λ line. string_bytes line ≡ line_of it.now) }
+    ensures { IfOk result (λ line. string_bytes line ≡ refusal_text_of it.now) }
 {
     let words = words_of(alloc, it)?;
     let mut line = String::new(alloc);
@@ -171,9 +171,9 @@ pub fn refusal_line(alloc: Global, it: &Diagnostic) -> Result<String, AllocError
 /// # Errors
 ///
 /// Out of memory alone.
-#[tactic(auto, unfolding(crate::specs::Diagnostic::warning_of))]
+#[tactic(auto, unfolding(crate::specs::Diagnostic::warning_text_of))]
 pub fn warning_line(alloc: Global, it: &Diagnostic) -> Result<String, AllocError>
-    ensures { IfOk result (λ line. string_bytes line ≡ warning_of it.now) }
+    ensures { IfOk result (λ line. string_bytes line ≡ warning_text_of it.now) }
 {
     let words = words_of(alloc, it)?;
     let mut line = String::new(alloc);

@@ -1,7 +1,7 @@
 //! Where something is.
 
 ghost use Rattle.std.specs.Prelude.{◌≡◌, option_map};
-ghost use Rattle.ar_diagnostic.specs.DiagnosticData.{argument_of, entry_of, field_of, metric_of, metric_part, part_of, run_of, spec_field};
+ghost use Rattle.ar_diagnostic.specs.DiagnosticData.{place_argument, place_entry, place_field, place_metric, metric_part, place_part, place_run, spec_field};
 ghost use Rattle.ar_diagnostic.specs.Place.{condition_field_name, entry_part_name, flag_name, member_name};
 
 use ar_value::Text;
@@ -165,7 +165,7 @@ fn spec_field(part: SpecPart) -> Option<&'static str>
 impl Place {
     /// The part of the input.
     pub(crate) fn part(&self) -> &'static str
-        ensures { result.now ≡ part_of self.now }
+        ensures { result.now ≡ place_part self.now }
     {
         match self {
             Place::CommandLine(_) => "command line",
@@ -185,7 +185,7 @@ impl Place {
     }
 
     pub(crate) fn run(&self) -> Option<&Item>
-        ensures { option_map (λ item. item.now) result ≡ run_of self.now }
+        ensures { option_map (λ item. item.now) result ≡ place_run self.now }
     {
         match self {
             Place::Run(run) | Place::BoundMetric(run, _) | Place::Condition(run, _, _) => Some(run),
@@ -194,7 +194,7 @@ impl Place {
     }
 
     pub(crate) fn metric(&self) -> Option<&Item>
-        ensures { option_map (λ item. item.now) result ≡ metric_of self.now }
+        ensures { option_map (λ item. item.now) result ≡ place_metric self.now }
     {
         match self {
             Place::Metric(_, metric)
@@ -205,7 +205,7 @@ impl Place {
     }
 
     pub(crate) fn argument(&self) -> Option<&Item>
-        ensures { option_map (λ item. item.now) result ≡ argument_of self.now }
+        ensures { option_map (λ item. item.now) result ≡ place_argument self.now }
     {
         match self {
             Place::Argument(argument) => Some(argument),
@@ -215,7 +215,7 @@ impl Place {
 
     /// The number of an item of `measurements`.
     pub(crate) fn entry(&self) -> Option<usize>
-        ensures { result ≡ entry_of self.now }
+        ensures { result ≡ place_entry self.now }
     {
         match self {
             Place::Entry(number) | Place::EntryMember(number, _) => Some(*number),
@@ -224,7 +224,7 @@ impl Place {
     }
 
     pub(crate) fn field(&self) -> Option<&'static str>
-        ensures { option_map (λ name. name.now) result ≡ field_of self.now }
+        ensures { option_map (λ name. name.now) result ≡ place_field self.now }
     {
         match self {
             Place::CommandLine(Some(flag)) => Some(flag.name()),

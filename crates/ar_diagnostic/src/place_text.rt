@@ -1,7 +1,7 @@
 //! Places, as lines and JSON Pointers say them.
 
 ghost use Rattle.std.specs.Prelude.{◌≡◌, ◌++◌, IfOk, OnOk, option_map, string_bytes};
-ghost use Rattle.ar_diagnostic.specs.Place.{after_blank, bound_text, entry_text, item_text, metric_pointer, place_text, pointer, pointer_character, pointer_token, shape_pointer, spec_pointer, spec_text, within_text};
+ghost use Rattle.ar_diagnostic.specs.Place.{after_blank, bound_metric_text, entry_place_text, item_place_text, metric_pointer, place_text, pointer, pointer_character, pointer_token, shape_pointer, spec_pointer, spec_text, within_text};
 
 use crate::place::{Item, Place, SpecPart, Within};
 use ar_quote::push_quoted;
@@ -24,7 +24,7 @@ fn push_after_blank(out: &mut String, name: &Option<Text>) -> Result<(), AllocEr
 
 /// An item by its kind, its number and its name.
 fn push_item(out: &mut String, kind: &str, item: &Item) -> Result<(), AllocError>
-    ensures { OnOk result (string_bytes out.new ≡ string_bytes out.old ++ item_text kind.now item.now) }
+    ensures { OnOk result (string_bytes out.new ≡ string_bytes out.old ++ item_place_text kind.now item.now) }
 {
     write!(out, "{kind} {}", item.number)?;
     push_after_blank(out, &item.name)
@@ -52,7 +52,7 @@ fn within_text(within: Within) -> &'static str
 
 /// A metric, with the arguments of a run.
 fn push_bound(out: &mut String, run: &Item, metric: &Item) -> Result<(), AllocError>
-    ensures { OnOk result (string_bytes out.new ≡ string_bytes out.old ++ bound_text run.now metric.now) }
+    ensures { OnOk result (string_bytes out.new ≡ string_bytes out.old ++ bound_metric_text run.now metric.now) }
 {
     push_item(out, "run", run)?;
     out.push_str(", ")?;
@@ -60,7 +60,7 @@ fn push_bound(out: &mut String, run: &Item, metric: &Item) -> Result<(), AllocEr
 }
 
 fn push_entry(out: &mut String, number: usize) -> Result<(), AllocError>
-    ensures { OnOk result (string_bytes out.new ≡ string_bytes out.old ++ entry_text number) }
+    ensures { OnOk result (string_bytes out.new ≡ string_bytes out.old ++ entry_place_text number) }
 {
     write!(out, "measurements[{number}]")
 }

@@ -59,7 +59,7 @@ name_that_is_no_word = refl
 
 not_a_number : misfit_text (misfit_here shapes.decimal (Some (json.string (codes "NaN"))) NotFinite)
     ≡ codes "the value: NotFinite: expected a decimal as a text, or a whole number, "
-    ++ codes "found \"NaN\"; a query over nothing gives NaN, so test for it"
+    ++ codes "found \"NaN\"; it is no value, and counts towards consecutiveErrorLimit"
 unfolding misfit_text quoted chars lib.Utf8.encode
 not_a_number = refl
 

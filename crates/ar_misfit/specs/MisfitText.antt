@@ -67,7 +67,7 @@ float_advice (shapes.optional shape) = float_advice shape
 abbrev pub advice : ShapeFault → (expected : Shape) → Text
 advice WrongKind expected = []
 advice FloatNumber expected = float_advice expected
-advice NotFinite expected = codes "; a query over nothing gives NaN, so test for it"
+advice NotFinite expected = codes "; it is no value, and counts towards consecutiveErrorLimit"
 advice BadDecimal expected = []
 advice OutOfRange expected = []
 advice ListTooLong expected = []

@@ -80,7 +80,7 @@ fn advice(fault: ShapeFault, expected: &Shape) -> &'static str
 {
     match fault {
         ShapeFault::FloatNumber => float_advice(expected),
-        ShapeFault::NotFinite => "; a query over nothing gives NaN, so test for it",
+        ShapeFault::NotFinite => "; it is no value, and counts towards consecutiveErrorLimit",
         ShapeFault::WrongKind
         | ShapeFault::BadDecimal
         | ShapeFault::OutOfRange

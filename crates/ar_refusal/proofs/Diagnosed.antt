@@ -8,7 +8,7 @@ use Rattle.ar_command_line.specs.declared.command_line.Command.{Command}
 use Rattle.ar_diagnostic.specs.declared.diagnostic.Diagnostic.{Diagnostic}
 use Rattle.ar_diagnostic.specs.declared.diagnostic.Position.{Position}
 use Rattle.ar_json.specs.Document.{json_of}
-use Rattle.ar_refusal.specs.Refused.{IsDiagnosis, IsNoJson, IsRefusalText, IsSaid, format_of, is_too_large, no_json}
+use Rattle.ar_refusal.specs.Refused.{IsDiagnosis, IsNoJson, IsRefusalText, IsWrittenAs, format_of, is_too_large, no_json}
 use Rattle.ar_refusal.specs.Warned.{warning_line}
 
 -- what is no JSON, at a position
@@ -26,7 +26,7 @@ unread_is command input refusal (Ok it) small none no_json = record {
 unread_is command input refusal (Err error) small none no_json = tt
 
 -- a diagnosis that is said is the text
-pub text_is : {E : Type 0} (command : Command) (input : List ℕ) (refusal : Refusal) (it : Diagnostic) (result : Result (String Global) E) → IsDiagnosis command input refusal it → IfOk result (λ text. IsSaid (format_of command) it (string_bytes text))
+pub text_is : {E : Type 0} (command : Command) (input : List ℕ) (refusal : Refusal) (it : Diagnostic) (result : Result (String Global) E) → IsDiagnosis command input refusal it → IfOk result (λ text. IsWrittenAs (format_of command) it (string_bytes text))
     → IfOk result (λ text. IsRefusalText command input refusal (string_bytes text))
 text_is command input refusal it (Ok text) diagnosis said = record { diagnostic = it; diagnosis = diagnosis; said = said }
 text_is command input refusal it (Err error) diagnosis said = tt

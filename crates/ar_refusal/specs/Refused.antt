@@ -11,7 +11,7 @@ use Rattle.ar_command_line.specs.declared.command_line.Command.{Command}
 use Rattle.ar_command_line.specs.declared.command_line.Command.TheVariants as commands
 use Rattle.ar_command_line.specs.declared.command_line.Format.{Format}
 use Rattle.ar_command_line.specs.declared.command_line.Format.TheVariants as formats
-use Rattle.ar_diagnostic.specs.Diagnostic.{expecting, line_of, named}
+use Rattle.ar_diagnostic.specs.Diagnostic.{expecting, refusal_text_of, plain_diagnostic}
 use Rattle.ar_diagnostic.specs.DiagnosticData.{refusal_data}
 use Rattle.ar_diagnostic.specs.declared.diagnostic.Diagnostic.{Diagnostic}
 use Rattle.ar_diagnostic.specs.declared.diagnostic.Position.{Position}
@@ -40,9 +40,9 @@ format_of (commands.Ordered workers format) = format
 format_of (commands.Explain selection format) = format
 
 -- a diagnostic is said as a line, without a line feed, or as one JSON object
-abbrev pub IsSaid : Format → Diagnostic → (text : Text) → Type 0
-IsSaid formats.Text it text = text ≡ line_of it
-IsSaid formats.Json it text = IsJsonLine (refusal_data it) text
+abbrev pub IsWrittenAs : Format → Diagnostic → (text : Text) → Type 0
+IsWrittenAs formats.Text it text = text ≡ refusal_text_of it
+IsWrittenAs formats.Json it text = IsJsonLine (refusal_data it) text
 
 -- ---- what the document lacks of what was named
 
@@ -56,7 +56,8 @@ measurement_count document = count_of (list_in (codes "measurements") document)
 
 abbrev pub lacking_event : (number count : ℕ) → Diagnostic
 lacking_event number count =
-    record (expecting (places.CommandLine (Some flags.Event)) (codes "NotThere") (codes "a number below " ++ decimal count)) {
+    record (expecting (places.CommandLine (Some flags.Event)) (codes "NotThere")
+    (codes "a number below " ++ decimal count)) {
       found = Some (codes "the document has no measurement " ++ decimal number);
     }
 
@@ -71,7 +72,7 @@ lacking_name flag kind name there =
     }
 
 unfoldable pub lacking_diagnostic : Selected → Data → Diagnostic
-lacking_diagnostic selections.all document = named (places.CommandLine None) (codes "NotThere")
+lacking_diagnostic selections.all document = plain_diagnostic (places.CommandLine None) (codes "NotThere")
 lacking_diagnostic (selections.event number) document = lacking_event number (measurement_count document)
 lacking_diagnostic (selections.of_run name) document =
     lacking_name flags.Run (codes "run") name (runs_there document)
@@ -83,28 +84,29 @@ lacking_diagnostic (selections.of_metric name) document =
 abbrev pub too_large : Diagnostic
 too_large = expecting places.Document (codes "TooLarge") (codes "at most 16777216 bytes")
 
-abbrev pub is_blank : (byte : ℕ) → Bool
-is_blank byte = nat_eq byte 32 || nat_eq byte 9 || nat_eq byte 10 || nat_eq byte 13
+abbrev pub is_blank_byte : (byte : ℕ) → Bool
+is_blank_byte byte = nat_eq byte 32 || nat_eq byte 9 || nat_eq byte 10 || nat_eq byte 13
 
 -- the byte order mark in UTF-8
 abbrev pub byte_order_mark : Bytes
 byte_order_mark = 0xEF ∷ 0xBB ∷ 0xBF ∷ []
 
-abbrev pub begins_with : (front input : Bytes) → Bool
-begins_with front input = starts_with nat_eq input front
+abbrev pub input_begins : (front input : Bytes) → Bool
+input_begins front input = starts_with nat_eq input front
 
 abbrev pub is_yaml : (input : Bytes) → Bool
 is_yaml input =
-    begins_with (codes "apiVersion:") input || begins_with (codes "kind:") input
-    || begins_with (codes "metadata:") input || begins_with (codes "manifest:") input
-    || begins_with (codes "---") input || begins_with (codes "#") input
+    input_begins (codes "apiVersion:") input || input_begins (codes "kind:") input
+    || input_begins (codes "metadata:") input || input_begins (codes "manifest:") input
+    || input_begins (codes "---") input || input_begins (codes "#") input
 
 abbrev pub input_hint : (input : Bytes) → Option Text
 input_hint input =
-    if all is_blank input then Some (codes "the input is empty")
-    else (if begins_with byte_order_mark input then Some (codes "the input begins with a byte order mark; leave it out")
+    if all is_blank_byte input then Some (codes "the input is empty")
+    else (if input_begins byte_order_mark input
+    then Some (codes "the input begins with a byte order mark; leave it out")
     else (if is_yaml input
-    then Some (codes "this looks like YAML; `kubectl get .. -o json` and `yq -o json` write JSON") else None))
+    then Some (codes "this looks like YAML; `yq -o json` makes it JSON") else None))
 
 unfoldable pub no_json : (input : Bytes) → Option Position → Diagnostic
 no_json input position =
@@ -130,7 +132,7 @@ refusal_diagnostic command document (refusals.Eval fault) = eval_diagnostic docu
 refusal_diagnostic command document (refusals.Bundle error) = bundle_diagnostic document error
 refusal_diagnostic (commands.Explain selection format) document refusals.NotThere =
     lacking_diagnostic (selected selection) document
-refusal_diagnostic command document refusals.NotThere = named (places.CommandLine None) (codes "NotThere")
+refusal_diagnostic command document refusals.NotThere = plain_diagnostic (places.CommandLine None) (codes "NotThere")
 
 abbrev pub IsDiagnosed : Command → (input : Bytes) → Option Data → Refusal → Diagnostic → Type 0
 IsDiagnosed command input (Some document) refusal it = it ≡ refusal_diagnostic command document refusal
@@ -145,4 +147,4 @@ pub record IsDiagnosis (command : Command) (input : Bytes) (refusal : Refusal) (
 pub record IsRefusalText (command : Command) (input : Bytes) (refusal : Refusal) (text : Text) : Type 0 where
   pub diagnostic : Diagnostic
   pub diagnosis : IsDiagnosis command input refusal diagnostic
-  pub said : IsSaid (format_of command) diagnostic text
+  pub said : IsWrittenAs (format_of command) diagnostic text

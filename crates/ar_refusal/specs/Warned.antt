@@ -4,7 +4,7 @@ use Rattle.serde_json.specs.Data.{Data}
 use Rattle.ar_value.specs.Terms.{Text}
 use Rattle.ar_command_line.specs.declared.command_line.Format.{Format}
 use Rattle.ar_command_line.specs.declared.command_line.Format.TheVariants as formats
-use Rattle.ar_diagnostic.specs.Diagnostic.{warning_of}
+use Rattle.ar_diagnostic.specs.Diagnostic.{warning_text_of}
 use Rattle.ar_diagnostic.specs.DiagnosticData.{warnings_data}
 use Rattle.ar_diagnostic.specs.declared.diagnostic.Diagnostic.{Diagnostic}
 use Rattle.ar_object.specs.Line.{IsJsonLine}
@@ -16,7 +16,7 @@ warnings_in None = []
 warnings_in (Some document) = warnings_of document
 
 abbrev pub warning_line : Diagnostic → Text
-warning_line it = codes "argo_judge: warning: " ++ (warning_of it ++ codes "\n")
+warning_line it = codes "argo_judge: warning: " ++ (warning_text_of it ++ codes "\n")
 
 -- a line each
 abbrev pub warning_lines : List Diagnostic → Text

@@ -68,8 +68,8 @@ pub fn refusal_of(
     }
 }
 
-/// What is said of a refused input, in the format of the command's answer: a line without a line feed, or one JSON object
-/// with one.
+/// What is said of a refused input, in the format of the command's answer: a line without a line feed, or one
+/// JSON object with one.
 ///
 /// # Errors
 ///

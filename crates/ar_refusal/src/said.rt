@@ -1,7 +1,7 @@
 //! Diagnostics in a format.
 
 ghost use Rattle.std.specs.Prelude.{◌≡◌, IfOk, map, string_bytes};
-ghost use Rattle.ar_refusal.specs.Refused.{IsSaid, format_of};
+ghost use Rattle.ar_refusal.specs.Refused.{IsWrittenAs, format_of};
 ghost use Rattle.ar_refusal.specs.Usage.{IsUsageText, usage_format};
 
 use ar_command::{Command, Format};
@@ -31,7 +31,7 @@ pub fn format_of(command: Command<'_>) -> Format
 ///
 /// Out of memory alone.
 pub fn said(alloc: Global, format: Format, it: &Diagnostic) -> Result<String, AllocError>
-    ensures { IfOk result (λ text. IsSaid format it.now (string_bytes text)) }
+    ensures { IfOk result (λ text. IsWrittenAs format it.now (string_bytes text)) }
 {
     match format {
         Format::Text => refusal_line(alloc, it),
@@ -50,8 +50,8 @@ fn usage_format(words: &[String]) -> Format
     }
 }
 
-/// What is said of a refused command line, in the format that its words ask for: a line without a line feed, or one JSON
-/// object with one.
+/// What is said of a refused command line, in the format that its words ask for: a line without a line feed,
+/// or one JSON object with one.
 ///
 /// # Errors
 ///

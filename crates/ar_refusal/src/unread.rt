@@ -1,7 +1,7 @@
 //! Inputs that are no document.
 
 ghost use Rattle.std.specs.Prelude.{◌≡◌, all, IfOk, option_map};
-ghost use Rattle.ar_refusal.specs.Refused.{IsNoJson, begins_with, input_hint, is_blank, is_yaml, no_json, too_large};
+ghost use Rattle.ar_refusal.specs.Refused.{IsNoJson, input_begins, input_hint, is_blank_byte, is_yaml, no_json, too_large};
 
 use ar_diagnostic::{Diagnostic, Place, Position};
 use ar_value::Text;
@@ -19,20 +19,20 @@ pub(crate) fn too_large(alloc: Global) -> Result<Diagnostic, AllocError>
 
 // ---- what an input looks like
 
-fn is_blank(byte: &u8) -> bool
-    ensures { result ≡ is_blank byte.now }
+fn is_blank_byte(byte: &u8) -> bool
+    ensures { result ≡ is_blank_byte byte.now }
 {
     matches!(*byte, b' ' | b'\t' | b'\n' | b'\r')
 }
 
 fn is_empty(input: &[u8]) -> bool
-    ensures { result ≡ all is_blank input.now }
+    ensures { result ≡ all is_blank_byte input.now }
 {
-    input.iter().all(is_blank)
+    input.iter().all(is_blank_byte)
 }
 
-fn begins_with(input: &[u8], front: &[u8]) -> bool
-    ensures { result ≡ begins_with front.now input.now }
+fn input_begins(input: &[u8], front: &[u8]) -> bool
+    ensures { result ≡ input_begins front.now input.now }
 {
     input.starts_with(front)
 }
@@ -40,12 +40,12 @@ fn begins_with(input: &[u8], front: &[u8]) -> bool
 fn is_yaml(input: &[u8]) -> bool
     ensures { result ≡ is_yaml input.now }
 {
-    begins_with(input, b"apiVersion:")
-        || begins_with(input, b"kind:")
-        || begins_with(input, b"metadata:")
-        || begins_with(input, b"manifest:")
-        || begins_with(input, b"---")
-        || begins_with(input, b"#")
+    input_begins(input, b"apiVersion:")
+        || input_begins(input, b"kind:")
+        || input_begins(input, b"metadata:")
+        || input_begins(input, b"manifest:")
+        || input_begins(input, b"---")
+        || input_begins(input, b"#")
 }
 
 fn input_hint(input: &[u8]) -> Option<&'static str>
@@ -53,10 +53,10 @@ fn input_hint(input: &[u8]) -> Option<&'static str>
 {
     if is_empty(input) {
         Some("the input is empty")
-    } else if begins_with(input, BYTE_ORDER_MARK) {
+    } else if input_begins(input, BYTE_ORDER_MARK) {
         Some("the input begins with a byte order mark; leave it out")
     } else if is_yaml(input) {
-        Some("this looks like YAML; `kubectl get .. -o json` and `yq -o json` write JSON")
+        Some("this looks like YAML; `yq -o json` makes it JSON")
     } else {
         None
     }

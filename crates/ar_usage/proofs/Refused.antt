@@ -6,7 +6,7 @@ use Rattle.std.proofs.lemmas.Str.Pattern.{starts_text}
 use Rattle.std.specs.List.{starts_with}
 use Rattle.std.specs.Option.{option_and_then}
 use Rattle.std.specs.Str.Pattern.{LacksTextAt}
-use Rattle.ar_usage.specs.Words.{after, after_prefix, at_end, first_refused, name_of, value_given, value_in, value_of}
+use Rattle.ar_usage.specs.Words.{next_after, after_prefix, at_end, first_refused, name_of, value_given, value_in, option_value}
 use Rattle.ar_usage.specs.declared.words.Next.{Next}
 use Rattle.ar_usage.specs.declared.words.Valued.{Valued}
 
@@ -14,14 +14,14 @@ module _ {B : Type 0} (text : B → List ℕ) (words : List B) (index : ℕ) (wo
   left : drop index words ≡ word ∷ drop (suc index) words
   left = drop-cons words index word within ∙ ap (λ first. first ∷ drop (suc index) words) (sym is)
 
-  pub taken : (next following : Next) (total : Option (Next × List ℕ)) → after next (text word) ≡ Some following
+  pub taken : (next following : Next) (total : Option (Next × List ℕ)) → next_after next (text word) ≡ Some following
       → first_refused next (map text (drop index words)) ≡ total → first_refused following (map text (drop (index + 1) words)) ≡ total
   unfolding first_refused
   taken next following total proceeds so_far =
       let first : first_refused next (text word ∷ map text (drop (suc index) words)) ≡ first_refused following (map text (drop (suc index) words)) = rw proceeds refl in
       rw (add-one index) (sym first ∙ ap (λ rest. first_refused next (map text rest)) (sym left) ∙ so_far)
 
-  pub refused : (next : Next) (total : Option (Next × List ℕ)) → after next (text word) ≡ None
+  pub refused : (next : Next) (total : Option (Next × List ℕ)) → next_after next (text word) ≡ None
       → first_refused next (map text (drop index words)) ≡ total → Some (next, text word) ≡ total
   unfolding first_refused
   refused next total stops so_far =
@@ -42,16 +42,16 @@ no_name option name word is lacks =
 
 module _ {B : Type 0} (text : B → List ℕ) (option : Valued) where
   module _ (words following : List B) (word : B) (first : words ≡ word ∷ following) (name : List ℕ) (is : name ≡ text word) (total : Option (List ℕ)) (so_far : value_given option (map text words) ≡ total) where
-    pub value_found : (value : List ℕ) → Some value ≡ value_of option name (map text following) → Some value ≡ total
+    pub value_found : (value : List ℕ) → Some value ≡ option_value option name (map text following) → Some value ≡ total
     unfolding value_given
     value_found value found =
-        let now : value_given option (text word ∷ map text following) ≡ Some value = rw (sym (found ∙ ap (λ name. value_of option name (map text following)) is)) refl in
+        let now : value_given option (text word ∷ map text following) ≡ Some value = rw (sym (found ∙ ap (λ name. option_value option name (map text following)) is)) refl in
         sym now ∙ ap (λ words. value_given option (map text words)) (sym first) ∙ so_far
 
-    pub no_value_yet : None ≡ value_of option name (map text following) → value_given option (map text following) ≡ total
+    pub no_value_yet : None ≡ option_value option name (map text following) → value_given option (map text following) ≡ total
     unfolding value_given
     no_value_yet missing =
-        let now : value_given option (text word ∷ map text following) ≡ value_given option (map text following) = rw (sym (missing ∙ ap (λ name. value_of option name (map text following)) is)) refl in
+        let now : value_given option (text word ∷ map text following) ≡ value_given option (map text following) = rw (sym (missing ∙ ap (λ name. option_value option name (map text following)) is)) refl in
         sym now ∙ ap (λ words. value_given option (map text words)) (sym first) ∙ so_far
 
   pub no_value : (words : List B) (total : Option (List ℕ)) → length words ≡ 0 → value_given option (map text words) ≡ total → None ≡ total

@@ -4,7 +4,7 @@ use Rattle.std.specs.Option.{option_map_or}
 use Rattle.std.specs.Str.{bytes_eq}
 use Rattle.ar_value.specs.Terms.{Text}
 use Rattle.ar_quote.specs.Shown.{quoted}
-use Rattle.ar_diagnostic.specs.Diagnostic.{expecting, named}
+use Rattle.ar_diagnostic.specs.Diagnostic.{expecting, plain_diagnostic}
 use Rattle.ar_diagnostic.specs.declared.diagnostic.Diagnostic.{Diagnostic}
 use Rattle.ar_diagnostic.specs.declared.place.Flag.TheVariants as flags
 use Rattle.ar_diagnostic.specs.declared.place.Place.TheVariants.{CommandLine}
@@ -31,7 +31,7 @@ word_expecting word why expected =
 -- a word isn't taken, and something helps
 abbrev pub word_hinted : (word hint : Text) → Diagnostic
 word_hinted word hint =
-    record (named (CommandLine None) (usage_error_name errors.Words)) {
+    record (plain_diagnostic (CommandLine None) (usage_error_name errors.Words)) {
       found = Some (quoted word ++ codes " isn't taken");
       hint = Some hint;
     }
@@ -124,7 +124,7 @@ usage_diagnostic words errors.Conflict =
 usage_diagnostic words errors.Several =
     expecting (CommandLine None) (usage_error_name errors.Several)
     (codes "one of --event, --run and --metric, not several")
-usage_diagnostic words errors.OutOfMemory = named (CommandLine None) (usage_error_name errors.OutOfMemory)
+usage_diagnostic words errors.OutOfMemory = plain_diagnostic (CommandLine None) (usage_error_name errors.OutOfMemory)
 
 -- whether the value given for `--output` is `json`
 abbrev pub asks_for_json : (words : List Text) → Bool

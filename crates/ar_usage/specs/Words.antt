@@ -107,16 +107,16 @@ abbrev pub is_option : (word : Text) → Bool
 is_option word = starts_with nat_eq word (codes "-") && not (bytes_eq word (codes "-"))
 
 -- what may come after a word, if it is taken
-abbrev pub after : Next → (word : Text) → Option Next
-after Command word =
+abbrev pub next_after : Next → (word : Text) → Option Next
+next_after Command word =
     if bytes_eq word (codes "run") then Some (Options Run none_given)
     else (if bytes_eq word (codes "explain") then Some (Options Explain none_given)
     else (if has_output word then Some (Options EvalOrCheck none_given)
     else (if bytes_eq word (codes "list") then Some Nothing
     else None)))
-after Nothing word = None
-after (Options taker given) word = after_option taker given word
-after (Value option taker given) word = if is_option word then None else Some (Options taker given)
+next_after Nothing word = None
+next_after (Options taker given) word = after_option taker given word
+next_after (Value option taker given) word = if is_option word then None else Some (Options taker given)
 
 abbrev pub following_or : {A B : Type 0} → (refused : B) → (rest : A → Option B) → Option A → Option B
 following_or refused rest None = Some refused
@@ -132,7 +132,7 @@ at_end next = None
 unfoldable pub first_refused : Next → (words : List (List ℕ)) → Option (Next × List ℕ)
 first_refused next [] = at_end next
 first_refused next (word ∷ words) =
-    following_or (next, word) (λ following. first_refused following words) (after next word)
+    following_or (next, word) (λ following. first_refused following words) (next_after next word)
 
 -- ---- the values of options
 
@@ -141,10 +141,10 @@ first_of [] = None
 first_of (word ∷ words) = Some word
 
 -- the value of an option: the word after it, or what comes after its `=`
-abbrev pub value_of : Valued → (word : Text) → (rest : List (List ℕ)) → Option (List ℕ)
-value_of option word rest = if bytes_eq word (name_of option) then first_of rest else value_in option word
+abbrev pub option_value : Valued → (word : Text) → (rest : List (List ℕ)) → Option (List ℕ)
+option_value option word rest = if bytes_eq word (name_of option) then first_of rest else value_in option word
 
 -- the value of an option as it is written
 unfoldable pub value_given : Valued → (words : List (List ℕ)) → Option (List ℕ)
 value_given option [] = None
-value_given option (word ∷ words) = option_or (value_of option word words) (value_given option words)
+value_given option (word ∷ words) = option_or (option_value option word words) (value_given option words)

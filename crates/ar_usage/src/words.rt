@@ -1,7 +1,7 @@
 //! The words of a command line: the first that isn't taken, and the values of options.
 
 ghost use Rattle.std.specs.Prelude.{◌≡◌, map, option_map, string_bytes};
-ghost use Rattle.ar_usage.specs.Words.{after, after_flag, after_option, after_own, after_valued, at_end, expected, first_refused, flag_of, has_output, is_given, is_new, is_option, name_of, value_given, value_in, value_of, with};
+ghost use Rattle.ar_usage.specs.Words.{next_after, after_flag, after_option, after_own, after_valued, at_end, expected, first_refused, flag_of, has_output, is_given, is_new, is_option, name_of, value_given, value_in, option_value, with};
 
 use ar_diagnostic::Flag;
 
@@ -198,8 +198,8 @@ pub fn is_option(word: &str) -> bool
 }
 
 /// What may come after a word, if it is taken.
-fn after(next: Next, word: &str) -> Option<Next>
-    ensures { result ≡ after next word.now }
+fn next_after(next: Next, word: &str) -> Option<Next>
+    ensures { result ≡ next_after next word.now }
 {
     match next {
         Next::Command if word == "run" => Some(Next::Options(Taker::Run, NONE)),
@@ -232,7 +232,7 @@ pub fn first_refused(words: &[String]) -> Option<(Next, &str)>
 {
     let mut next = Next::Command;
     for word in words {
-        match after(next, word.as_str()) {
+        match next_after(next, word.as_str()) {
             Some(following) => next = following,
             None => return Some((next, word.as_str())),
         }
@@ -243,9 +243,9 @@ pub fn first_refused(words: &[String]) -> Option<(Next, &str)>
 // ---- the values of options
 
 /// The value of an option: the word after it, or what comes after its `=`.
-fn value_of<'a>(option: Valued, word: &'a str, rest: &'a [String]) -> Option<&'a str>
+fn option_value<'a>(option: Valued, word: &'a str, rest: &'a [String]) -> Option<&'a str>
     ensures { option_map (λ value. value.now) result
-        ≡ value_of option word.now (map (λ word. string_bytes word) rest.now) }
+        ≡ option_value option word.now (map (λ word. string_bytes word) rest.now) }
 {
     if word == name_of(option) {
         Some(rest.first()?.as_str())
@@ -261,7 +261,7 @@ pub fn value_given(option: Valued, words: &[String]) -> Option<&str>
 {
     let mut rest = words;
     while let Some((word, following)) = rest.split_first() {
-        if let Some(value) = value_of(option, word.as_str(), following) {
+        if let Some(value) = option_value(option, word.as_str(), following) {
             return Some(value);
         }
         rest = following;

@@ -1,10 +1,10 @@
--- Refusals of documents: of those that have runs, and of that which `eval` reads. A document is as it was written, and may
--- be any JSON value: what isn't there isn't named.
+-- Refusals of documents: of those that have runs, and of that which `eval` reads. A document is as it was written, and
+-- may be any JSON value: what isn't there isn't named.
 use Rattle.std.specs.Prelude.{ℕ, Bool, true, false, if◌then◌else◌, List, [], ◌++◌, codes, is_some, Option, Some, None}
 use Rattle.serde_json.specs.Data.{Data}
 use Rattle.serde_json.specs.Find.{get}
 use Rattle.ar_value.specs.Terms.{Text}
-use Rattle.ar_diagnostic.specs.Diagnostic.{expecting, named}
+use Rattle.ar_diagnostic.specs.Diagnostic.{expecting, plain_diagnostic}
 use Rattle.ar_diagnostic.specs.declared.diagnostic.Diagnostic.{Diagnostic}
 use Rattle.ar_diagnostic.specs.declared.diagnostic.Expected.{Expected}
 use Rattle.ar_diagnostic.specs.declared.diagnostic.Expected.TheVariants.{Thing, Rule}
@@ -36,7 +36,7 @@ use Rattle.ar_syntax.specs.declared.error.SyntaxError.{SyntaxError}
 use Rattle.ar_syntax.specs.declared.error.SyntaxError.TheVariants.{Unexpected}
 use Rattle.ar_words.specs.Bindings.{condition_bound_for}
 use Rattle.ar_condition_words.specs.Conditions.{code_diagnostic, condition_diagnostic, length_diagnostic}
-use Rattle.ar_words.specs.Items.{metric_of, run_of}
+use Rattle.ar_words.specs.Items.{metric_item, run_item}
 use Rattle.ar_words.specs.Lists.{entry_text, metrics, runs, text_at}
 use Rattle.ar_words.specs.Names.{nothing_named, those_there}
 use Rattle.ar_words.specs.Shapes.{declaration_in, declared_shape}
@@ -48,7 +48,8 @@ abbrev pub shape_expected : ShapeError → Option Expected
 shape_expected shapes.TooDeep = Some (Rule (codes "a shape has at most 16 levels"))
 shape_expected shapes.UnknownShape =
     Some (Thing
-    (codes "\"bool\", \"whole\", \"decimal\", \"text\", {\"list\":shape,\"max\":number}, {\"record\":{name:shape,..}} or {\"optional\":shape}"))
+    (codes "\"bool\", \"whole\", \"decimal\", \"text\", {\"list\":shape,\"max\":number}, "
+    ++ codes "{\"record\":{name:shape,..}} or {\"optional\":shape}"))
 shape_expected shapes.MaxMissing =
     Some (Thing (codes "a list's greatest length as \"max\", a whole number of 0 or more"))
 shape_expected shapes.MaxTooLarge = Some (Rule (codes "the greatest length of a list is at most 10000"))
@@ -57,12 +58,12 @@ shape_expected shapes.OutOfMemory = None
 
 abbrev pub shape_diagnostic : Place → ShapeError → Diagnostic
 shape_diagnostic place error =
-    record (named place (shape_error_name error)) { expected = shape_expected error }
+    record (plain_diagnostic place (shape_error_name error)) { expected = shape_expected error }
 
 -- ---- conditions of metrics
 
 abbrev pub built_place : Data → (run metric : ℕ) → ConditionField → Place
-built_place document run metric field = places.Condition (run_of document run) (metric_of document metric) field
+built_place document run metric field = places.Condition (run_item document run) (metric_item document metric) field
 
 -- a condition that can't be run, bound to the arguments of a run
 unfoldable pub built_diagnostic : Data → (run metric : ℕ) → BuildError → Diagnostic
@@ -74,26 +75,27 @@ built_diagnostic document run metric (build.Failure cause) =
     condition_diagnostic (built_place document run metric condition.Failure)
     (declared_shape (declaration_in document metric))
     (condition_bound_for document run metric (build.Failure cause)) cause
-built_diagnostic document run metric build.OutOfMemory = named places.Document (codes "OutOfMemory")
+built_diagnostic document run metric build.OutOfMemory = plain_diagnostic places.Document (codes "OutOfMemory")
 
 -- ---- entries
 
-abbrev pub unknown_diagnostic : Place → (error kind kinds : Text) → (name : Option Text) → Option (List Data) → Diagnostic
-unknown_diagnostic place error kind kinds (Some name) (Some items) =
-    record (named place error) {
+abbrev pub unknown_name_diagnostic : Place → (error kind kinds : Text) → (name : Option Text) → Option (List Data)
+    → Diagnostic
+unknown_name_diagnostic place error kind kinds (Some name) (Some items) =
+    record (plain_diagnostic place error) {
       found = Some (nothing_named kind name);
       hint = Some (those_there kinds items);
     }
-unknown_diagnostic place error kind kinds name items = named place error
+unknown_name_diagnostic place error kind kinds name items = plain_diagnostic place error
 
 abbrev pub unknown_run : Data → (entry : ℕ) → Diagnostic
 unknown_run document entry =
-    unknown_diagnostic (places.EntryMember entry entries.Run) (codes "UnknownRun") (codes "run") (codes "runs")
+    unknown_name_diagnostic (places.EntryMember entry entries.Run) (codes "UnknownRun") (codes "run") (codes "runs")
     (entry_text (codes "run") entry document) (runs document)
 
 abbrev pub unknown_metric : Data → (entry : ℕ) → Diagnostic
 unknown_metric document entry =
-    unknown_diagnostic (places.EntryMember entry entries.Metric) (codes "UnknownMetric") (codes "metric")
+    unknown_name_diagnostic (places.EntryMember entry entries.Metric) (codes "UnknownMetric") (codes "metric")
     (codes "metrics") (entry_text (codes "metric") entry document) (metrics document)
 
 -- ---- documents that have runs
@@ -103,10 +105,11 @@ double_run None = codes "an earlier run has the name, too"
 double_run (Some name) = codes "an earlier run has the name " ++ (quoted name ++ codes ", too")
 
 abbrev pub run_diagnostic : Item → Diagnostic
-run_diagnostic run = record (named (places.Run run) (codes "DoubleRun")) { found = Some (double_run run.name) }
+run_diagnostic run =
+    record (plain_diagnostic (places.Run run) (codes "DoubleRun")) { found = Some (double_run run.name) }
 
 abbrev pub shape_place : Data → (metric : ℕ) → Place
-shape_place document metric = places.Metric within.Shapes (metric_of document metric)
+shape_place document metric = places.Metric within.Shapes (metric_item document metric)
 
 -- an input that is too large or no JSON is no document
 unfoldable pub bundle_diagnostic : Data → BundleError → Diagnostic
@@ -119,17 +122,18 @@ bundle_diagnostic document (errors.Shapes metric error) =
 bundle_diagnostic document errors.Runs =
     expecting (places.Member members.Runs) (codes "Runs")
     (codes "a list of 1 to 64 runs, each with a text `name` and no `args` but texts by name")
-bundle_diagnostic document (errors.DoubleRun run) = run_diagnostic (run_of document run)
+bundle_diagnostic document (errors.DoubleRun run) = run_diagnostic (run_item document run)
 bundle_diagnostic document (errors.Bind run cause) = binding_diagnostic document run cause
 bundle_diagnostic document (errors.Build run metric error) = built_diagnostic document run metric error
 bundle_diagnostic document errors.TooManyMeasurements =
     expecting (places.Member members.Measurements) (codes "TooManyMeasurements") (codes "at most 100000 entries")
 bundle_diagnostic document (errors.BadEntry entry) =
     expecting (places.Entry entry) (codes "BadEntry")
-    (codes "a list of entries with a text `run`, and `\"stop\":true` or a text `metric` and one of `value` and `error`")
+    (codes
+    "a list of entries with a text `run`, and `\"stop\":true` or a text `metric` and one of `value` and `error`")
 bundle_diagnostic document (errors.UnknownRun entry) = unknown_run document entry
 bundle_diagnostic document (errors.UnknownMetric entry) = unknown_metric document entry
-bundle_diagnostic document error = named places.Document (bundle_error_name error)
+bundle_diagnostic document error = plain_diagnostic places.Document (bundle_error_name error)
 
 -- ---- the document that `eval` reads
 
@@ -160,8 +164,8 @@ abbrev pub condition_place : Place
 condition_place = places.Member members.Condition
 
 unfoldable pub eval_diagnostic : Data → EvalError → Diagnostic
-eval_diagnostic document eval.TooLarge = named places.Document (codes "TooLarge")
-eval_diagnostic document eval.Utf8OrJson = named places.Document (codes "Utf8OrJson")
+eval_diagnostic document eval.TooLarge = plain_diagnostic places.Document (codes "TooLarge")
+eval_diagnostic document eval.Utf8OrJson = plain_diagnostic places.Document (codes "Utf8OrJson")
 eval_diagnostic document eval.BadDocument =
     expecting places.Document (codes "BadDocument")
     (codes "an object with a text `condition`, a `shape` and a `value`")
@@ -174,6 +178,6 @@ eval_diagnostic document (eval.Kinds error) =
     (text_member (codes "condition") document) (causes.Kinds error)
 eval_diagnostic document (eval.Compiler error) = length_diagnostic condition_place
 eval_diagnostic document (eval.Verifier index reason) = code_diagnostic condition_place reason
-eval_diagnostic document (eval.Misfit fault) =
+eval_diagnostic document (eval.FieldMisfit fault) =
     expecting (places.Member members.Value) (shape_fault_name fault) (misfit_expected fault)
-eval_diagnostic document eval.OutOfMemory = named places.Document (codes "OutOfMemory")
+eval_diagnostic document eval.OutOfMemory = plain_diagnostic places.Document (codes "OutOfMemory")

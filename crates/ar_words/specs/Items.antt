@@ -5,11 +5,11 @@ use Rattle.ar_diagnostic.specs.declared.place.Item.{Item}
 use Rattle.ar_words.specs.Lists.{metrics, runs, text_at}
 
 -- the item of a number, with its name, if it has one
-abbrev pub item_of : (number : ℕ) → Option (List Data) → Item
-item_of number items = record { number = number; name = text_at (codes "name") number items }
+abbrev pub named_item : (number : ℕ) → Option (List Data) → Item
+named_item number items = record { number = number; name = text_at (codes "name") number items }
 
-abbrev pub metric_of : Data → (number : ℕ) → Item
-metric_of document number = item_of number (metrics document)
+abbrev pub metric_item : Data → (number : ℕ) → Item
+metric_item document number = named_item number (metrics document)
 
-abbrev pub run_of : Data → (number : ℕ) → Item
-run_of document number = item_of number (runs document)
+abbrev pub run_item : Data → (number : ℕ) → Item
+run_item document number = named_item number (runs document)

@@ -4,7 +4,7 @@ use Rattle.std.specs.Str.{bytes_eq}
 use Rattle.serde_json.specs.Data.{Data}
 use Rattle.serde_json.specs.Find.{get}
 use Rattle.ar_value.specs.Terms.{Text}
-use Rattle.ar_diagnostic.specs.Diagnostic.{expecting, named}
+use Rattle.ar_diagnostic.specs.Diagnostic.{expecting, plain_diagnostic}
 use Rattle.ar_diagnostic.specs.declared.diagnostic.Diagnostic.{Diagnostic}
 use Rattle.ar_diagnostic.specs.declared.place.Item.{Item}
 use Rattle.ar_diagnostic.specs.declared.place.Member.TheVariants as members
@@ -22,8 +22,8 @@ use Rattle.ar_manifest.specs.declared.found.LimitValue.TheVariants as values
 use Rattle.ar_manifest.specs.declared.found.RefusedLimit.{RefusedLimit}
 use Rattle.ar_quote.specs.Shown.{quoted}
 use Rattle.ar_words.specs.Bindings.{limit_in, unbound_of_run}
-use Rattle.ar_words.specs.Fields.{Misfit, metric_misfit}
-use Rattle.ar_words.specs.Items.{item_of, metric_of, run_of}
+use Rattle.ar_words.specs.Fields.{FieldMisfit, metric_misfit}
+use Rattle.ar_words.specs.Items.{named_item, metric_item, run_item}
 use Rattle.ar_words.specs.Lists.{list_in, list_item, metrics, template_list, text_at}
 use Rattle.ar_words.specs.Names.{nothing_named, those_there}
 
@@ -58,7 +58,7 @@ head_diagnostic document name expected None =
       hint = manifest_hint (get (codes "manifest") document);
     }
 head_diagnostic document name expected (Some kind) =
-    record (named (places.Member members.Manifest) name) {
+    record (plain_diagnostic (places.Member members.Manifest) name) {
       found = Some (quoted kind ++ codes " is a list of templates");
       hint = Some (codes "`manifest` takes one of its `items`");
     }
@@ -72,11 +72,12 @@ argument_place item (Some argument) = places.Argument item
 
 abbrev pub arguments_diagnostic : (number : ℕ) → Option (List Data) → Diagnostic
 arguments_diagnostic number arguments =
-    expecting (argument_place (item_of number arguments) (list_item number arguments)) (codes "BadArgs")
-    (codes "a list, and of argument " ++ (decimal number ++ codes " a text `name` of its own and no `value` but a text"))
+    expecting (argument_place (named_item number arguments) (list_item number arguments)) (codes "BadArgs")
+    (codes "a list, and of argument "
+    ++ (decimal number ++ codes " a text `name` of its own and no `value` but a text"))
 
 -- where the field is known, what it holds is said
-abbrev pub field_diagnostic : Place → Option Misfit → Diagnostic
+abbrev pub field_diagnostic : Place → Option FieldMisfit → Diagnostic
 field_diagnostic place None =
     expecting place (codes "BadField") (codes "texts for conditions and `interval`, numbers or texts for limits")
 field_diagnostic place (Some misfit) =
@@ -105,7 +106,7 @@ abbrev pub template_place : Place
 template_place = places.Member members.Manifest
 
 abbrev pub metric_place : Data → (metric : ℕ) → Place
-metric_place document metric = places.Metric within.Manifest (metric_of document metric)
+metric_place document metric = places.Metric within.Manifest (metric_item document metric)
 
 unfoldable pub template_diagnostic : Data → ManifestError → Diagnostic
 template_diagnostic document errors.WrongVersion =
@@ -133,12 +134,12 @@ template_diagnostic document (errors.Unsupported metric) =
     expecting (metric_place document metric) (codes "Unsupported") (codes "no `consecutiveSuccessLimit`")
 template_diagnostic document (errors.BadDryRun number) = dry_run_item number
 template_diagnostic document (errors.UnknownDryRun number) = dry_run_diagnostic document number
-template_diagnostic document error = named template_place (manifest_error_name error)
+template_diagnostic document error = plain_diagnostic template_place (manifest_error_name error)
 
 -- ---- its binding
 
 abbrev pub bound_place : Data → (run metric : ℕ) → Place
-bound_place document run metric = places.BoundMetric (run_of document run) (metric_of document metric)
+bound_place document run metric = places.BoundMetric (run_item document run) (metric_item document metric)
 
 -- a reference in braces, with words after it
 abbrev pub reference_said : (words : Text) → (reference : Option Text) → Option Text

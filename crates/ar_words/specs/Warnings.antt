@@ -4,7 +4,7 @@ use Rattle.std.specs.Prelude.{ℕ, suc, Bool, true, false, ◌&&◌, if◌then�
 use Rattle.ar_value.specs.Terms.{Text}
 use Rattle.serde_json.specs.Data.{Data}
 use Rattle.ar_json.specs.Members.{member, member_of_member, text_member}
-use Rattle.ar_diagnostic.specs.Diagnostic.{named}
+use Rattle.ar_diagnostic.specs.Diagnostic.{plain_diagnostic}
 use Rattle.ar_diagnostic.specs.declared.diagnostic.Diagnostic.{Diagnostic}
 use Rattle.ar_diagnostic.specs.declared.place.Item.{Item}
 use Rattle.ar_diagnostic.specs.declared.place.Place.{Place}
@@ -59,7 +59,7 @@ close_to_metric =
 -- a field that isn't read
 abbrev pub ignored : Place → Close → Diagnostic
 ignored place field =
-    record (named place (codes "IgnoredField")) {
+    record (plain_diagnostic place (codes "IgnoredField")) {
       found = Some (codes "\"" ++ (field.name ++ codes "\" is not read"));
       hint = Some (codes "did you mean \"" ++ (field.meant ++ codes "\"?"));
     }
@@ -84,7 +84,7 @@ has_no_condition metric =
 
 abbrev pub unconditional : Place → Diagnostic
 unconditional place =
-    record (named place (codes "NoCondition")) {
+    record (plain_diagnostic place (codes "NoCondition")) {
       found = Some (codes "no condition, so each measured value is Successful");
     }
 

@@ -2,10 +2,10 @@
 
 ghost use Rattle.std.specs.Prelude.{◌≡◌, IfOk, map, option_map};
 ghost use Rattle.serde_json.specs.View.{view};
-ghost use Rattle.ar_words.specs.Documents.{built_diagnostic, built_place, bundle_diagnostic, condition_place, double_run, eval_diagnostic, has_braces, misfit_expected, run_diagnostic, shape_diagnostic, shape_expected, shape_place, unknown_diagnostic, unknown_metric, unknown_run, with_braces};
+ghost use Rattle.ar_words.specs.Documents.{built_diagnostic, built_place, bundle_diagnostic, condition_place, double_run, eval_diagnostic, has_braces, misfit_expected, run_diagnostic, shape_diagnostic, shape_expected, shape_place, unknown_name_diagnostic, unknown_metric, unknown_run, with_braces};
 
 use crate::bindings::{bound_of, refused_condition};
-use crate::items::{metric_of, run_of};
+use crate::items::{metric_item, run_item};
 use crate::lists::{entry_text, metrics, runs};
 use crate::names::{nothing_named, those_there};
 use crate::said::with_quoted;
@@ -73,8 +73,8 @@ fn built_place(
 ) -> Result<Place, AllocError>
     ensures { IfOk result (λ place. place ≡ built_place (view document.now) run metric field) }
 {
-    let run = run_of(alloc, document, run)?;
-    let metric = metric_of(alloc, document, metric)?;
+    let run = run_item(alloc, document, run)?;
+    let metric = metric_item(alloc, document, metric)?;
     Ok(Place::Condition(run, metric, field))
 }
 
@@ -104,7 +104,7 @@ fn built_diagnostic(
 // ---- entries
 
 /// An entry names nothing that there is.
-fn unknown_diagnostic(
+fn unknown_name_diagnostic(
     alloc: Global,
     place: Place,
     error: &str,
@@ -113,7 +113,7 @@ fn unknown_diagnostic(
     name: Option<&str>,
     items: Option<&[Json]>,
 ) -> Result<Diagnostic, AllocError>
-    ensures { IfOk result (λ it. it ≡ unknown_diagnostic place error.now kind.now kinds.now
+    ensures { IfOk result (λ it. it ≡ unknown_name_diagnostic place error.now kind.now kinds.now
         (option_map (λ name. name.now) name.entry)
         (option_map (λ list. map (λ item. view item) list.now) items.entry)) }
 {
@@ -131,7 +131,7 @@ fn unknown_run(alloc: Global, document: &Json, entry: usize) -> Result<Diagnosti
 {
     let place = Place::EntryMember(entry, EntryPart::Run);
     let name = entry_text(document, entry, "run");
-    unknown_diagnostic(
+    unknown_name_diagnostic(
         alloc,
         place,
         "UnknownRun",
@@ -148,7 +148,7 @@ fn unknown_metric(alloc: Global, document: &Json, entry: usize) -> Result<Diagno
     let place = Place::EntryMember(entry, EntryPart::Metric);
     let name = entry_text(document, entry, "metric");
     let found = metrics(document);
-    unknown_diagnostic(
+    unknown_name_diagnostic(
         alloc,
         place,
         "UnknownMetric",
@@ -188,7 +188,7 @@ fn run_diagnostic(alloc: Global, run: Item) -> Result<Diagnostic, AllocError>
 fn shape_place(alloc: Global, document: &Json, metric: usize) -> Result<Place, AllocError>
     ensures { IfOk result (λ place. place ≡ shape_place (view document.now) metric) }
 {
-    Ok(Place::Metric(Within::Shapes, metric_of(alloc, document, metric)?))
+    Ok(Place::Metric(Within::Shapes, metric_item(alloc, document, metric)?))
 }
 
 /// The refusal of a document that has runs.
@@ -220,7 +220,7 @@ pub fn bundle_diagnostic(
                 "a list of 1 to 64 runs, each with a text `name` and no `args` but texts by name";
             Diagnostic::expecting(alloc, Place::Member(Member::Runs), error.name(), expected)
         }
-        BundleError::DoubleRun(run) => run_diagnostic(alloc, run_of(alloc, document, run)?),
+        BundleError::DoubleRun(run) => run_diagnostic(alloc, run_item(alloc, document, run)?),
         BundleError::Bind(run, cause) => binding_diagnostic(alloc, document, run, cause),
         BundleError::Build(run, metric, cause) => {
             built_diagnostic(alloc, document, run, metric, cause)
@@ -328,7 +328,7 @@ pub fn eval_diagnostic(
         }
         EvalError::Compiler(_) => length_diagnostic(alloc, condition_place()),
         EvalError::Verifier(_, reason) => code_diagnostic(alloc, condition_place(), reason),
-        EvalError::Misfit(fault) => {
+        EvalError::FieldMisfit(fault) => {
             let place = Place::Member(Member::Value);
             Diagnostic::expecting(alloc, place, fault.name(), misfit_expected(fault))
         }

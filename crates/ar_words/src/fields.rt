@@ -11,7 +11,7 @@ use std::alloc::{AllocError, Global};
 
 /// A field of a metric, with a value of another kind than it takes.
 #[derive(Clone, Copy)]
-pub(crate) struct Misfit<'a> {
+pub(crate) struct FieldMisfit<'a> {
     pub field: &'static str,
     pub value: &'a Json,
     pub expected: &'static str,
@@ -30,13 +30,13 @@ fn json_said(json: &Json) -> &'static str
     }
 }
 
-fn text_misfit<'a>(metric: &'a Json, field: &'static str) -> Option<Misfit<'a>>
+fn text_misfit<'a>(metric: &'a Json, field: &'static str) -> Option<FieldMisfit<'a>>
     ensures { option_map (λ found. misfit_of found.field.now (view found.value.now) found.expected.now) result
         ≡ text_misfit field.now (view metric.now) }
 {
     match member(metric, field)? {
         Json::String(_) => None,
-        value => Some(Misfit {
+        value => Some(FieldMisfit {
             field,
             value,
             expected: "a text",
@@ -44,13 +44,13 @@ fn text_misfit<'a>(metric: &'a Json, field: &'static str) -> Option<Misfit<'a>>
     }
 }
 
-fn limit_misfit<'a>(metric: &'a Json, field: &'static str) -> Option<Misfit<'a>>
+fn limit_misfit<'a>(metric: &'a Json, field: &'static str) -> Option<FieldMisfit<'a>>
     ensures { option_map (λ found. misfit_of found.field.now (view found.value.now) found.expected.now) result
         ≡ limit_misfit field.now (view metric.now) }
 {
     match member(metric, field)? {
         Json::Number(_) | Json::String(_) => None,
-        value => Some(Misfit {
+        value => Some(FieldMisfit {
             field,
             value,
             expected: "a number or a text",
@@ -59,7 +59,7 @@ fn limit_misfit<'a>(metric: &'a Json, field: &'static str) -> Option<Misfit<'a>>
 }
 
 /// The first misfit among conditions and `interval`.
-fn texts_misfit(metric: &Json) -> Option<Misfit<'_>>
+fn texts_misfit(metric: &Json) -> Option<FieldMisfit<'_>>
     ensures { option_map (λ found. misfit_of found.field.now (view found.value.now) found.expected.now) result
         ≡ texts_misfit (view metric.now) }
 {
@@ -69,7 +69,7 @@ fn texts_misfit(metric: &Json) -> Option<Misfit<'_>>
 }
 
 /// The first misfit among limits.
-fn limits_misfit(metric: &Json) -> Option<Misfit<'_>>
+fn limits_misfit(metric: &Json) -> Option<FieldMisfit<'_>>
     ensures { option_map (λ found. misfit_of found.field.now (view found.value.now) found.expected.now) result
         ≡ limits_misfit (view metric.now) }
 {
@@ -80,7 +80,7 @@ fn limits_misfit(metric: &Json) -> Option<Misfit<'_>>
 }
 
 /// What the field of a misfit holds.
-pub(crate) fn field_said(alloc: Global, misfit: Misfit<'_>) -> Result<Text, AllocError>
+pub(crate) fn field_said(alloc: Global, misfit: FieldMisfit<'_>) -> Result<Text, AllocError>
     ensures { IfOk result (λ text. text
         ≡ (misfit_of misfit.entry.field.now (view misfit.entry.value.now) misfit.entry.expected.now).found) }
 {
@@ -89,7 +89,7 @@ pub(crate) fn field_said(alloc: Global, misfit: Misfit<'_>) -> Result<Text, Allo
 }
 
 /// A metric's first field that holds a value of another kind than it takes.
-pub(crate) fn metric_misfit(metric: Option<&Json>) -> Option<Misfit<'_>>
+pub(crate) fn metric_misfit(metric: Option<&Json>) -> Option<FieldMisfit<'_>>
     ensures { option_map (λ found. misfit_of found.field.now (view found.value.now) found.expected.now) result
         ≡ option_and_then metric_misfit (option_map (λ json. view json.now) metric.entry) }
 {

@@ -2,7 +2,7 @@
 
 ghost use Rattle.std.specs.Prelude.{◌≡◌, IfOk, map, option_map};
 ghost use Rattle.serde_json.specs.View.{view};
-ghost use Rattle.ar_words.specs.Items.{item_of, metric_of, run_of};
+ghost use Rattle.ar_words.specs.Items.{named_item, metric_item, run_item};
 
 use crate::lists::{metrics, runs, text_at};
 use ar_diagnostic::{Item, copy_of};
@@ -10,13 +10,13 @@ use serde_json::Value as Json;
 use std::alloc::{AllocError, Global};
 
 /// The item of a number, with its name, if it has one.
-pub(crate) fn item_of(
+pub(crate) fn named_item(
     alloc: Global,
     number: usize,
     items: Option<&[Json]>,
 ) -> Result<Item, AllocError>
     ensures { IfOk result (λ item. item
-        ≡ item_of number (option_map (λ list. map (λ item. view item) list.now) items.entry)) }
+        ≡ named_item number (option_map (λ list. map (λ item. view item) list.now) items.entry)) }
 {
     Ok(Item {
         number,
@@ -24,14 +24,14 @@ pub(crate) fn item_of(
     })
 }
 
-pub(crate) fn metric_of(alloc: Global, document: &Json, number: usize) -> Result<Item, AllocError>
-    ensures { IfOk result (λ item. item ≡ metric_of (view document.now) number) }
+pub(crate) fn metric_item(alloc: Global, document: &Json, number: usize) -> Result<Item, AllocError>
+    ensures { IfOk result (λ item. item ≡ metric_item (view document.now) number) }
 {
-    item_of(alloc, number, metrics(document))
+    named_item(alloc, number, metrics(document))
 }
 
-pub(crate) fn run_of(alloc: Global, document: &Json, number: usize) -> Result<Item, AllocError>
-    ensures { IfOk result (λ item. item ≡ run_of (view document.now) number) }
+pub(crate) fn run_item(alloc: Global, document: &Json, number: usize) -> Result<Item, AllocError>
+    ensures { IfOk result (λ item. item ≡ run_item (view document.now) number) }
 {
-    item_of(alloc, number, runs(document))
+    named_item(alloc, number, runs(document))
 }

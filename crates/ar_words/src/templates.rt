@@ -8,8 +8,8 @@ ghost use Rattle.ar_words.specs.Lists.{list_item, metrics};
 ghost use Rattle.ar_words.specs.Templates.{argument_place, arguments_there, arguments_diagnostic, binding_diagnostic, bound_place, dry_run_diagnostic, dry_run_hint, dry_run_item, field_diagnostic, given_kind, head_diagnostic, kind_of_list, limit_said, list_kind, manifest_hint, metric_place, reference_said, template_diagnostic, template_place, value_said};
 
 use crate::bindings::{limit_in, unbound_in};
-use crate::fields::{Misfit, field_said, metric_misfit};
-use crate::items::{item_of, metric_of, run_of};
+use crate::fields::{FieldMisfit, field_said, metric_misfit};
+use crate::items::{metric_item, named_item, run_item};
 use crate::lists::{item_at, list_in, metrics, template_list, text_at};
 use crate::names::{no_metric_named, those_there};
 use crate::said::with_quoted;
@@ -112,7 +112,7 @@ fn arguments_diagnostic(
     ensures { IfOk result (λ it. it ≡ arguments_diagnostic number
         (option_map (λ list. map (λ item. view item) list.now) arguments.entry)) }
 {
-    let item = item_of(alloc, number, arguments)?;
+    let item = named_item(alloc, number, arguments)?;
     let place = argument_place(item, item_at(arguments, number));
     let expected = format!(in alloc;
         "a list, and of argument {number} a text `name` of its own and no `value` but a text"
@@ -124,7 +124,7 @@ fn arguments_diagnostic(
 fn field_diagnostic(
     alloc: Global,
     place: Place,
-    misfit: Option<Misfit<'_>>,
+    misfit: Option<FieldMisfit<'_>>,
 ) -> Result<Diagnostic, AllocError>
     ensures { IfOk result (λ it. it ≡ field_diagnostic place
         (option_map (λ found. misfit_of found.field.now (view found.value.now) found.expected.now) misfit.entry)) }
@@ -171,7 +171,7 @@ fn dry_run_diagnostic(
 fn metric_place(alloc: Global, document: &Json, metric: usize) -> Result<Place, AllocError>
     ensures { IfOk result (λ place. place ≡ metric_place (view document.now) metric) }
 {
-    Ok(Place::Metric(Within::Manifest, metric_of(alloc, document, metric)?))
+    Ok(Place::Metric(Within::Manifest, metric_item(alloc, document, metric)?))
 }
 
 /// Something else is expected of a metric.
@@ -286,8 +286,8 @@ fn bound_place(
 ) -> Result<Place, AllocError>
     ensures { IfOk result (λ place. place ≡ bound_place (view document.now) run metric) }
 {
-    let run = run_of(alloc, document, run)?;
-    Ok(Place::BoundMetric(run, metric_of(alloc, document, metric)?))
+    let run = run_item(alloc, document, run)?;
+    Ok(Place::BoundMetric(run, metric_item(alloc, document, metric)?))
 }
 
 /// A reference in braces, with words after it.

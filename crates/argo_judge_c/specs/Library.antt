@@ -12,7 +12,7 @@ use Rattle.ar_command.specs.declared.serving.Refusal.{Refusal}
 use Rattle.ar_diagnostic.specs.Diagnostic.{expecting}
 use Rattle.ar_diagnostic.specs.declared.diagnostic.Diagnostic.{Diagnostic}
 use Rattle.ar_diagnostic.specs.declared.place.Place.TheVariants.{CommandNumber}
-use Rattle.ar_refusal.specs.Refused.{IsRefusalText, IsSaid}
+use Rattle.ar_refusal.specs.Refused.{IsRefusalText, IsWrittenAs}
 use Rattle.argo_judge_c.specs.Buffers.{IsLeft, IsPut}
 
 -- ---- commands
@@ -71,7 +71,8 @@ IsSaidOrRefused command input text status = IsSaid command input text status ⊎
 
 -- the text of a number's command for an input, and its status
 abbrev pub IsAnswer : (number : ℕ) → Option Command → (input : Bytes) (text : Text) (status : ℕ) → Type 0
-IsAnswer number None input text status = IsSaid (format_of_number number) (unknown_diagnostic number) text × (status ≡ 2)
+IsAnswer number None input text status =
+    IsWrittenAs (format_of_number number) (unknown_diagnostic number) text × (status ≡ 2)
 IsAnswer number (Some command) input text status = IsSaidOrRefused command input text status
 
 -- ---- a call

@@ -2,7 +2,7 @@
 
 ghost use Rattle.std.specs.Prelude.{◌≡◌, ◌≤◌, IfOk, string_bytes};
 ghost use Rattle.ar_command.specs.Serving.{RefusesInput, RunsAlone};
-ghost use Rattle.ar_refusal.specs.Refused.{IsSaid};
+ghost use Rattle.ar_refusal.specs.Refused.{IsWrittenAs};
 ghost use Rattle.argo_judge_c.specs.Library.{IsAnswer, IsRefusedInput, IsSaidOrRefused, command_of, format_of_number, unknown_diagnostic};
 
 use crate::buffers::{Document, Written};
@@ -44,7 +44,8 @@ fn unknown_diagnostic(alloc: Global, number: u32) -> Result<Diagnostic, AllocErr
 
 /// What is said of a number that no command has.
 fn unknown_text(alloc: Global, number: u32) -> Result<String, AllocError>
-    ensures { IfOk result (λ text. IsSaid (format_of_number number) (unknown_diagnostic number) (string_bytes text)) }
+    ensures { IfOk result
+        (λ text. IsWrittenAs (format_of_number number) (unknown_diagnostic number) (string_bytes text)) }
 {
     let it = unknown_diagnostic(alloc, number)?;
     said(alloc, format_of_number(number), &it)

@@ -1,0 +1,79 @@
+"""Starts recipes with an engine that does nothing but end with a status and a text on standard error, and prints what
+they say and their status."""
+import json
+import os
+import subprocess
+import tempfile
+from concurrent.futures import ThreadPoolExecutor
+
+HERE = os.path.realpath("../..")
+BUNDLE, RUN = "../../../examples/bundles/success-rate.json", "../../../examples/analysisrun.json"
+SHAPES, SUITE = "../analysisrun/shapes.json", "../kubectl-lint/suite.json"
+TEMPLATE = "../../../examples/backtest/stricter.json"
+RECIPES = {
+    "go-on": [BUNDLE],
+    "compare-analysisrun": ["--shapes", SHAPES, RUN],
+    "kubectl-argo_judge": ["explain", "guestbook-7-success-rate", "--shapes", "../kubectl-explain/shapes.json"],
+    "test": [SUITE],
+    "lint": ["../objects/kind/default/analysistemplate/success-rate.json"],
+    "backtest": ["--template", TEMPLATE, "--arg", "threshold=0.99", "--shapes", SHAPES, RUN],
+}
+PLACE = {"argument": None, "entry": None, "excerpt": None, "field": None, "metric": None, "offset": None, "part": "runs",
+         "run": {"name": "a", "number": 1}}
+DOUBLE = {"expected": None, "found": 'an earlier run has the name "a", too', "hint": None, "name": "DoubleRun",
+          "place": PLACE, "pointer": "/runs/1", "position": None,
+          "text": 'runs[1]: DoubleRun: an earlier run has the name "a", too'}
+
+
+def refusal(version=1, **others):
+    return json.dumps({"refusal": {**DOUBLE, **others}, "version": version}, separators=(",", ":")) + "\n"
+
+
+# A status and a text, and the recipes that are started by it.
+ENDINGS = {
+    "a refusal": (2, refusal(), RECIPES),
+    "a text with a line feed, and with what a terminal would obey":
+        (2, refusal(text="a\nargo_judge: b\x1b[2J\u2028c"), RECIPES),
+    "a refusal of a condition": (2, refusal(
+        name="UnknownName", found="no word of the language", text="run 0 \"lint\", metric 0 \"0\", successCondition, "
+        "byte 4: UnknownName: no word of the language; in \"len(«x»)\"", place={
+            **PLACE, "part": "manifest", "field": "successCondition", "metric": {"name": "0", "number": 0}}), ["lint"]),
+    "a refusal of a shape": (2, refusal(
+        name="MaxMissing", text="shapes: metric 0 \"0\": MaxMissing: expected a list", place={
+            **PLACE, "part": "shapes", "metric": {"name": "0", "number": 0}, "run": None}), ["lint"]),
+    "a line": (2, f"argo_judge: {DOUBLE['text']}\n", RECIPES),
+    "nothing": (2, "", ["go-on"]),
+    "another version": (2, refusal(2), ["go-on"]),
+    "no name": (2, refusal(name=None), ["go-on"]),
+    "a text that is none": (2, refusal(text=["a"]), ["go-on"]),
+    "a metric that is none": (2, refusal(place={**PLACE, "metric": {"number": "0"}}), ["go-on"]),
+    "no place": (2, refusal(place=None), ["go-on"]),
+    "a list": (2, "[]\n", ["go-on"]),
+    "a refusal and more": (2, refusal() + "more\n", ["go-on"]),
+    "another status": (3, "argo_judge: out of memory\n", RECIPES),
+}
+
+
+def started(ending, recipe):
+    """What a recipe says and its status, with an engine that ends so."""
+    status, text, _ = ENDINGS[ending]
+    with tempfile.TemporaryDirectory() as folder:
+        with open(f"{folder}/errors", "w", encoding="utf-8") as file:
+            file.write(text)
+        with open(f"{folder}/engine", "w", encoding="utf-8") as file:
+            file.write(f"#!/bin/sh\ncat >/dev/null\ncat {folder}/errors >&2\nexit {status}\n")
+        os.chmod(f"{folder}/engine", 0o755)
+        ended = subprocess.run([f"{HERE}/{recipe}", *RECIPES[recipe], "--engine", f"{folder}/engine"],
+                               stdout=subprocess.PIPE, stderr=subprocess.STDOUT, text=True)
+        return f"{ended.stdout}status {ended.returncode}"
+
+
+def main():
+    cases = [(ending, recipe) for ending, (_, _, recipes) in ENDINGS.items() for recipe in recipes]
+    with ThreadPoolExecutor(os.cpu_count()) as side_by_side:
+        found = list(side_by_side.map(started, *zip(*cases)))
+    for (ending, recipe), said in zip(cases, found):
+        print(f"-- {recipe}: {ending}\n{said}")
+
+
+main()
