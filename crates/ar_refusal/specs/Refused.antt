@@ -1,6 +1,6 @@
 -- What is said of a refused input: its diagnostic, as a line or as JSON.
-use Rattle.std.specs.Prelude.{◌≡◌, ℕ, Bool, true, false, ◌||◌, nat_eq, if◌then◌else◌, List, [], ◌∷◌, ◌++◌, all, codes, decimal, length, Option, Some, None}
-use Rattle.std.specs.List.{starts_with}
+use Rattle.std.specs.Prelude.{◌≡◌, ℕ, Bool, true, false, ◌||◌, nat_eq, if◌then◌else◌, List, [], ◌∷◌, ◌++◌, codes, decimal, length, Option, Some, None}
+use Rattle.std.specs.List.{list_all, starts_with}
 use Rattle.ar_value.specs.Terms.{Bytes, Text}
 use Rattle.serde_json.specs.Data.{Data}
 use Rattle.ar_command.specs.declared.serving.Refusal.{Refusal}
@@ -102,7 +102,7 @@ is_yaml input =
 
 abbrev pub input_hint : (input : Bytes) → Option Text
 input_hint input =
-    if all is_blank_byte input then Some (codes "the input is empty")
+    if list_all is_blank_byte input then Some (codes "the input is empty")
     else (if input_begins byte_order_mark input
     then Some (codes "the input begins with a byte order mark; leave it out")
     else (if is_yaml input

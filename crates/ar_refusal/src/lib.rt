@@ -18,5 +18,5 @@ mod unread;
 mod warned;
 
 pub use refused::{refusal_of, refusal_text};
-pub use said::{format_of, said, usage_text};
+pub use said::{format_of, usage_text, written_as};
 pub use warned::warnings_text;

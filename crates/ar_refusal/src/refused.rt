@@ -5,7 +5,7 @@ ghost use Rattle.serde_json.specs.View.{view};
 ghost use Rattle.ar_refusal.specs.Refused.{IsDiagnosis, IsRefusalText, is_too_large, refusal_diagnostic};
 
 use crate::lacking::lacking_diagnostic;
-use crate::said::{format_of, said};
+use crate::said::{format_of, written_as};
 use crate::unread::{no_json, too_large};
 use ar_command::{Command, EvalError, Refusal};
 use ar_diagnostic::{Diagnostic, Place};
@@ -85,5 +85,5 @@ pub fn refusal_text(
         (λ text. IsRefusalText command.entry input.now refusal.now (string_bytes text)) }
 {
     let it = refusal_of(alloc, command, input, refusal)?;
-    said(alloc, format_of(command), &it)
+    written_as(alloc, format_of(command), &it)
 }

@@ -30,7 +30,7 @@ pub fn format_of(command: Command<'_>) -> Format
 /// # Errors
 ///
 /// Out of memory alone.
-pub fn said(alloc: Global, format: Format, it: &Diagnostic) -> Result<String, AllocError>
+pub fn written_as(alloc: Global, format: Format, it: &Diagnostic) -> Result<String, AllocError>
     ensures { IfOk result (λ text. IsWrittenAs format it.now (string_bytes text)) }
 {
     match format {
@@ -66,5 +66,5 @@ pub fn usage_text(
 {
     let it = usage_diagnostic(alloc, words, error)?;
     let format = usage_format(words);
-    Ok((format, said(alloc, format, &it)?))
+    Ok((format, written_as(alloc, format, &it)?))
 }

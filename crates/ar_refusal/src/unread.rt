@@ -1,6 +1,7 @@
 //! Inputs that are no document.
 
-ghost use Rattle.std.specs.Prelude.{◌≡◌, all, IfOk, option_map};
+ghost use Rattle.std.specs.Prelude.{◌≡◌, IfOk, option_map};
+ghost use Rattle.std.specs.List.{list_all};
 ghost use Rattle.ar_refusal.specs.Refused.{IsNoJson, input_begins, input_hint, is_blank_byte, is_yaml, no_json, too_large};
 
 use ar_diagnostic::{Diagnostic, Place, Position};
@@ -26,7 +27,7 @@ fn is_blank_byte(byte: &u8) -> bool
 }
 
 fn is_empty(input: &[u8]) -> bool
-    ensures { result ≡ all is_blank_byte input.now }
+    ensures { result ≡ list_all is_blank_byte input.now }
 {
     input.iter().all(is_blank_byte)
 }

@@ -9,6 +9,7 @@ use ar_diagnostic::{Diagnostic, warning_line, warnings_json};
 use ar_words::warnings_of;
 use serde_json::Value as Json;
 use std::alloc::{AllocError, Global};
+use std::fmt::Write;
 
 /// The warnings of an input.
 #[tactic(auto, using(ar_json::proofs::Documents::json, ar_json::proofs::Documents::no_json))]
@@ -26,9 +27,7 @@ fn push_warning(alloc: Global, out: &mut String, it: &Diagnostic) -> Result<(), 
     ensures { OnOk result (string_bytes out.new ≡ string_bytes out.old ++ warning_line it.now) }
 {
     let line = warning_line(alloc, it)?;
-    out.push_str("argo_judge: warning: ")?;
-    out.push_str(line.as_str())?;
-    out.push_str("\n")
+    write!(out, "argo_judge: warning: {line}\n")
 }
 
 /// Warnings, a line each.

@@ -178,6 +178,6 @@ eval_diagnostic document (eval.Kinds error) =
     (text_member (codes "condition") document) (causes.Kinds error)
 eval_diagnostic document (eval.Compiler error) = length_diagnostic condition_place
 eval_diagnostic document (eval.Verifier index reason) = code_diagnostic condition_place reason
-eval_diagnostic document (eval.FieldMisfit fault) =
+eval_diagnostic document (eval.Misfit fault) =
     expecting (places.Member members.Value) (shape_fault_name fault) (misfit_expected fault)
 eval_diagnostic document eval.OutOfMemory = plain_diagnostic places.Document (codes "OutOfMemory")

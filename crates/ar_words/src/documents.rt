@@ -328,7 +328,7 @@ pub fn eval_diagnostic(
         }
         EvalError::Compiler(_) => length_diagnostic(alloc, condition_place()),
         EvalError::Verifier(_, reason) => code_diagnostic(alloc, condition_place(), reason),
-        EvalError::FieldMisfit(fault) => {
+        EvalError::Misfit(fault) => {
             let place = Place::Member(Member::Value);
             Diagnostic::expecting(alloc, place, fault.name(), misfit_expected(fault))
         }

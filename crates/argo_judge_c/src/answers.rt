@@ -9,7 +9,7 @@ use crate::buffers::{Document, Written};
 use crate::commands::{command_of, format_of_number};
 use ar_command::{Command, Refusal, ServeError, serve_plain, status};
 use ar_diagnostic::{Diagnostic, Place};
-use ar_refusal::{refusal_text, said};
+use ar_refusal::{refusal_text, written_as};
 use ar_value::Text;
 use std::alloc::{AllocError, Global};
 
@@ -48,7 +48,7 @@ fn unknown_text(alloc: Global, number: u32) -> Result<String, AllocError>
         (λ text. IsWrittenAs (format_of_number number) (unknown_diagnostic number) (string_bytes text)) }
 {
     let it = unknown_diagnostic(alloc, number)?;
-    said(alloc, format_of_number(number), &it)
+    written_as(alloc, format_of_number(number), &it)
 }
 
 /// What is said of a refusal.
