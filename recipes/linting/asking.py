@@ -60,8 +60,8 @@ def answer_of(event):
 
 
 def without(refusal, *fronts):
-    """A refusal whose text has no place in the document that is made here: fronts of it are left out, one after another,
-    where they are there."""
+    """A refusal whose text has no place in the document that is made here: these fronts are left out, one after
+    another, where they are there."""
     text = refusal.text
     for front in fronts:
         text = text.removeprefix(front)

@@ -18,8 +18,8 @@ RECIPES = {
     "lint": ["../objects/kind/default/analysistemplate/success-rate.json"],
     "backtest": ["--template", TEMPLATE, "--arg", "threshold=0.99", "--shapes", SHAPES, RUN],
 }
-PLACE = {"argument": None, "entry": None, "excerpt": None, "field": None, "metric": None, "offset": None, "part": "runs",
-         "run": {"name": "a", "number": 1}}
+PLACE = {"argument": None, "entry": None, "excerpt": None, "field": None, "metric": None, "offset": None,
+         "part": "runs", "run": {"name": "a", "number": 1}}
 DOUBLE = {"expected": None, "found": 'an earlier run has the name "a", too', "hint": None, "name": "DoubleRun",
           "place": PLACE, "pointer": "/runs/1", "position": None,
           "text": 'runs[1]: DoubleRun: an earlier run has the name "a", too'}
