@@ -6,7 +6,7 @@ use Rattle.std.specs.Str.{bytes_eq}
 use Rattle.ar_value.specs.Terms.{Text}
 use Rattle.ar_quote.specs.Tokens.{TokenAt}
 use Rattle.ar_syntax.specs.declared.error.SyntaxError.{SyntaxError}
-use Rattle.ar_syntax.specs.declared.error.SyntaxError.TheVariants.{BadCharacter, Unexpected, UnknownName, ItemOutside}
+use Rattle.ar_syntax.specs.declared.error.SyntaxError.TheVariants.{BadCharacter, Unexpected, UnknownName}
 
 -- ---- Argo Rollouts' functions
 
@@ -44,15 +44,18 @@ token_begins sign token = starts_with nat_eq token sign
 -- of a sign that two others make
 abbrev pub pair_hint : (before token : Text) → Option Text
 pair_hint before token =
-    if comes_after (codes "?") before && token_begins (codes "?") token
-    then Some (codes "there is no `??`; default(a, b) is b where a is nil")
-    else (if comes_after (codes "?") before && token_begins (codes ".") token
-    then Some (codes "there is no `?.`; test isNil(a) first")
-    else (if comes_after (codes "*") before && token_begins (codes "*") token
+    if comes_after (codes "*") before && token_begins (codes "*") token
     then Some (codes "there is no power; write a product")
     else (if comes_after (codes ".") before && token_begins (codes ".") token
     then Some (codes "there are no ranges; write two comparisons")
-    else None)))
+    else None)
+
+-- of a question mark, by what is after it
+abbrev pub question_hint : (after : Text) → Option Text
+question_hint after =
+    if token_begins (codes "?") after then Some (codes "there is no `??`; default(a, b) is b where a is nil")
+    else (if token_begins (codes ".") after then Some (codes "there is no `?.`; test isNil(a) first")
+    else None)
 
 -- of a letter that continues a number
 abbrev pub exponent_hint : (token : Text) → Option Text
@@ -60,9 +63,11 @@ exponent_hint token =
     if token_begins (codes "e") token || token_begins (codes "E") token
     then Some (codes "a number has no exponent; write 0.001 in place of 1e-3") else None
 
+abbrev pub sign_hint : (token after : Text) → Option Text
+sign_hint token after = if bytes_eq token (codes "?") then question_hint after else exponent_hint token
+
 abbrev pub syntax_hint : SyntaxError → TokenAt → Option Text
-syntax_hint (BadCharacter at) here = option_or (token_hint here.token) (exponent_hint here.token)
+syntax_hint (BadCharacter at) here = option_or (token_hint here.token) (sign_hint here.token here.after)
 syntax_hint (Unexpected at) here = option_or (token_hint here.token) (pair_hint here.before here.token)
-syntax_hint (ItemOutside at) here = pair_hint here.before here.token
 syntax_hint (UnknownName at) here = option_or (function_hint here.token) (token_hint here.token)
 syntax_hint error here = None

@@ -2,7 +2,7 @@
 
 ghost use Rattle.std.specs.Prelude.{◌≡◌, IfOk, option_map};
 ghost use Rattle.ar_quote.specs.Tokens.{found};
-ghost use Rattle.ar_condition_words.specs.Hints.{token_begins, comes_after, exponent_hint, function_hint, is_conversion, is_float_test, pair_hint, syntax_hint, token_hint};
+ghost use Rattle.ar_condition_words.specs.Hints.{token_begins, comes_after, exponent_hint, function_hint, is_conversion, is_float_test, pair_hint, question_hint, sign_hint, syntax_hint, token_hint};
 
 use ar_quote::TokenAt;
 use ar_syntax::SyntaxError;
@@ -65,14 +65,23 @@ fn token_begins(sign: &str, token: &str) -> bool
 fn pair_hint(before: &str, token: &str) -> Option<&'static str>
     ensures { option_map (λ hint. hint.now) result ≡ pair_hint before.now token.now }
 {
-    if comes_after("?", before) && token_begins("?", token) {
-        Some("there is no `??`; default(a, b) is b where a is nil")
-    } else if comes_after("?", before) && token_begins(".", token) {
-        Some("there is no `?.`; test isNil(a) first")
-    } else if comes_after("*", before) && token_begins("*", token) {
+    if comes_after("*", before) && token_begins("*", token) {
         Some("there is no power; write a product")
     } else if comes_after(".", before) && token_begins(".", token) {
         Some("there are no ranges; write two comparisons")
+    } else {
+        None
+    }
+}
+
+/// Of a question mark, by what is after it.
+fn question_hint(after: &str) -> Option<&'static str>
+    ensures { option_map (λ hint. hint.now) result ≡ question_hint after.now }
+{
+    if token_begins("?", after) {
+        Some("there is no `??`; default(a, b) is b where a is nil")
+    } else if token_begins(".", after) {
+        Some("there is no `?.`; test isNil(a) first")
     } else {
         None
     }
@@ -89,17 +98,27 @@ fn exponent_hint(token: &str) -> Option<&'static str>
     }
 }
 
+/// Of a sign that isn't one of the language.
+fn sign_hint(token: &str, after: &str) -> Option<&'static str>
+    ensures { option_map (λ hint. hint.now) result ≡ sign_hint token.now after.now }
+{
+    if token == "?" {
+        question_hint(after)
+    } else {
+        exponent_hint(token)
+    }
+}
+
 /// What helps at the token at which a condition is refused.
 pub(crate) fn syntax_hint(error: SyntaxError, here: TokenAt<'_>) -> Option<&'static str>
     ensures { option_map (λ hint. hint.now) result
         ≡ syntax_hint error (found here.entry.before.now here.entry.token.now here.entry.after.now) }
 {
     match error {
-        SyntaxError::BadCharacter(_) => token_hint(here.token).or(exponent_hint(here.token)),
-        SyntaxError::Unexpected(_) => {
-            token_hint(here.token).or(pair_hint(here.before, here.token))
-        }
-        SyntaxError::ItemOutside(_) => pair_hint(here.before, here.token),
+        SyntaxError::BadCharacter(_) => token_hint(here.token).or(sign_hint(
+            here.token, here.after,
+        )),
+        SyntaxError::Unexpected(_) => token_hint(here.token).or(pair_hint(here.before, here.token)),
         SyntaxError::UnknownName(_) => function_hint(here.token).or(token_hint(here.token)),
         _ => None,
     }
