@@ -104,5 +104,17 @@ def expected_of(words, document):
     return expected_of_eval(words, document) if words[0] == 'eval' else expected_of_bundle(words, document)
 
 
-def is_right(expected, got):
-    return got[:2] == expected[:2] and re.fullmatch(expected[2], got[2]) is not None
+def said_lines(words, said):
+    """What the program says on standard error, in lines: with --output json a refusal, or warnings, is one object."""
+    if words[-2:] != AS_JSON or not said.startswith('{'):
+        return said
+    written = json.loads(said)
+    if line_of(written).decode() != said:
+        return said
+    if 'refusal' in written:
+        return f"argo_judge: {written['refusal']['text']}\n"
+    return ''.join(f"argo_judge: warning: {warning['text']}\n" for warning in written['warnings'])
+
+
+def is_right(words, expected, got):
+    return got[:2] == expected[:2] and re.fullmatch(expected[2], said_lines(words, got[2])) is not None
