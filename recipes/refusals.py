@@ -1,7 +1,8 @@
-"""Refusals of argo_judge as JSON (`--output json`): one object on standard error, where without it there is a line."""
+"""Refusals and warnings of argo_judge as JSON (`--output json`): one object on standard error, where without it there
+are lines."""
 from typing import NamedTuple, Optional
 
-from documents import Refused, member, parsed, shown
+from documents import Refused, member, objects, parsed, shown
 from ending import REFUSED, one_line, say
 from reports import VERSION
 
@@ -39,6 +40,21 @@ def refusal_in(errors: str) -> Refusal:
         raise Refused(f"the engine ended with status {REFUSED}; expected a refusal of version {VERSION} as "
                       f"`--output json` writes it, found {shown(errors.strip())}")
     return Refusal(*found)
+
+
+def warnings_in(errors: str) -> list[str]:
+    """The lines of the warnings of `check` that the engine wrote to standard error, which may be none."""
+    if not errors.strip():
+        return []
+    try:
+        made = parsed(errors, "warnings")
+    except Refused:
+        made = None
+    texts = [member(warning, "text") for warning in objects(member(made, "warnings"))]
+    if member(made, "version") != VERSION or not texts or not all(isinstance(text, str) for text in texts):
+        raise Refused(f"the engine wrote to standard error; expected warnings of version {VERSION} as "
+                      f"`check --output json` writes them, found {shown(errors.strip())}")
+    return [f"argo_judge: warning: {one_line(text)}" for text in texts]
 
 
 def said_in(status: int, errors: str) -> str:
