@@ -20,3 +20,4 @@ pub mod Conditions
 pub mod Turns
 pub mod Offsets
 pub mod Sizes
+pub mod Records

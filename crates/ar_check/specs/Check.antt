@@ -31,8 +31,6 @@ use Rattle.ar_value.specs.declared.operator.BinaryOperator.{BinaryOperator}
 use Rattle.ar_value.specs.declared.operator.Compared.{Compared}
 use Rattle.ar_value.specs.declared.operator.Compared.TheVariants as compared
 use Rattle.ar_value.specs.declared.operator.DecimalArithmetic.TheVariants as on_decimals
-use Rattle.ar_value.specs.declared.operator.Family.{Family}
-use Rattle.ar_value.specs.declared.operator.Family.TheVariants as families
 use Rattle.ar_value.specs.declared.operator.Numbers.{Numbers}
 use Rattle.ar_value.specs.declared.operator.Numbers.TheVariants.{Wholes, Decimals}
 use Rattle.ar_value.specs.declared.operator.Order.{Order}

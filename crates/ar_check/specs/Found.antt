@@ -1,9 +1,9 @@
 -- What the operands at an offset of a condition are: to be reported where one isn't of a kind that is taken there.
-use Rattle.std.specs.Prelude.{ℕ, suc, Bool, false, ◌||◌, ◌==◌, if◌then◌else◌, nat_lt, Option, Some, None, option_and_then, option_map, unwrap_or, Ok, Err}
+use Rattle.std.specs.Prelude.{ℕ, suc, Bool, false, ◌||◌, ◌==◌, if◌then◌else◌, nat_lt, List, [], ◌∷◌, Option, Some, None, option_and_then, option_map, unwrap_or, Ok, Err}
 use Rattle.std.specs.Option.{option_or}
-use Rattle.ar_value.specs.Terms.{Offset}
+use Rattle.ar_value.specs.Terms.{Offset, Text}
 use Rattle.ar_value.specs.Kind.{Kind, nil, shaped}
-use Rattle.ar_value.specs.Shape.{Shape}
+use Rattle.ar_value.specs.Shape.{Shape, FieldShapes}
 use Rattle.ar_value.specs.Shape as shapes
 use Rattle.ar_value.specs.Limits.{most_loops}
 use Rattle.ar_tree.specs.Expression.{Expression, Expressions}
@@ -15,7 +15,7 @@ use Rattle.ar_check.specs.Operand.{plain_of}
 use Rattle.ar_check.specs.declared.found.OperandKind.{OperandKind}
 use Rattle.ar_check.specs.declared.found.OperandKind.TheVariants as found
 use Rattle.ar_check.specs.declared.found.Operands.{Operands}
-use Rattle.ar_check.specs.declared.found.Operands.TheVariants.{Before, One, Two}
+use Rattle.ar_check.specs.declared.found.Operands.TheVariants.{Before, Record, One, Two}
 
 -- ---- kinds
 
@@ -41,6 +41,18 @@ shape_of_items shape = None
 abbrev pub items_shape : Kind → Option Shape
 items_shape kind = shape_of_items (plain_of kind)
 
+-- the fields of a record, and their names
+abbrev pub fields_in : Option Shape → Option FieldShapes
+fields_in (Some (shapes.object fields)) = Some fields
+fields_in shape = None
+
+abbrev pub fields_of : Kind → Option FieldShapes
+fields_of kind = fields_in (plain_of kind)
+
+abbrev pub record_names : FieldShapes → List Text
+record_names shapes.no_fields = []
+record_names (shapes.field name shape others) = name ∷ record_names others
+
 -- ---- the operands of one tree
 
 abbrev pub kind_in : Answer → Option Kind
@@ -58,8 +70,13 @@ entered_item around list = if nat_lt around most_loops then items_shape list els
 abbrev pub entered_list : ℕ → Option Kind → Option Shape
 entered_list around list = option_and_then (entered_item around) list
 
+-- what is before a field's name: of a record the names of its fields
+abbrev pub owner_found : Kind → Operands
+owner_found kind =
+    unwrap_or (option_map (λ fields. Record (record_names fields)) (fields_of kind)) (Before (found_kind kind))
+
 abbrev pub before : Option Kind → Option Operands
-before kind = option_map (λ kind. Before (found_kind kind)) kind
+before kind = option_map owner_found kind
 
 abbrev pub one : Option Kind → Option Operands
 one kind = option_map (λ kind. One (found_kind kind)) kind

@@ -2,11 +2,11 @@
 
 ghost use Rattle.std.specs.Prelude.{◌≡◌, ◌<◌, ◌==◌, if◌then◌else◌, IfOk, IfSome, map, option_map};
 ghost use Rattle.std.specs.Option.{option_or};
-ghost use Rattle.ar_value.specs.View.{shape_view};
+ghost use Rattle.ar_value.specs.View.{field_shapes_view, shape_view};
 ghost use Rattle.ar_value.specs.Limits.{most_loops};
 ghost use Rattle.ar_tree.specs.Expression.{expressions, BinaryAt, ChoiceAt, IndexAt};
 ghost use Rattle.ar_tree.specs.Views.{expression_of};
-ghost use Rattle.ar_check.specs.Found.{any_has_offset, before, entered_item, found_kind, found_shape, has_offset, entered_list, items_shape, member_found, one, operands_at, right_found, two};
+ghost use Rattle.ar_check.specs.Found.{any_has_offset, before, entered_item, fields_of, found_kind, found_shape, has_offset, entered_list, items_shape, member_found, one, operands_at, owner_found, record_names, right_found, two};
 ghost use Rattle.ar_check.specs.Private.Inside.{view_of_kind};
 ghost use Rattle.ar_check.specs.Private.Search.{body_over, kind_at, offset_among, offset_in, offset_in_predicate, offset_over};
 
@@ -15,7 +15,8 @@ use crate::operand::{Kind, plain_shape};
 use crate::typing::{Scope, child, in_predicate};
 use ar_tree::tree::{Binary, Tree};
 use ar_value::limits::MOST_LOOPS;
-use ar_value::shape::Shape;
+use ar_value::names::Names;
+use ar_value::shape::{FieldShapes, Shape};
 use std::alloc::{AllocError, Global};
 
 /// What an operand was found to be, whether or not it may be nil as well.
@@ -31,10 +32,12 @@ pub enum OperandKind {
 }
 
 /// What was found where an operand isn't of a kind that is taken.
-#[derive(Clone, Copy)]
+#[derive(Drop)]
 pub enum Operands {
-    /// What is before a field's name.
+    /// What is before a field's name, of another kind than a record.
     Before(OperandKind),
+    /// The names of the fields of the record that is before a field's name.
+    Record(Names),
     /// The one that is expected of another kind.
     One(OperandKind),
     /// Both, at an operator between two.
@@ -385,9 +388,27 @@ fn before(
     ensures { IfOk result (λ found. found ≡ before (kind_at scope.now (expression_of owner.value))) }
 {
     match kind_of(alloc, owner, scope)? {
-        Some(kind) => Ok(Some(Operands::Before(found_kind(&kind)))),
+        Some(kind) => Ok(Some(owner_found(&kind)?)),
         None => Ok(None),
     }
+}
+
+/// What is before a field's name: of a record the names of its fields, which take no memory.
+fn owner_found(kind: &Kind<'_>) -> Result<Operands, AllocError>
+    ensures { IfOk result (λ found. found ≡ owner_found (view_of_kind kind.now)) }
+{
+    match fields_of(kind) {
+        Some(fields) => Ok(Operands::Record(record_names(fields)?)),
+        None => Ok(Operands::Before(found_kind(kind))),
+    }
+}
+
+/// The names of a record's fields.
+#[tactic(auto, using(crate::proofs::Records::names_taken))]
+fn record_names(fields: &FieldShapes) -> Result<Names, AllocError>
+    ensures { IfOk result (λ names. names ≡ record_names (field_shapes_view fields.now)) }
+{
+    fields.names.first(fields.shapes.len())
 }
 
 /// What the one operand is that is expected of a kind.
@@ -500,6 +521,21 @@ fn items_of<'a>(kind: &'a Kind<'_>) -> Option<&'a Shape>
         | Shape::Decimal
         | Shape::Text
         | Shape::Object(_)
+        | Shape::Optional(_) => None,
+    }
+}
+
+/// The fields of a record.
+fn fields_of<'a>(kind: &'a Kind<'_>) -> Option<&'a FieldShapes>
+    ensures { option_map (λ fields. field_shapes_view fields.now) result ≡ fields_of (view_of_kind kind.now) }
+{
+    match plain_shape(kind)? {
+        Shape::Object(fields) => Some(fields),
+        Shape::Bool
+        | Shape::Whole
+        | Shape::Decimal
+        | Shape::Text
+        | Shape::List { .. }
         | Shape::Optional(_) => None,
     }
 }

@@ -26,7 +26,7 @@ use Rattle.ar_syntax.specs.Refused.{syntax_error_name, syntax_refused_at}
 use Rattle.ar_syntax.specs.declared.error.SyntaxError.{SyntaxError}
 use Rattle.ar_syntax.specs.declared.error.SyntaxError.TheVariants as syntax
 use Rattle.ar_condition_words.specs.Hints.{syntax_hint}
-use Rattle.ar_condition_words.specs.Operands.{are_two, operands_found, refused_operands}
+use Rattle.ar_condition_words.specs.Operands.{are_two, fields_hint, operands_found, refused_operands}
 
 -- ---- where
 
@@ -156,12 +156,17 @@ kinds_found (kinds.WrongOperand at) here operands = operands_at_token here opera
 kinds_found (kinds.NoSuchField at) here operands = Some (codes "the record has no such field")
 kinds_found error here operands = None
 
+abbrev pub kinds_hint : TypeError → Option Operands → Option Text
+kinds_hint (kinds.NoSuchField at) operands = fields_hint operands
+kinds_hint error operands = None
+
 unfoldable pub kinds_with : Place → TypeError → Option TokenAt → Option Operands → Diagnostic
 kinds_with place error here operands =
     record (plain_diagnostic place (type_error_name error)) {
       spot = spot_of (kinds_refused_at error) here;
       found = kinds_found error here operands;
       expected = kinds_expected error here operands;
+      hint = kinds_hint error operands;
     }
 
 -- ---- code

@@ -1,5 +1,5 @@
 -- What the operands of a condition are where one isn't of a kind that is taken.
-use Rattle.std.specs.Prelude.{ℕ, Bool, true, false, if◌then◌else◌, List, ◌++◌, codes, Option, Some, None, option_and_then}
+use Rattle.std.specs.Prelude.{ℕ, Bool, true, false, if◌then◌else◌, List, ◌++◌, codes, length, take, Option, Some, None, option_and_then}
 use Rattle.std.specs.Result.{result_ok}
 use Rattle.ar_value.specs.Terms.{Text}
 use Rattle.ar_check.specs.Found.{operands_at}
@@ -8,7 +8,8 @@ use Rattle.ar_check.specs.declared.error.TypeError.TheVariants as kinds
 use Rattle.ar_check.specs.declared.found.OperandKind.{OperandKind}
 use Rattle.ar_check.specs.declared.found.OperandKind.TheVariants as operand
 use Rattle.ar_check.specs.declared.found.Operands.{Operands}
-use Rattle.ar_check.specs.declared.found.Operands.TheVariants.{Before, One, Two}
+use Rattle.ar_check.specs.declared.found.Operands.TheVariants.{Before, Record, One, Two}
+use Rattle.ar_diagnostic.specs.Listing.{most_listed, those_listed}
 use Rattle.ar_syntax.specs.Parse.{parse_of}
 use Rattle.ar_value.specs.Shape.{Shape}
 
@@ -17,9 +18,10 @@ operands_in (Some shape) (Some condition) offset =
     option_and_then (λ tree. operands_at shape tree offset) (result_ok (parse_of condition))
 operands_in shape condition offset = None
 
--- those of the operator at which a condition is refused
+-- those of the operator at which a condition is refused, or what is before the field's name there
 abbrev pub refused_operands : Option Shape → (condition : Option Text) → TypeError → Option Operands
 refused_operands shape condition (kinds.WrongOperand at) = operands_in shape condition at
+refused_operands shape condition (kinds.NoSuchField at) = operands_in shape condition at
 refused_operands shape condition error = None
 
 -- ---- what is said of them
@@ -43,6 +45,12 @@ between_operands is_membership = if is_membership then codes " and a list of " e
 
 abbrev pub operands_found : (is_membership : Bool) → Operands → Text
 operands_found is_membership (Before owner) = kind_said owner ++ codes " before it"
+operands_found is_membership (Record names) = codes "a record before it"
 operands_found is_membership (One operand) = kind_said operand
 operands_found is_membership (Two left right) =
     kind_said left ++ (between_operands is_membership ++ kind_said right)
+
+-- the fields of a record, where one that it hasn't is named
+abbrev pub fields_hint : Option Operands → Option Text
+fields_hint (Some (Record names)) = Some (those_listed (codes "fields") (take most_listed names) (length names))
+fields_hint operands = None

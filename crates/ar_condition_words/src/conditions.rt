@@ -6,10 +6,10 @@ ghost use Rattle.ar_diagnostic.specs.declared.diagnostic.Expected.TheVariants as
 ghost use Rattle.ar_quote.specs.Quote.{quoted_round};
 ghost use Rattle.ar_quote.specs.Tokens.{found};
 ghost use Rattle.ar_condition_words.specs.Hints.{syntax_hint as grammar_hint};
-ghost use Rattle.ar_condition_words.specs.Conditions.{code_diagnostic, condition_diagnostic, has_predicate, is_field, is_membership, kinds_expected, kinds_found, kinds_with, length_diagnostic, operands_at_token, operator_rule, spot_of, syntax_expected, syntax_found, syntax_token, syntax_with, taken, takes_alike, takes_numbers, takes_texts, token_in, unexpected_at};
+ghost use Rattle.ar_condition_words.specs.Conditions.{code_diagnostic, condition_diagnostic, has_predicate, is_field, is_membership, kinds_expected, kinds_found, kinds_hint, kinds_with, length_diagnostic, operands_at_token, operator_rule, spot_of, syntax_expected, syntax_found, syntax_token, syntax_with, taken, takes_alike, takes_numbers, takes_texts, token_in, unexpected_at};
 
 use crate::hints::syntax_hint;
-use crate::operands::{operands_found, refused_operands};
+use crate::operands::{fields_hint, operands_found, refused_operands};
 use ar_check::TypeError;
 use ar_check::found::Operands;
 use ar_diagnostic::{Diagnostic, Expected, Place, Spot, copy_of, rule, thing};
@@ -171,14 +171,14 @@ fn takes_texts(token: &str) -> bool
 }
 
 /// Whether a token is `in`, or `not` before it, which has two operands.
-fn is_membership(token: &str, operands: Option<Operands>) -> bool
-    ensures { result ≡ is_membership token.now operands }
+fn is_membership(token: &str, operands: &Option<Operands>) -> bool
+    ensures { result ≡ is_membership token.now operands.now }
 {
     token == "in" || token == "not" && matches!(operands, Some(Operands::Two(_, _)))
 }
 
-fn takes_alike(token: &str, operands: Option<Operands>) -> bool
-    ensures { result ≡ takes_alike token.now operands }
+fn takes_alike(token: &str, operands: &Option<Operands>) -> bool
+    ensures { result ≡ takes_alike token.now operands.now }
 {
     token == "==" || token == "!=" || is_membership(token, operands)
 }
@@ -196,8 +196,8 @@ fn is_field(token: &str) -> bool
 }
 
 /// What an operator takes.
-fn taken(token: &str, operands: Option<Operands>) -> &'static str
-    ensures { result.now ≡ taken token.now operands }
+fn taken(token: &str, operands: &Option<Operands>) -> &'static str
+    ensures { result.now ≡ taken token.now operands.now }
 {
     if takes_numbers(token) {
         "\"whole\" or \"decimal\" alone"
@@ -220,10 +220,10 @@ fn taken(token: &str, operands: Option<Operands>) -> &'static str
 
 fn operator_rule(
     alloc: Global,
-    operands: Option<Operands>,
+    operands: &Option<Operands>,
     here: TokenAt<'_>,
 ) -> Result<String, AllocError>
-    ensures { IfOk result (λ words. string_bytes words ≡ operator_rule operands
+    ensures { IfOk result (λ words. string_bytes words ≡ operator_rule operands.now
         (found here.entry.before.now here.entry.token.now here.entry.after.now)) }
 {
     let mut words = String::new(alloc);
@@ -237,9 +237,9 @@ fn operator_rule(
 fn operator_expected(
     alloc: Global,
     here: Option<TokenAt<'_>>,
-    operands: Option<Operands>,
+    operands: &Option<Operands>,
 ) -> Result<Option<Expected>, AllocError>
-    ensures { IfOk result (λ expected. expected ≡ option_map (λ here. wanted.Rule (operator_rule operands here))
+    ensures { IfOk result (λ expected. expected ≡ option_map (λ here. wanted.Rule (operator_rule operands.now here))
         (option_map (λ here. found here.before.now here.token.now here.after.now) here.entry)) }
 {
     match here {
@@ -252,10 +252,10 @@ fn kinds_expected(
     alloc: Global,
     error: TypeError,
     here: Option<TokenAt<'_>>,
-    operands: Option<Operands>,
+    operands: &Option<Operands>,
 ) -> Result<Option<Expected>, AllocError>
     ensures { IfOk result (λ expected. expected ≡ kinds_expected error
-        (option_map (λ here. found here.before.now here.token.now here.after.now) here.entry) operands) }
+        (option_map (λ here. found here.before.now here.token.now here.after.now) here.entry) operands.now) }
 {
     match error {
         TypeError::WrongOperand(_) => operator_expected(alloc, here, operands),
@@ -286,30 +286,44 @@ fn kinds_expected(
 fn operands_at_token(
     alloc: Global,
     here: Option<TokenAt<'_>>,
-    operands: Option<Operands>,
+    operands: &Option<Operands>,
 ) -> Result<Option<Text>, AllocError>
     ensures { IfOk result (λ text. text ≡ operands_at_token
-        (option_map (λ here. found here.before.now here.token.now here.after.now) here.entry) operands) }
+        (option_map (λ here. found here.before.now here.token.now here.after.now) here.entry) operands.now) }
 {
-    let (Some(here), Some(operands)) = (here, operands) else {
+    let (Some(here), Some(found)) = (here, operands) else {
         return Ok(None);
     };
-    let is_membership = is_membership(here.token, Some(operands));
-    Ok(Some(operands_found(alloc, is_membership, operands)?))
+    let is_membership = is_membership(here.token, operands);
+    Ok(Some(operands_found(alloc, is_membership, found)?))
 }
 
 fn kinds_found(
     alloc: Global,
     error: TypeError,
     here: Option<TokenAt<'_>>,
-    operands: Option<Operands>,
+    operands: &Option<Operands>,
 ) -> Result<Option<Text>, AllocError>
     ensures { IfOk result (λ text. text ≡ kinds_found error
-        (option_map (λ here. found here.before.now here.token.now here.after.now) here.entry) operands) }
+        (option_map (λ here. found here.before.now here.token.now here.after.now) here.entry) operands.now) }
 {
     match error {
         TypeError::WrongOperand(_) => operands_at_token(alloc, here, operands),
         TypeError::NoSuchField(_) => Ok(Some(Text::of(alloc, "the record has no such field")?)),
+        _ => Ok(None),
+    }
+}
+
+/// What helps where a condition has no kinds.
+fn kinds_hint(
+    alloc: Global,
+    error: TypeError,
+    operands: &Option<Operands>,
+) -> Result<Option<Text>, AllocError>
+    ensures { IfOk result (λ hint. hint ≡ kinds_hint error operands.now) }
+{
+    match error {
+        TypeError::NoSuchField(_) => fields_hint(alloc, operands),
         _ => Ok(None),
     }
 }
@@ -321,15 +335,16 @@ fn kinds_with(
     place: Place,
     error: TypeError,
     here: Option<TokenAt<'_>>,
-    operands: Option<Operands>,
+    operands: &Option<Operands>,
 ) -> Result<Diagnostic, AllocError>
     ensures { IfOk result (λ it. it ≡ kinds_with place error
-        (option_map (λ here. found here.before.now here.token.now here.after.now) here.entry) operands) }
+        (option_map (λ here. found here.before.now here.token.now here.after.now) here.entry) operands.now) }
 {
     let mut it = Diagnostic::named(alloc, place, error.name())?;
     it.spot = spot_of(alloc, error.offset(), here)?;
     it.found = kinds_found(alloc, error, here, operands)?;
     it.expected = kinds_expected(alloc, error, here, operands)?;
+    it.hint = kinds_hint(alloc, error, operands)?;
     Ok(it)
 }
 
@@ -402,7 +417,7 @@ pub fn condition_diagnostic(
         BuildCause::Kinds(error) => {
             let operands = refused_operands(alloc, shape, condition, error)?;
             let here = token_in(condition, error.offset());
-            kinds_with(alloc, place, error, here, operands)
+            kinds_with(alloc, place, error, here, &operands)
         }
         BuildCause::Compiler(_) => length_diagnostic(alloc, place),
         BuildCause::Verifier(_, reason) => code_diagnostic(alloc, place, reason),

@@ -1,5 +1,5 @@
 -- Objects of diagnostics have no float, and none is deep.
-use Rattle.std.proofs.Common.{◌≡◌, ◌<◌, ◌≤◌, ℕ, suc, ◌+◌, max, false, List, [], ◌∷◌, ◌++◌, length, map, drop, Option, Some, None, option_and_then, option_map, refl, sym, ◌∙◌, ap, add-one, drop-cons, rules, arith}
+use Rattle.std.proofs.Common.{◌≡◌, ◌<◌, ◌≤◌, ℕ, suc, ◌+◌, max, false, List, [], ◌∷◌, ◌++◌, length, map, drop, Option, Some, None, option_and_then, option_map, refl, sym, ◌∙◌, ap, add-one, drop-cons, arith}
 use Rattle.std.specs.Prelude.{slice_index_or}
 use Rattle.std.proofs.Math.ListN.{drop_of_length-le}
 use Rattle.std.proofs.lemmas.List.{append-nil, append_assoc, map_push}
@@ -9,7 +9,7 @@ use Rattle.std.proofs.Math.Nat.{max-le}
 use Rattle.serde_json.specs.Data.{Data, depth}
 use Rattle.serde_json.specs.Read.{max_depth}
 use Rattle.serde_json.specs.Written.{has_float}
-use Rattle.ar_object.proofs.Values.{above, count_exact, count_flat, few, none_deep, none_float, one_deep, text_exact, text_flat}
+use Rattle.ar_object.proofs.Values.{above, count_exact, count_flat, few, none_deep, none_float, text_exact, text_flat}
 use Rattle.ar_diagnostic.specs.Diagnostic.{refusal_text_of, warning_text_of}
 use Rattle.ar_diagnostic.specs.DiagnosticData.{place_argument, diagnostic_with, place_entry, expected_words, place_field, item_or_null, place_metric, place_data, position_data, refusal_data, place_run, warning_data, warnings_data}
 use Rattle.ar_diagnostic.specs.Place.{pointer}

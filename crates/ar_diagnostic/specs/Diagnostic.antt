@@ -1,5 +1,6 @@
 -- What is said of something that is refused, or probably not meant, and how a line says it.
-use Rattle.std.specs.Prelude.{ℕ, List, [], ◌∷◌, ◌++◌, codes, decimal, Option, Some, None, option_map, option_and_then}
+use Rattle.std.specs.Prelude.{List, [], ◌∷◌, ◌++◌, codes, decimal, Option, Some, None, option_map, option_and_then}
+use Rattle.std.specs.List.{filter_map, join_by}
 use Rattle.ar_value.specs.Terms.{Text}
 use Rattle.ar_diagnostic.specs.Place.{place_text}
 use Rattle.ar_diagnostic.specs.declared.diagnostic.Diagnostic.{Diagnostic}
@@ -59,22 +60,15 @@ abbrev pub excerpt_part : Option Spot → Option Text
 excerpt_part spot =
     option_map (λ excerpt. codes "in " ++ excerpt) (option_and_then (λ (spot : Spot). spot.excerpt) spot)
 
--- words, ready for a further part
-abbrev pub begun : (words : Text) → Text
-begun [] = []
-begun (byte ∷ words) = (byte ∷ words) ++ codes "; "
+-- what is said after the name, in this order
+abbrev pub parts : Diagnostic → List (Option Text)
+parts it =
+    rule_part it.expected ∷ found_part it.expected it.found ∷ thing_part it.expected
+    ∷ option_map position_text it.position ∷ excerpt_part it.spot ∷ it.hint ∷ []
 
--- words, and a further part, if there is one
-abbrev pub then_part : (words : Text) → (part : Option Text) → Text
-then_part words None = words
-then_part words (Some part) = begun words ++ part
-
--- the parts of what is said, each but the first after a semicolon
+-- the parts that there are, each but the first after a semicolon
 unfoldable pub words_of : Diagnostic → Text
-words_of it =
-    then_part (then_part (then_part (then_part (then_part (then_part [] (rule_part it.expected))
-    (found_part it.expected it.found)) (thing_part it.expected)) (option_map position_text it.position))
-    (excerpt_part it.spot)) it.hint
+words_of it = join_by (λ part. part) (codes "; ") (filter_map (λ part. part) (parts it))
 
 -- after a colon, unless there are none
 abbrev pub after_colon : (words : Text) → Text

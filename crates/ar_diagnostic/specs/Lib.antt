@@ -1,3 +1,4 @@
 pub mod Place
 pub mod Diagnostic
+pub mod Listing
 pub mod DiagnosticData

@@ -1,10 +1,12 @@
 //! What is said of something that is refused, or probably not meant.
 
-ghost use Rattle.std.specs.Prelude.{◌≡◌, IfOk, Some, option_map};
+ghost use Rattle.std.specs.Prelude.{◌≡◌, ◌++◌, IfOk, Some, option_map};
+ghost use Rattle.ar_quote.specs.Shown.{quoted};
 ghost use Rattle.ar_diagnostic.specs.declared.diagnostic.Expected.TheVariants as wanted;
 ghost use Rattle.ar_diagnostic.specs.Diagnostic.{expecting, plain_diagnostic};
 
 use crate::place::Place;
+use ar_quote::push_quoted;
 use ar_value::Text;
 use std::alloc::{AllocError, Global};
 
@@ -90,6 +92,16 @@ pub fn copy_of(alloc: Global, text: Option<&str>) -> Result<Option<Text>, AllocE
         Some(text) => Ok(Some(Text::of(alloc, text)?)),
         None => Ok(None),
     }
+}
+
+/// A name in quotes, with words before it and after it.
+pub fn with_quoted(alloc: Global, before: &str, name: &str, after: &str) -> Result<Text, AllocError>
+    ensures { IfOk result (λ text. text ≡ before.now ++ (quoted name.now ++ after.now)) }
+{
+    let mut text = before.to_string(alloc)?;
+    push_quoted(&mut text, name)?;
+    text.push_str(after)?;
+    Ok(Text::from(text))
 }
 
 /// Something is expected in place of what was found.

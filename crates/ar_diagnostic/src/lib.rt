@@ -7,16 +7,18 @@
 //! ([`refusal_json`], [`warnings_json`], `specs/DiagnosticData`). Both are proved to be what these define.
 //!
 //! - `place`: places, and what of the document they name; `place_text`: places as lines and pointers say them
-//! - `diagnostic`: diagnostics; `line`: their lines; `data`: their objects
+//! - `diagnostic`: diagnostics; `line`: their lines; `data`: their objects; `listing`: names, listed
 #![tactic(auto)]
 
 mod data;
 mod diagnostic;
 mod line;
+mod listing;
 mod place;
 mod place_text;
 
 pub use data::{refusal_json, warnings_json};
-pub use diagnostic::{Diagnostic, Expected, Position, Spot, copy_of, rule, thing};
+pub use diagnostic::{Diagnostic, Expected, Position, Spot, copy_of, rule, thing, with_quoted};
 pub use line::{refusal_line, warning_line};
+pub use listing::{first_listed, those_listed};
 pub use place::{ConditionField, EntryPart, Flag, Item, Member, Place, SpecPart, Within};

@@ -1,8 +1,9 @@
 //! Diagnostics as lines.
 
-ghost use Rattle.std.specs.Prelude.{◌≡◌, ◌++◌, IfOk, OnOk, Some, option_map, string_bytes};
+ghost use Rattle.std.specs.Prelude.{◌≡◌, [], ◌∷◌, ◌++◌, IfOk, OnOk, Some, map, option_map, string_bytes};
+ghost use Rattle.std.specs.List.{cons_option, filter_map};
 ghost use Rattle.ar_diagnostic.specs.Place.{place_text};
-ghost use Rattle.ar_diagnostic.specs.Diagnostic.{after_colon, begun, excerpt_part, found_part, refusal_text_of, position_text, rule_part, spot_text, then_part, thing_part, warning_text_of, words_of};
+ghost use Rattle.ar_diagnostic.specs.Diagnostic.{after_colon, excerpt_part, found_part, parts, refusal_text_of, position_text, rule_part, spot_text, thing_part, warning_text_of, words_of};
 
 use crate::diagnostic::{Diagnostic, Expected, Position, Spot};
 use crate::place_text::push_place;
@@ -12,115 +13,115 @@ use std::fmt::Write;
 
 // ---- parts
 
-/// Makes words ready for a further part.
-fn begin(words: &mut String) -> Result<(), AllocError>
-    ensures { OnOk result (string_bytes words.new ≡ begun (string_bytes words.old)) }
+/// A part that is a text after words.
+fn part_of(alloc: Global, before: &str, text: &Text) -> Result<Option<Text>, AllocError>
+    ensures { IfOk result (λ part. part ≡ Some (before.now ++ text.now)) }
 {
-    if words.is_empty() {
-        return Ok(());
-    }
-    words.push_str("; ")
+    let mut part = before.to_string(alloc)?;
+    part.push_str(text.as_str())?;
+    Ok(Some(Text::from(part)))
 }
 
-/// A part after others, with what introduces it.
-fn push_part(words: &mut String, before: &str, part: &Text) -> Result<(), AllocError>
-    ensures { OnOk result (string_bytes words.new
-        ≡ then_part (string_bytes words.old) (Some (before.now ++ part.now))) }
-{
-    begin(words)?;
-    words.push_str(before)?;
-    words.push_str(part.as_str())
-}
-
-fn push_rule(words: &mut String, expected: &Option<Expected>) -> Result<(), AllocError>
-    ensures { OnOk result
-        (string_bytes words.new ≡ then_part (string_bytes words.old) (rule_part expected.now)) }
+fn rule_part(alloc: Global, expected: &Option<Expected>) -> Result<Option<Text>, AllocError>
+    ensures { IfOk result (λ part. part ≡ rule_part expected.now) }
 {
     match expected {
-        Some(Expected::Rule(rule)) => push_part(words, "", rule),
-        Some(Expected::Thing(_)) | None => Ok(()),
+        Some(Expected::Rule(rule)) => part_of(alloc, "", rule),
+        Some(Expected::Thing(_)) | None => Ok(None),
     }
 }
 
-fn push_found(
-    words: &mut String,
+fn found_part(
+    alloc: Global,
     expected: &Option<Expected>,
     found: &Option<Text>,
-) -> Result<(), AllocError>
-    ensures { OnOk result (string_bytes words.new
-        ≡ then_part (string_bytes words.old) (found_part expected.now found.now)) }
+) -> Result<Option<Text>, AllocError>
+    ensures { IfOk result (λ part. part ≡ found_part expected.now found.now) }
 {
     let Some(found) = found else {
-        return Ok(());
+        return Ok(None);
     };
     match expected {
-        Some(Expected::Rule(_)) => push_part(words, "found ", found),
-        Some(Expected::Thing(_)) | None => push_part(words, "", found),
+        Some(Expected::Rule(_)) => part_of(alloc, "found ", found),
+        Some(Expected::Thing(_)) | None => part_of(alloc, "", found),
     }
 }
 
-fn push_thing(words: &mut String, expected: &Option<Expected>) -> Result<(), AllocError>
-    ensures { OnOk result
-        (string_bytes words.new ≡ then_part (string_bytes words.old) (thing_part expected.now)) }
+fn thing_part(alloc: Global, expected: &Option<Expected>) -> Result<Option<Text>, AllocError>
+    ensures { IfOk result (λ part. part ≡ thing_part expected.now) }
 {
     match expected {
-        Some(Expected::Thing(thing)) => push_part(words, "expected ", thing),
-        Some(Expected::Rule(_)) | None => Ok(()),
+        Some(Expected::Thing(thing)) => part_of(alloc, "expected ", thing),
+        Some(Expected::Rule(_)) | None => Ok(None),
     }
 }
 
-fn push_position(words: &mut String, position: Option<Position>) -> Result<(), AllocError>
-    ensures { OnOk result (string_bytes words.new
-        ≡ then_part (string_bytes words.old) (option_map position_text position)) }
+fn position_part(alloc: Global, position: Option<Position>) -> Result<Option<Text>, AllocError>
+    ensures { IfOk result (λ part. part ≡ option_map position_text position) }
 {
     match position {
-        None => Ok(()),
-        Some(Position::End) => {
-            begin(words)?;
-            words.push_str("the text ends too early")
-        }
+        None => Ok(None),
+        Some(Position::End) => Ok(Some(Text::of(alloc, "the text ends too early")?)),
         Some(Position::At(line, column)) => {
-            begin(words)?;
-            write!(words, "the fault is at line {line}, column {column}")
+            let text = format!(in alloc; "the fault is at line {line}, column {column}")?;
+            Ok(Some(Text::from(text)))
         }
     }
 }
 
-fn push_excerpt(words: &mut String, spot: &Option<Spot>) -> Result<(), AllocError>
-    ensures { OnOk result (string_bytes words.new
-        ≡ then_part (string_bytes words.old) (excerpt_part spot.now)) }
+fn excerpt_part(alloc: Global, spot: &Option<Spot>) -> Result<Option<Text>, AllocError>
+    ensures { IfOk result (λ part. part ≡ excerpt_part spot.now) }
 {
     let Some(spot) = spot else {
-        return Ok(());
+        return Ok(None);
     };
     match &spot.excerpt {
-        Some(excerpt) => push_part(words, "in ", excerpt),
-        None => Ok(()),
+        Some(excerpt) => part_of(alloc, "in ", excerpt),
+        None => Ok(None),
     }
 }
 
-fn push_hint(words: &mut String, hint: &Option<Text>) -> Result<(), AllocError>
-    ensures { OnOk result (string_bytes words.new ≡ then_part (string_bytes words.old) hint.now) }
+fn hint_part(alloc: Global, hint: &Option<Text>) -> Result<Option<Text>, AllocError>
+    ensures { IfOk result (λ part. part ≡ hint.now) }
 {
     match hint {
-        Some(hint) => push_part(words, "", hint),
-        None => Ok(()),
+        Some(hint) => part_of(alloc, "", hint),
+        None => Ok(None),
     }
 }
 
-/// The parts of what is said.
-#[tactic(auto, unfolding(crate::specs::Diagnostic::words_of))]
+/// A part after others, if there is one.
+fn push_part(parts: &mut Vec<String>, part: Option<Text>) -> Result<(), AllocError>
+    ensures { OnOk result (map string_bytes parts.new.items
+        ≡ map string_bytes parts.old.items ++ cons_option part []) }
+{
+    if let Some(part) = part {
+        parts.push(part.into_string())?;
+    }
+    Ok(())
+}
+
+/// The parts that there are.
+#[tactic(auto, using(crate::proofs::Parts::six_parts))]
+fn parts_of(alloc: Global, it: &Diagnostic) -> Result<Vec<String>, AllocError>
+    ensures { IfOk result (λ found.
+        map string_bytes found.items ≡ filter_map (λ part. part) (parts it.now)) }
+{
+    let mut parts = Vec::new(alloc);
+    push_part(&mut parts, rule_part(alloc, &it.expected)?)?;
+    push_part(&mut parts, found_part(alloc, &it.expected, &it.found)?)?;
+    push_part(&mut parts, thing_part(alloc, &it.expected)?)?;
+    push_part(&mut parts, position_part(alloc, it.position)?)?;
+    push_part(&mut parts, excerpt_part(alloc, &it.spot)?)?;
+    push_part(&mut parts, hint_part(alloc, &it.hint)?)?;
+    Ok(parts)
+}
+
+/// The parts that there are, each but the first after a semicolon.
 fn words_of(alloc: Global, it: &Diagnostic) -> Result<String, AllocError>
     ensures { IfOk result (λ words. string_bytes words ≡ words_of it.now) }
 {
-    let mut words = String::new(alloc);
-    push_rule(&mut words, &it.expected)?;
-    push_found(&mut words, &it.expected, &it.found)?;
-    push_thing(&mut words, &it.expected)?;
-    push_position(&mut words, it.position)?;
-    push_excerpt(&mut words, &it.spot)?;
-    push_hint(&mut words, &it.hint)?;
-    Ok(words)
+    parts_of(alloc, it)?.join(alloc, "; ")
 }
 
 // ---- lines
