@@ -58,21 +58,21 @@ taker_hint taker word = if is_option word then option_hint taker else document_h
 abbrev pub list_hint : (word : Text) → Text
 list_hint word = if is_option word then codes "`list` has no options but --help" else document_hint EvalOrCheck
 
+-- what the value of an option is
+abbrev pub noun_of : Valued → Text
+noun_of Workers = codes "number"
+noun_of Output = codes "format"
+noun_of Event = codes "number"
+noun_of RunName = codes "name"
+noun_of MetricName = codes "name"
+
 -- an option ends the words without its value
 abbrev pub no_value_after : Valued → Text
-no_value_after Workers = codes " has no number after it"
-no_value_after Output = codes " has no format after it"
-no_value_after Event = codes " has no number after it"
-no_value_after RunName = codes " has no name after it"
-no_value_after MetricName = codes " has no name after it"
+no_value_after option = codes " has no " ++ (noun_of option ++ codes " after it")
 
 -- an option in the place of another's value
 abbrev pub no_value_is : Valued → Text
-no_value_is Workers = codes " is no number"
-no_value_is Output = codes " is no format"
-no_value_is Event = codes " is no number"
-no_value_is RunName = codes " is no name"
-no_value_is MetricName = codes " is no name"
+no_value_is option = codes " is no " ++ noun_of option
 
 abbrev pub option_and_expected : Valued → Text
 option_and_expected option = name_of option ++ (codes " and " ++ expected option)
@@ -90,7 +90,7 @@ word_refusal Nothing word = word_hinted word (list_hint word)
 word_refusal (Options taker given) word = word_hinted word (taker_hint taker word)
 word_refusal (Value option taker given) word = value_refusal option word
 
-abbrev pub first_refusal : Option (Next × List ℕ) → Diagnostic
+abbrev pub first_refusal : Option (Next × Text) → Diagnostic
 first_refusal None =
     expecting (CommandLine None) (usage_error_name errors.Words)
     (codes "`eval`, `check`, `list`, `run` or `explain`, with the document on standard input, or --help")
@@ -102,7 +102,7 @@ words_diagnostic words = first_refusal (first_refused Command (drop 1 words))
 
 -- ---- a value that isn't taken
 
-abbrev pub value_found : Option (List ℕ) → Option (List ℕ)
+abbrev pub value_found : Option Text → Option Text
 value_found value = option_map (λ value. quoted value ++ codes " isn't taken") value
 
 abbrev pub value_diagnostic : (words : List Text) → Valued → UsageError → Diagnostic

@@ -123,28 +123,28 @@ following_or refused rest None = Some refused
 following_or refused rest (Some following) = rest following
 
 -- an option that has a value requires it after it
-abbrev pub at_end : Next → Option (Next × List ℕ)
+abbrev pub at_end : Next → Option (Next × Text)
 at_end (Value option taker given) = Some (Value option taker given, name_of option)
 at_end next = None
 
 -- the first word that isn't taken, with what could have come instead, or the last if something has to come after
 -- it
-unfoldable pub first_refused : Next → (words : List (List ℕ)) → Option (Next × List ℕ)
+unfoldable pub first_refused : Next → (words : List Text) → Option (Next × Text)
 first_refused next [] = at_end next
 first_refused next (word ∷ words) =
     following_or (next, word) (λ following. first_refused following words) (next_after next word)
 
 -- ---- the values of options
 
-abbrev pub first_of : (words : List (List ℕ)) → Option (List ℕ)
+abbrev pub first_of : (words : List Text) → Option Text
 first_of [] = None
 first_of (word ∷ words) = Some word
 
 -- the value of an option: the word after it, or what comes after its `=`
-abbrev pub option_value : Valued → (word : Text) → (rest : List (List ℕ)) → Option (List ℕ)
+abbrev pub option_value : Valued → (word : Text) → (rest : List Text) → Option Text
 option_value option word rest = if bytes_eq word (name_of option) then first_of rest else value_in option word
 
 -- the value of an option as it is written
-unfoldable pub value_given : Valued → (words : List (List ℕ)) → Option (List ℕ)
+unfoldable pub value_given : Valued → (words : List Text) → Option Text
 value_given option [] = None
 value_given option (word ∷ words) = option_or (option_value option word words) (value_given option words)

@@ -2,28 +2,17 @@
 
 ghost use Rattle.std.specs.Prelude.{◌≡◌, ◌++◌, IfOk, map, option_map, string_bytes};
 ghost use Rattle.ar_quote.specs.Shown.{quoted};
-ghost use Rattle.ar_usage.specs.Usage.{asks_for_json, document_hint, first_refusal, list_hint, no_value_after, no_value_is, option_and_expected, option_hint, taker_hint, usage_diagnostic, value_diagnostic, value_found, value_refusal, word_expecting, word_hinted, word_refusal, words_diagnostic};
+ghost use Rattle.ar_usage.specs.Usage.{asks_for_json, document_hint, first_refusal, list_hint, no_value_after, no_value_is, noun_of, option_and_expected, option_hint, taker_hint, usage_diagnostic, value_diagnostic, value_found, value_refusal, word_expecting, word_hinted, word_refusal, words_diagnostic};
 
 use crate::words::{
     Next, Taker, Valued, expected, first_refused, flag_of, is_option, name_of, value_given,
 };
 use ar_command_line::UsageError;
-use ar_diagnostic::{Diagnostic, Flag, Place};
-use ar_quote::push_quoted;
+use ar_diagnostic::{Diagnostic, Flag, Place, with_quoted};
 use ar_value::Text;
 use std::alloc::{AllocError, Global};
 
 // ---- a word that isn't taken
-
-/// A word in quotes, and what is wrong with it.
-fn found_word(alloc: Global, word: &str, why: &str) -> Result<Text, AllocError>
-    ensures { IfOk result (λ text. text ≡ quoted word.now ++ why.now) }
-{
-    let mut text = String::new(alloc);
-    push_quoted(&mut text, word)?;
-    text.push_str(why)?;
-    Ok(Text::from(text))
-}
 
 /// Something else is expected than a word.
 fn word_expecting(
@@ -36,7 +25,7 @@ fn word_expecting(
 {
     let place = Place::CommandLine(None);
     let mut it = Diagnostic::expecting(alloc, place, UsageError::Words.name(), expected)?;
-    it.found = Some(found_word(alloc, word, why)?);
+    it.found = Some(with_quoted(alloc, "", word, why)?);
     Ok(it)
 }
 
@@ -46,7 +35,7 @@ fn word_hinted(alloc: Global, word: &str, hint: &str) -> Result<Diagnostic, Allo
 {
     let place = Place::CommandLine(None);
     let mut it = Diagnostic::named(alloc, place, UsageError::Words.name())?;
-    it.found = Some(found_word(alloc, word, " isn't taken")?);
+    it.found = Some(with_quoted(alloc, "", word, " isn't taken")?);
     it.hint = Some(Text::of(alloc, hint)?);
     Ok(it)
 }
@@ -105,25 +94,14 @@ fn list_hint(word: &str) -> &'static str
     }
 }
 
-/// What is wrong with an option that ends the words without its value.
-fn no_value_after(option: Valued) -> &'static str
-    ensures { result.now ≡ no_value_after option }
+/// What the value of an option is.
+fn noun_of(option: Valued) -> &'static str
+    ensures { result.now ≡ noun_of option }
 {
     match option {
-        Valued::Workers | Valued::Event => " has no number after it",
-        Valued::Output => " has no format after it",
-        Valued::RunName | Valued::MetricName => " has no name after it",
-    }
-}
-
-/// What is wrong with an option in the place of another's value.
-fn no_value_is(option: Valued) -> &'static str
-    ensures { result.now ≡ no_value_is option }
-{
-    match option {
-        Valued::Workers | Valued::Event => " is no number",
-        Valued::Output => " is no format",
-        Valued::RunName | Valued::MetricName => " is no name",
+        Valued::Workers | Valued::Event => "number",
+        Valued::Output => "format",
+        Valued::RunName | Valued::MetricName => "name",
     }
 }
 
@@ -141,11 +119,14 @@ fn option_and_expected(alloc: Global, option: Valued) -> Result<String, AllocErr
 fn value_refusal(alloc: Global, option: Valued, word: &str) -> Result<Diagnostic, AllocError>
     ensures { IfOk result (λ it. it ≡ value_refusal option word.now) }
 {
+    let noun = noun_of(option);
     if word == name_of(option) {
-        word_expecting(alloc, word, no_value_after(option), expected(option))
+        let why = format!(in alloc; " has no {noun} after it")?;
+        word_expecting(alloc, word, why.as_str(), expected(option))
     } else {
+        let why = format!(in alloc; " is no {noun}")?;
         let thing = option_and_expected(alloc, option)?;
-        word_expecting(alloc, word, no_value_is(option), thing.as_str())
+        word_expecting(alloc, word, why.as_str(), thing.as_str())
     }
 }
 
@@ -196,7 +177,7 @@ fn value_found(alloc: Global, value: Option<&str>) -> Result<Option<Text>, Alloc
     ensures { IfOk result (λ found. found ≡ value_found (option_map (λ value. value.now) value.entry)) }
 {
     match value {
-        Some(value) => Ok(Some(found_word(alloc, value, " isn't taken")?)),
+        Some(value) => Ok(Some(with_quoted(alloc, "", value, " isn't taken")?)),
         None => Ok(None),
     }
 }
