@@ -1,12 +1,14 @@
 -- What carrying out a command on a reader and a writer returns.
 use Rattle.std.specs.Prelude.{◌≡◌, ◌≢◌, ℕ, Bool, true, List, Option, Result, Err, IfOk, IfErr, IfSome}
 use Rattle.ar_value.specs.Terms.{Text}
+use Rattle.ar_diagnostic.specs.declared.diagnostic.Diagnostic.{Diagnostic}
 use Rattle.ar_command_line.specs.History.{GrowsAtMost}
 use Rattle.ar_command_line.specs.Input.{most_reads}
 use Rattle.ar_command_line.specs.Output.{AppendsAll, Call}
 use Rattle.ar_command_line.specs.declared.command_line.Command.{Command}
 use Rattle.ar_workers.specs.declared.error.WorkError.{WorkError}
 use Rattle.ar_command.specs.Serving.{IsCarriedOut, IsCut, RefusesTaken, RefusesInput, Says, WritesFront}
+use Rattle.ar_command.specs.Warned.{HandsOn, WarnsOfTaken}
 use Rattle.ar_command.specs.declared.serving.Closing.{Closing}
 use Rattle.ar_command.specs.declared.serving.Refusal.{Refusal}
 use Rattle.ar_command.specs.declared.serving.ServeError.{ServeError}
@@ -50,6 +52,16 @@ pub record Served {R W : Type 0} (command : Command) (taken remaining : R → Op
       → IfSome (remaining reader) (WritesFront command contents calls writer later_writer)
   -- of all errors, only `Write` leaves anything written
   pub silent : IfErr result (λ error. error ≢ Write → later_writer ≡ writer)
+
+-- A command was served so, and its warnings were handed on: those of the bytes that were taken.
+pub record ServedWarning {R W : Type 0} (command : Command) (taken remaining : R → Option (List ℕ))
+    (reads : R → Option ℕ) (read_failed : R → Bool) (reader later_reader : R)
+    (contents : W → Option (List ℕ)) (calls : W → Option (List Call)) (write_failed : W → Bool)
+    (writer later_writer : W) (warnings later_warnings : List Diagnostic) (result : Result Closing ServeError) : Type 0
+  where
+    pub served : Served command taken remaining reads read_failed reader later_reader contents calls write_failed writer
+        later_writer result
+    pub warns : HandsOn result warnings later_warnings (WarnsOfTaken command (taken reader) (taken later_reader))
 
 -- this holds of each error of workers that is returned
 abbrev pub IfBroken : Result Closing ServeError → (WorkError → Type 0) → Type 0

@@ -1,23 +1,27 @@
 //! What each command says of an input.
 
-ghost use Rattle.std.specs.Prelude.{◌≡◌, ◌≤◌, Err, IfOk, List, map, string_bytes};
+ghost use Rattle.std.specs.Prelude.{◌≡◌, ◌≤◌, ℕ, Err, IfOk, List, [], Ok, map, string_bytes};
 ghost use Rattle.std.specs.List.{list_any};
 ghost use Rattle.ar_value.specs.Answer.{IfRefused};
 ghost use Rattle.ar_bundle.specs.Lawful.{AllRise, AreLawful, numbers_of};
 ghost use Rattle.ar_bundle.specs.declared.history.Entry.{Entry};
 ghost use Rattle.ar_limits.specs.Metric.{is_unsuccessful};
+ghost use Rattle.ar_document.specs.Document.{ReadsInput};
 ghost use Rattle.ar_facts.specs.Facts.{report_facts};
 ghost use Rattle.ar_facts.specs.ReportData.{answer_data};
 ghost use Rattle.ar_command.specs.Private.Refusing.{Names, NamesRefusal, NamesWork, is_serve_memory};
 ghost use Rattle.ar_command.specs.Serving.{Breaks, IsCauseOf, IsChecked, IsPrinted, IsReport, IsReported, RefusesInput, ReportsInOrder, RunsAlone, RunsWith, Says, closing_of, line_of};
+ghost use Rattle.ar_command.specs.Warned.{AreWarningsOf, Warns};
 ghost use Rattle.ar_command.specs.declared.serving.Closing.TheVariants.{Good};
 ghost use Rattle.ar_command_line.specs.declared.command_line.Command.TheVariants as commands;
 
 use crate::explained::explained;
+use crate::reading::{Reading, read};
 use crate::serving::{Closing, ServeError};
 use ar_board::MOST_WORKERS;
 use ar_bundle::{Bundle, Histories, run_plain};
 use ar_command_line::{Command, Format};
+use ar_diagnostic::Diagnostic;
 use ar_document::read_bundle;
 use ar_eval::evaluate;
 use ar_limits::Phase;
@@ -35,10 +39,23 @@ pub(crate) struct Said {
     pub closing: Closing,
 }
 
-/// The text and the closing of a command that runs on one thread, for an input; or why the input is refused.
-pub(crate) fn answer(alloc: Global, command: Command<'_>, input: &[u8]) -> Result<Said, ServeError>
+/// What a command says of an input, and what it warns of.
+#[derive(Drop)]
+pub(crate) struct Answered {
+    pub said: Said,
+    pub warnings: Vec<Diagnostic>,
+}
+
+/// What a command that runs on one thread says of an input, or why the input is refused.
+pub(crate) fn answer(
+    alloc: Global,
+    command: Command<'_>,
+    input: &[u8],
+) -> Result<Answered, ServeError>
     requires { RunsAlone command }
-    ensures said { IfOk result (λ said. Says command.entry input.now (string_bytes said.text) said.closing) }
+    ensures said { IfOk result
+        (λ it. Says command.entry input.now (string_bytes it.said.text) it.said.closing) }
+    ensures warns { IfOk result (λ it. Warns command.entry input.now it.warnings.items) }
     ensures refused { IfRefused is_serve_memory result (NamesRefusal (RefusesInput command.entry input.now)) }
 {
     match command {
@@ -58,18 +75,36 @@ pub(crate) fn judged<G: Gate, R: Threads + Wait + Sync>(
     command: Command<'_>,
     input: &[u8],
     gate: &G,
-) -> Result<Said, ServeError>
+) -> Result<Answered, ServeError>
     requires { RunsWith command MOST_WORKERS }
-    ensures said { IfOk result (λ said. Says command.entry input.now (string_bytes said.text) said.closing) }
+    ensures said { IfOk result
+        (λ it. Says command.entry input.now (string_bytes it.said.text) it.said.closing) }
+    ensures warns { IfOk result (λ it. Warns command.entry input.now it.warnings.items) }
     ensures ends { IfRefused is_serve_memory result
         (Names (RefusesInput command.entry input.now) (Breaks command.entry input.now)) }
 {
-    let bundle = read_bundle(alloc, input)?;
+    let Reading { bundle, warnings } = read(alloc, input)?;
+    let said = reported(rt, alloc, command, &bundle, gate)?;
+    Ok(Answered { said, warnings })
+}
+
+/// What a run with workers says of a bundle.
+fn reported<G: Gate, R: Threads + Wait + Sync>(
+    rt: &R,
+    alloc: Global,
+    command: Command<'_>,
+    bundle: &Bundle,
+    gate: &G,
+) -> Result<Said, ServeError>
+    requires { RunsWith command MOST_WORKERS }
+    ensures said { (input : List ℕ) → ReadsInput input (Ok bundle.now)
+        → IfOk result (λ said. Says command.entry input (string_bytes said.text) said.closing) }
+    ensures ends { (input : List ℕ) → ReadsInput input (Ok bundle.now)
+        → IfRefused is_serve_memory result (Names (RefusesInput command.entry input) (Breaks command.entry input)) }
+{
     match command {
-        Command::Run(workers, format) => posted(rt, alloc, workers, format, &bundle, gate),
-        Command::Ordered(workers, format) => {
-            put_in_order(rt, alloc, workers, format, &bundle, gate)
-        }
+        Command::Run(workers, format) => posted(rt, alloc, workers, format, bundle, gate),
+        Command::Ordered(workers, format) => put_in_order(rt, alloc, workers, format, bundle, gate),
         Command::Eval(_)
         | Command::Check(_)
         | Command::List
@@ -144,16 +179,28 @@ fn answer_text(alloc: Global, format: Format, answer: Answer) -> Result<String, 
     }
 }
 
-fn evaluated(alloc: Global, format: Format, input: &[u8]) -> Result<Said, ServeError>
+fn evaluated(alloc: Global, format: Format, input: &[u8]) -> Result<Answered, ServeError>
     ensures said { IfOk result
-        (λ said. Says (commands.Eval format) input.now (string_bytes said.text) said.closing) }
+        (λ it. Says (commands.Eval format) input.now (string_bytes it.said.text) it.said.closing) }
+    ensures warns { IfOk result (λ it. it.warnings.items ≡ []) }
     ensures refused { IfRefused is_serve_memory result (NamesRefusal (RefusesInput (commands.Eval format) input.now)) }
 {
     let answer = evaluate(alloc, input)?;
-    Ok(Said {
-        text: answer_text(alloc, format, answer)?,
-        closing: Closing::Good,
-    })
+    let text = answer_text(alloc, format, answer)?;
+    Ok(well_said(text, Vec::new(alloc)))
+}
+
+/// A text whose command closes well.
+pub(crate) fn well_said(text: String, warnings: Vec<Diagnostic>) -> Answered
+    ensures text { string_bytes result.said.text ≡ string_bytes text }
+    ensures closing { result.said.closing ≡ Good }
+    ensures warnings { result.warnings.items ≡ warnings.items }
+{
+    let closing = Closing::Good;
+    Answered {
+        said: Said { text, closing },
+        warnings,
+    }
 }
 
 /// The bounds of a bundle's conditions, as they are to be written.
@@ -166,38 +213,39 @@ fn bounds_text(alloc: Global, format: Format, bundle: &Bundle) -> Result<String,
     }
 }
 
-fn checked(alloc: Global, format: Format, input: &[u8]) -> Result<Said, ServeError>
+fn checked(alloc: Global, format: Format, input: &[u8]) -> Result<Answered, ServeError>
     ensures said { IfOk result
-        (λ said. Says (commands.Check format) input.now (string_bytes said.text) said.closing) }
+        (λ it. Says (commands.Check format) input.now (string_bytes it.said.text) it.said.closing) }
+    ensures warns { IfOk result (λ it. AreWarningsOf input.now it.warnings.items) }
     ensures refused { IfRefused is_serve_memory result
         (NamesRefusal (RefusesInput (commands.Check format) input.now)) }
 {
-    let bundle = read_bundle(alloc, input)?;
-    Ok(Said {
-        text: bounds_text(alloc, format, &bundle)?,
-        closing: Closing::Good,
-    })
+    let Reading { bundle, warnings } = read(alloc, input)?;
+    let text = bounds_text(alloc, format, &bundle)?;
+    Ok(well_said(text, warnings))
 }
 
-fn listed(alloc: Global, input: &[u8]) -> Result<Said, ServeError>
-    ensures said { IfOk result (λ said. Says commands.List input.now (string_bytes said.text) said.closing) }
+fn listed(alloc: Global, input: &[u8]) -> Result<Answered, ServeError>
+    ensures said { IfOk result
+        (λ it. Says commands.List input.now (string_bytes it.said.text) it.said.closing) }
+    ensures warns { IfOk result (λ it. it.warnings.items ≡ []) }
     ensures refused { IfRefused is_serve_memory result (NamesRefusal (RefusesInput commands.List input.now)) }
 {
     let bundle = read_bundle(alloc, input)?;
-    Ok(Said {
-        text: list_text(alloc, &bundle)?,
-        closing: Closing::Good,
-    })
+    let text = list_text(alloc, &bundle)?;
+    Ok(well_said(text, Vec::new(alloc)))
 }
 
-fn reported_in_order(alloc: Global, format: Format, input: &[u8]) -> Result<Said, ServeError>
+fn reported_in_order(alloc: Global, format: Format, input: &[u8]) -> Result<Answered, ServeError>
     ensures said { IfOk result
-        (λ said. ReportsInOrder format input.now (string_bytes said.text) said.closing) }
+        (λ it. ReportsInOrder format input.now (string_bytes it.said.text) it.said.closing) }
+    ensures warns { IfOk result (λ it. AreWarningsOf input.now it.warnings.items) }
     ensures refused { IfRefused is_serve_memory result
         (NamesRefusal (RefusesInput (commands.Plain format) input.now)) }
 {
-    let bundle = read_bundle(alloc, input)?;
-    Ok(plain_report(alloc, format, &bundle)?)
+    let Reading { bundle, warnings } = read(alloc, input)?;
+    let said = plain_report(alloc, format, &bundle)?;
+    Ok(Answered { said, warnings })
 }
 
 /// The report of a bundle's plain run.

@@ -1,10 +1,10 @@
 //! What `explain` says of an input.
 
-ghost use Rattle.std.specs.Prelude.{◌≡◌, Err, IfOk, Ok, string_bytes};
+ghost use Rattle.std.specs.Prelude.{◌≡◌, ℕ, Err, IfOk, List, Ok, string_bytes};
 ghost use Rattle.serde_json.specs.View.{view};
 ghost use Rattle.ar_value.specs.Answer.{IfRefused};
 ghost use Rattle.ar_bundle.specs.Lawful.{AllRise, AreLawful};
-ghost use Rattle.ar_document.specs.Document.{ReadsInput, is_bundle_memory};
+ghost use Rattle.ar_document.specs.Document.{ReadsInput};
 ghost use Rattle.ar_document.specs.Opening.{index_of_name};
 ghost use Rattle.ar_json.specs.Document.{json_in};
 ghost use Rattle.ar_reason.specs.Reason.{reasons_of};
@@ -12,16 +12,16 @@ ghost use Rattle.ar_reason.specs.ReasonData.{reasons_data};
 ghost use Rattle.ar_reason.specs.ReasonText.{reasons_text};
 ghost use Rattle.ar_command.specs.Private.Counting.{metric_names, run_names};
 ghost use Rattle.ar_command.specs.Private.Refusing.{NamesRefusal, is_serve_memory};
-ghost use Rattle.ar_command.specs.Serving.{IsPrinted, RefusesInput, Says, chosen_of};
+ghost use Rattle.ar_command.specs.Serving.{Explains, IsPrinted, RefusesInput, Says, chosen_of};
+ghost use Rattle.ar_command.specs.Warned.{AreWarningsOf};
 ghost use Rattle.ar_command_line.specs.Selection.{selected};
 ghost use Rattle.ar_command_line.specs.declared.command_line.Command.TheVariants as commands;
 
-use crate::answer::Said;
-use crate::serving::{Closing, Refusal, ServeError};
+use crate::answer::{Answered, well_said};
+use crate::reading::{Reading, read_kept};
+use crate::serving::{Refusal, ServeError};
 use ar_bundle::{Bundle, Histories, MetricPart, RunPart, run_plain};
 use ar_command_line::{Format, Selection};
-use ar_document::{BundleError, read_bundle};
-use ar_json::read_json;
 use ar_reason::{Chosen, reasons_json, reasons_text};
 use serde_json::Value as Json;
 use std::alloc::{AllocError, Global};
@@ -86,12 +86,24 @@ fn reasons(
     }
 }
 
-/// The document that an input is.
-fn document_of(alloc: Global, input: &[u8]) -> Result<Json, BundleError>
-    ensures given { IfOk result (λ json. json_in input.now ≡ Ok (view json)) }
-    ensures refused { IfRefused is_bundle_memory result (λ error. ReadsInput input.now (Err error)) }
+/// What `explain` says of a bundle and its document.
+fn said_of(
+    alloc: Global,
+    selection: Selection<'_>,
+    format: Format,
+    document: &Json,
+    bundle: &Bundle,
+) -> Result<String, ServeError>
+    ensures said { (input : List ℕ) → json_in input ≡ Ok (view document.now) → ReadsInput input (Ok bundle.now)
+        → IfOk result (λ text. Explains (selected selection.entry) format input (string_bytes text)) }
+    ensures refused { (input : List ℕ) → ReadsInput input (Ok bundle.now) → IfRefused is_serve_memory result
+        (NamesRefusal (RefusesInput (commands.Explain selection.entry format) input)) }
 {
-    Ok(read_json(alloc, input)?)
+    let Some(chosen) = chosen_of(bundle, selection) else {
+        return Err(ServeError::Refused(Refusal::NotThere));
+    };
+    let histories = run_plain(alloc, bundle)?;
+    Ok(reasons(alloc, format, document, bundle, &histories, chosen)?)
 }
 
 pub(crate) fn explained(
@@ -99,20 +111,14 @@ pub(crate) fn explained(
     selection: Selection<'_>,
     format: Format,
     input: &[u8],
-) -> Result<Said, ServeError>
+) -> Result<Answered, ServeError>
     ensures said { IfOk result
-        (λ said. Says (commands.Explain selection.entry format) input.now (string_bytes said.text) said.closing) }
+        (λ it. Says (commands.Explain selection.entry format) input.now (string_bytes it.said.text) it.said.closing) }
+    ensures warns { IfOk result (λ it. AreWarningsOf input.now it.warnings.items) }
     ensures refused { IfRefused is_serve_memory result
         (NamesRefusal (RefusesInput (commands.Explain selection.entry format) input.now)) }
 {
-    let bundle = read_bundle(alloc, input)?;
-    let Some(chosen) = chosen_of(&bundle, selection) else {
-        return Err(ServeError::Refused(Refusal::NotThere));
-    };
-    let histories = run_plain(alloc, &bundle)?;
-    let document = document_of(alloc, input)?;
-    Ok(Said {
-        text: reasons(alloc, format, &document, &bundle, &histories, chosen)?,
-        closing: Closing::Good,
-    })
+    let (document, Reading { bundle, warnings }) = read_kept(alloc, input)?;
+    let text = said_of(alloc, selection, format, &document, &bundle)?;
+    Ok(well_said(text, warnings))
 }

@@ -6,11 +6,12 @@
 //! in it and nothing is written. Only out of memory, a failed read or write, a thread that can't be
 //! started and a lost number can keep them from that; after a failed write a front of it is written. A command
 //! that has a [`Format`] says the facts of its lines of words as one JSON object, too.
-//! What is left to the program are the words of refusals and the exit status. What `eval` returns is
-//! `ar_eval`'s.
+//! [`serve_warning`] and [`serve_plain_warning`] are the same with what the command warns of. What is left to the
+//! program are the words of refusals and the exit status. What `eval` returns is `ar_eval`'s.
 //!
 //! - [`serving`]: a command, from the bytes read to the bytes written
-//! - `answer`: what each command says of an input; `explained`: what `explain` says
+//! - `answer`: what each command says of an input; `explained`: what `explain` says; `reading`: documents with
+//!   their warnings
 //! - [`status`]: exit statuses
 //! - [`laws`]: that an input is one bundle, and has one text in a format, and both formats the same facts of runs
 #![tactic(auto)]
@@ -18,6 +19,7 @@
 mod answer;
 mod explained;
 pub mod laws;
+mod reading;
 pub mod serving;
 pub mod status;
 
@@ -27,4 +29,6 @@ pub use ar_command_line::{
 };
 pub use ar_document::{BundleError, read_bundle};
 pub use ar_eval::{EvalError, eval};
-pub use serving::{Closing, Refusal, ServeError, serve, serve_plain};
+pub use serving::{
+    Closing, Refusal, ServeError, serve, serve_plain, serve_plain_warning, serve_warning,
+};

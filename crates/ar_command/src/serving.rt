@@ -3,11 +3,13 @@
 ghost use Rattle.std.specs.Prelude.{◌≡◌, ◌≢◌, false, true, Err, IfErr, IfOk, OnErr, OnOk, string_bytes};
 ghost use Rattle.ar_command.specs.Serving.{IsBroken, RunsAlone, RunsWith};
 ghost use Rattle.ar_command_line.specs.Output.{AppendsAll, AppendsFront};
-ghost use Rattle.ar_command.specs.Served.{IfBroken, Served};
+ghost use Rattle.ar_command.specs.Served.{IfBroken, Served, ServedWarning};
+ghost use Rattle.ar_command.specs.Warned.{HandsOn};
 
-use crate::answer::{Said, answer, judged};
+use crate::answer::{Answered, answer, judged};
 use ar_board::MOST_WORKERS;
 use ar_command_line::{Command, InputError, Sink, Source, read_input, write_output};
+use ar_diagnostic::Diagnostic;
 use ar_document::BundleError;
 use ar_eval::EvalError;
 use ar_workers::{Gate, WorkError};
@@ -143,9 +145,37 @@ pub fn serve<S: Source, W: Sink, G: Gate, R: Threads + Wait + Sync>(
     // A lost number is shown, and an ordered run loses none.
     ensures work { IfBroken result (IsBroken command.entry (S.taken reader.old) (S.taken reader.new)) }
 {
+    let mut warnings = Vec::new(alloc);
+    serve_warning(rt, alloc, command, reader, writer, gate, &mut warnings)
+}
+
+/// [`serve`], with what the command warns of.
+///
+/// # Errors
+///
+/// Those of [`serve`].
+pub fn serve_warning<S: Source, W: Sink, G: Gate, R: Threads + Wait + Sync>(
+    rt: &R,
+    alloc: Global,
+    command: Command<'_>,
+    reader: &mut S,
+    writer: &mut W,
+    gate: &G,
+    warnings: &mut Vec<Diagnostic>,
+) -> Result<Closing, ServeError>
+    requires command { RunsWith command MOST_WORKERS }
+    requires reader_works { S.has_failed reader.old ≡ false }
+    requires writer_works { W.has_failed writer.old ≡ false }
+
+    ensures served { ServedWarning command.entry S.taken S.remaining S.reads S.has_failed reader.old reader.new
+        W.contents W.calls W.has_failed writer.old writer.new warnings.old.items warnings.new.items result }
+
+    // A lost number is shown, and an ordered run loses none.
+    ensures work { IfBroken result (IsBroken command.entry (S.taken reader.old) (S.taken reader.new)) }
+{
     let input = read_input(alloc, reader)?;
-    let said = judged(rt, alloc, command, &input, gate)?;
-    write(writer, &said)
+    let answered = judged(rt, alloc, command, &input, gate)?;
+    write(writer, answered, warnings)
 }
 
 /// Reads a document, carries a command for one thread out on it, and writes the answer. For a refused
@@ -171,22 +201,58 @@ pub fn serve_plain<S: Source, W: Sink>(
     // There are no workers.
     ensures work { (error : WorkError) → result ≢ Err (ServeError.Work error) }
 {
-    let input = read_input(alloc, reader)?;
-    let said = answer(alloc, command, &input)?;
-    write(writer, &said)
+    let mut warnings = Vec::new(alloc);
+    serve_plain_warning(alloc, command, reader, writer, &mut warnings)
 }
 
-/// Writes what a command says, and returns how it closes.
-fn write<W: Sink>(writer: &mut W, said: &Said) -> Result<Closing, ServeError>
+/// [`serve_plain`], with what the command warns of.
+///
+/// # Errors
+///
+/// Those of [`serve_plain`].
+pub fn serve_plain_warning<S: Source, W: Sink>(
+    alloc: Global,
+    command: Command<'_>,
+    reader: &mut S,
+    writer: &mut W,
+    warnings: &mut Vec<Diagnostic>,
+) -> Result<Closing, ServeError>
+    requires command { RunsAlone command }
+    requires reader_works { S.has_failed reader.old ≡ false }
+    requires writer_works { W.has_failed writer.old ≡ false }
+
+    ensures served { ServedWarning command.entry S.taken S.remaining S.reads S.has_failed reader.old reader.new
+        W.contents W.calls W.has_failed writer.old writer.new warnings.old.items warnings.new.items result }
+
+    // There are no workers.
+    ensures work { (error : WorkError) → result ≢ Err (ServeError.Work error) }
+{
+    let input = read_input(alloc, reader)?;
+    let answered = answer(alloc, command, &input)?;
+    write(writer, answered, warnings)
+}
+
+/// Writes what a command says, hands on its warnings, and returns how it closes.
+fn write<W: Sink>(
+    writer: &mut W,
+    answered: Answered,
+    warnings: &mut Vec<Diagnostic>,
+) -> Result<Closing, ServeError>
     requires { W.has_failed writer.old ≡ false }
-    ensures closing { IfOk result (λ closing. closing ≡ said.now.closing) }
-    ensures wrote { OnOk result (AppendsAll W.contents W.calls writer.old writer.new (string_bytes said.now.text)) }
-    ensures front { OnErr result (AppendsFront W.contents W.calls writer.old writer.new (string_bytes said.now.text)) }
+    ensures closing { IfOk result (λ closing. closing ≡ answered.said.closing) }
+    ensures wrote { OnOk result
+        (AppendsAll W.contents W.calls writer.old writer.new (string_bytes answered.said.text)) }
+    ensures front { OnErr result
+        (AppendsFront W.contents W.calls writer.old writer.new (string_bytes answered.said.text)) }
     ensures works { OnOk result (W.has_failed writer.new ≡ false) }
     ensures fails { IfErr result (λ e. (e ≡ ServeError.Write) × (W.has_failed writer.new ≡ true)) }
+    ensures warns { HandsOn result warnings.old.items warnings.new.items (λ found. found ≡ answered.warnings.items) }
 {
-    match write_output(writer, said.text.as_bytes()) {
-        Ok(()) => Ok(said.closing),
+    match write_output(writer, answered.said.text.as_bytes()) {
+        Ok(()) => {
+            *warnings = answered.warnings;
+            Ok(answered.said.closing)
+        }
         Err(_) => Err(ServeError::Write),
     }
 }

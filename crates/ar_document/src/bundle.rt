@@ -9,7 +9,7 @@ ghost use Rattle.ar_document.specs.Private.Opened.{IsOpened, opened_view};
 ghost use Rattle.ar_json.specs.Document.{most_bytes};
 ghost use Rattle.ar_document.specs.declared.error.BundleError.TheVariants.{TooLarge};
 
-use crate::entries::read_entries;
+use crate::entries::{entries_in, read_entries};
 use crate::error::BundleError;
 use crate::opening::{Opened, open};
 use crate::parts::parts_of;
@@ -34,11 +34,44 @@ fn parts_and_entries(
 }
 
 /// The bundle of a JSON document, which is dropped as it is read, so that it isn't kept with the bundle.
-fn bundle_of(alloc: Global, document: Json) -> Result<Bundle, BundleError>
+///
+/// # Errors
+///
+/// The first fault in the document, in the order that `BundleError` states.
+pub fn bundle_of(alloc: Global, document: Json) -> Result<Bundle, BundleError>
     ensures { UnlessMemory is_bundle_memory result (Reads (view document)) }
 {
     let opened = open(alloc, &document)?;
     let made = parts_and_entries(alloc, &opened, document);
+    let (opened, (parts, entries)) = zip_ok(opened, made)?;
+    Ok(Bundle::of_parts(opened.into_metrics(), parts, entries))
+}
+
+/// The parts of a document's runs, and its entries.
+fn parts_and_entries_in(
+    alloc: Global,
+    opened: &Opened,
+    document: &Json,
+) -> Result<(Vec<RunPart>, Vec<EventPart>), BundleError>
+    requires { IsOpened opened.now }
+    ensures made { IfOk result (λ made. IsMade opened.now (view document.now) made.0.items made.1.items) }
+    ensures refused { IfRefused is_bundle_memory result
+        (RefusesMade (opened_view opened.now) (view document.now)) }
+{
+    let parts = parts_of(alloc, opened)?;
+    zip_ok(parts, entries_in(alloc, opened, document))
+}
+
+/// The bundle of a JSON document, which is kept.
+///
+/// # Errors
+///
+/// The first fault in the document, in the order that `BundleError` states.
+pub fn bundle_in(alloc: Global, document: &Json) -> Result<Bundle, BundleError>
+    ensures { UnlessMemory is_bundle_memory result (Reads (view document.now)) }
+{
+    let opened = open(alloc, document)?;
+    let made = parts_and_entries_in(alloc, &opened, document);
     let (opened, (parts, entries)) = zip_ok(opened, made)?;
     Ok(Bundle::of_parts(opened.into_metrics(), parts, entries))
 }

@@ -23,6 +23,7 @@ use crate::names::Numbers;
 use crate::opening::Opened;
 use ar_bundle::{EventPart, What};
 use ar_json::Reader;
+use ar_json::members::{list_of, member};
 use ar_json::value_reading::ShapeFault;
 use ar_judge::Sample;
 use ar_limits::MOST_EVENTS;
@@ -253,6 +254,76 @@ fn entries_of(
     }
     Ok(entries)
 }
+
+// ---- of a document that is kept
+
+/// The items of a list that may be missing.
+fn items_in(found: Option<&Json>) -> Result<&[Json], BundleError>
+    ensures { Gives (λ _. false) (λ items. map (λ json. view json) items.now) result
+        (listed_entries (option_map (λ json. view json.now) found.entry)) }
+{
+    match found {
+        None => Ok(&[]),
+        Some(found) => list_of(found).ok_or(BundleError::BadEntry(0)),
+    }
+}
+
+/// The items of `measurements`, at most 100,000 of them.
+#[tactic(auto, using(crate::proofs::Counting::many_entries, crate::proofs::Counting::few_entries_are))]
+fn items_of(document: &Json) -> Result<&[Json], BundleError>
+    ensures exact { Gives (λ _. false) (λ items. map (λ json. view json) items.now) result
+        (entry_items (view document.now)) }
+    ensures few { IfOk result (λ items. length items.now ≤ most_events) }
+{
+    let items = items_in(member(document, "measurements"))?;
+    let most = MOST_EVENTS as usize;
+    if items.len() > most {
+        return Err(BundleError::TooManyMeasurements);
+    }
+    Ok(items)
+}
+
+/// The entries of JSON values.
+fn entries_among(
+    alloc: Global,
+    opened: &Opened,
+    items: &[Json],
+) -> Result<Vec<EventPart>, BundleError>
+    requires { IsOpened opened.now }
+    ensures exact { Gives is_bundle_memory (λ entries. map entry_view entries.items) result
+        (each_after (entry_in (opened_view opened.now)) [] (map (λ json. view json) items.now)) }
+    ensures each { IfOk result (λ entries. length entries.items ≡ length items.now) }
+    ensures entries { IfOk result
+        (λ entries. AllByRecursion
+        (FitsBundle opened.now.metrics.items (length opened.now.runs.items)) entries.items) }
+{
+    let mut entries = Vec::with_capacity(alloc, items.len())?;
+    for (number, item) in items.iter().enumerate() {
+        let entry = entry_of(alloc, opened, number, item)?;
+        try_push(&mut entries, entry)?;
+    }
+    Ok(entries)
+}
+
+/// The entries of a document.
+#[tactic(auto, unfolding(crate::specs::Entries::entries_in))]
+pub(crate) fn entries_in(
+    alloc: Global,
+    opened: &Opened,
+    document: &Json,
+) -> Result<Vec<EventPart>, BundleError>
+    requires { IsOpened opened.now }
+    ensures exact { Gives is_bundle_memory (λ entries. map entry_view entries.items) result
+        (entries_in (opened_view opened.now) (view document.now)) }
+    ensures few { IfOk result (λ entries. length entries.items ≤ most_events) }
+    ensures entries { IfOk result
+        (λ entries. AllByRecursion
+        (FitsBundle opened.now.metrics.items (length opened.now.runs.items)) entries.items) }
+{
+    entries_among(alloc, opened, items_of(document)?)
+}
+
+// ---- of a document that isn't
 
 /// The entries of a document, which is dropped part by part.
 #[tactic(auto, unfolding(crate::specs::Entries::entries_in))]

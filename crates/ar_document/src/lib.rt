@@ -4,7 +4,8 @@
 //! its metrics, `runs` and `measurements`, and returns the bundle that `specs/Document` defines, or
 //! the first fault in the document: its parts are examined in their order, its runs one
 //! after another, and so are its entries. Only out of memory can keep it from its result. Names of
-//! runs and metrics are found by a map.
+//! runs and metrics are found by a map. [`bundle_of`] and [`bundle_in`] do that from the JSON value, which the first
+//! drops as it is read, and the second keeps.
 //!
 //! - [`bundle`]: bundles of documents; [`error`]: why a document is none
 //! - `opening`: the template, its metrics and their shapes; [`runs`]: runs as they are written;
@@ -22,5 +23,5 @@ mod opening;
 mod parts;
 pub mod runs;
 
-pub use bundle::read_bundle;
+pub use bundle::{bundle_in, bundle_of, read_bundle};
 pub use error::BundleError;

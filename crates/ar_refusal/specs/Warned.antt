@@ -1,6 +1,5 @@
--- What is said of an input that has an answer, and in it something that is probably not meant.
-use Rattle.std.specs.Prelude.{◌≡◌, List, [], ◌∷◌, ◌++◌, codes, flat_map, Option, Some, None}
-use Rattle.serde_json.specs.Data.{Data}
+-- Warnings in a format.
+use Rattle.std.specs.Prelude.{◌≡◌, List, [], ◌∷◌, ◌++◌, codes, flat_map}
 use Rattle.ar_value.specs.Terms.{Text}
 use Rattle.ar_command_line.specs.declared.command_line.Format.{Format}
 use Rattle.ar_command_line.specs.declared.command_line.Format.TheVariants as formats
@@ -8,12 +7,6 @@ use Rattle.ar_diagnostic.specs.Diagnostic.{warning_text_of}
 use Rattle.ar_diagnostic.specs.DiagnosticData.{warnings_data}
 use Rattle.ar_diagnostic.specs.declared.diagnostic.Diagnostic.{Diagnostic}
 use Rattle.ar_object.specs.Line.{IsJsonLine}
-use Rattle.ar_words.specs.Warnings.{warnings_of}
-
--- what is no JSON has no warnings
-abbrev pub warnings_in : Option Data → List Diagnostic
-warnings_in None = []
-warnings_in (Some document) = warnings_of document
 
 abbrev pub warning_line : Diagnostic → Text
 warning_line it = codes "argo_judge: warning: " ++ (warning_text_of it ++ codes "\n")

@@ -4,8 +4,7 @@ ghost use Rattle.std.specs.Prelude.{◌≡◌, IfOk, option_map};
 ghost use Rattle.std.specs.List.{list_all};
 ghost use Rattle.ar_refusal.specs.Refused.{IsNoJson, input_begins, input_hint, is_blank_byte, is_yaml, no_json, too_large};
 
-use ar_diagnostic::{Diagnostic, Place, Position};
-use ar_value::Text;
+use ar_diagnostic::{Diagnostic, Place, Position, copy_of};
 use std::alloc::{AllocError, Global};
 
 /// The byte order mark in UTF-8.
@@ -63,15 +62,6 @@ fn input_hint(input: &[u8]) -> Option<&'static str>
     }
 }
 
-fn hint_of(alloc: Global, input: &[u8]) -> Result<Option<Text>, AllocError>
-    ensures { IfOk result (λ hint. hint ≡ input_hint input.now) }
-{
-    match input_hint(input) {
-        Some(hint) => Ok(Some(Text::of(alloc, hint)?)),
-        None => Ok(None),
-    }
-}
-
 // ---- where it ceases to be JSON
 
 /// Where the reader of JSON found a fault.
@@ -97,7 +87,7 @@ fn no_json_at(
     let expected = "one JSON value in UTF-8";
     let mut it = Diagnostic::expecting(alloc, Place::Document, "Utf8OrJson", expected)?;
     it.position = position;
-    it.hint = hint_of(alloc, input)?;
+    it.hint = copy_of(alloc, input_hint(input))?;
     Ok(it)
 }
 

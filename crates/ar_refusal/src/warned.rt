@@ -1,27 +1,12 @@
-//! What is said of an input that has an answer, and in it something that is probably not meant.
+//! Warnings in a format.
 
 ghost use Rattle.std.specs.Prelude.{◌≡◌, ◌++◌, IfOk, OnOk, string_bytes};
-ghost use Rattle.ar_json.specs.Document.{json_of};
-ghost use Rattle.ar_refusal.specs.Warned.{AreWarned, IsJsonWarnings, warning_line, warning_lines, warnings_in};
+ghost use Rattle.ar_refusal.specs.Warned.{AreWarned, IsJsonWarnings, warning_line, warning_lines};
 
 use ar_command::Format;
 use ar_diagnostic::{Diagnostic, warning_line, warnings_json};
-use ar_words::warnings_of;
-use serde_json::Value as Json;
 use std::alloc::{AllocError, Global};
 use std::fmt::Write;
-
-/// The warnings of an input.
-#[tactic(auto, using(ar_json::proofs::Documents::json, ar_json::proofs::Documents::no_json))]
-fn warnings_in(alloc: Global, input: &[u8]) -> Result<Vec<Diagnostic>, AllocError>
-    ensures { IfOk result (λ found. found.items ≡ warnings_in (json_of input.now)) }
-{
-    match Json::from_slice(alloc, input) {
-        Ok(document) => warnings_of(alloc, &document),
-        Err(error) if error.is_memory() => Err(AllocError),
-        Err(_) => Ok(Vec::new(alloc)),
-    }
-}
 
 fn push_warning(alloc: Global, out: &mut String, it: &Diagnostic) -> Result<(), AllocError>
     ensures { OnOk result (string_bytes out.new ≡ string_bytes out.old ++ warning_line it.now) }
@@ -52,17 +37,20 @@ fn object_of(alloc: Global, warnings: &[Diagnostic]) -> Result<String, AllocErro
     warnings_json(alloc, warnings)
 }
 
-/// What an input that has an answer has that is probably not meant: a line each, or one JSON object.
+/// Warnings of a document in a format: a line each, or one JSON object.
 ///
 /// # Errors
 ///
 /// Out of memory alone.
-pub fn warnings_text(alloc: Global, format: Format, input: &[u8]) -> Result<String, AllocError>
-    ensures { IfOk result (λ text. AreWarned format (warnings_in (json_of input.now)) (string_bytes text)) }
+pub fn warnings_text(
+    alloc: Global,
+    format: Format,
+    warnings: &[Diagnostic],
+) -> Result<String, AllocError>
+    ensures { IfOk result (λ text. AreWarned format warnings.now (string_bytes text)) }
 {
-    let warnings = warnings_in(alloc, input)?;
     match format {
-        Format::Text => lines_of(alloc, &warnings),
-        Format::Json => object_of(alloc, &warnings),
+        Format::Text => lines_of(alloc, warnings),
+        Format::Json => object_of(alloc, warnings),
     }
 }

@@ -1,3 +1,3 @@
-pub mod Signs
 pub mod Listed
-pub mod Warned
+pub mod Nearly
+pub mod Signs

@@ -39,7 +39,7 @@ use Rattle.ar_condition_words.specs.Conditions.{code_diagnostic, condition_diagn
 use Rattle.ar_words.specs.Items.{metric_item, run_item}
 use Rattle.ar_words.specs.Lists.{entry_text, metrics, runs, text_at}
 use Rattle.ar_words.specs.Names.{nothing_named, those_there}
-use Rattle.ar_words.specs.Shapes.{declaration_in, declared_shape}
+use Rattle.ar_words.specs.Shapes.{close_shape, declaration_in, declared_shape}
 use Rattle.ar_words.specs.Templates.{binding_diagnostic, template_diagnostic}
 
 -- ---- shapes
@@ -79,24 +79,24 @@ built_diagnostic document run metric build.OutOfMemory = plain_diagnostic places
 
 -- ---- entries
 
-abbrev pub unknown_name_diagnostic : Place → (error kind kinds : Text) → (name : Option Text) → Option (List Data)
+abbrev pub unknown_name_diagnostic : Place → (error kind : Text) → (name : Option Text) → Option (List Data)
     → Diagnostic
-unknown_name_diagnostic place error kind kinds (Some name) (Some items) =
+unknown_name_diagnostic place error kind (Some name) (Some items) =
     record (plain_diagnostic place error) {
       found = Some (nothing_named kind name);
-      hint = Some (those_there kinds items);
+      hint = Some (those_there (kind ++ codes "s") items);
     }
-unknown_name_diagnostic place error kind kinds name items = plain_diagnostic place error
+unknown_name_diagnostic place error kind name items = plain_diagnostic place error
 
 abbrev pub unknown_run : Data → (entry : ℕ) → Diagnostic
 unknown_run document entry =
-    unknown_name_diagnostic (places.EntryMember entry entries.Run) (codes "UnknownRun") (codes "run") (codes "runs")
+    unknown_name_diagnostic (places.EntryMember entry entries.Run) (codes "UnknownRun") (codes "run")
     (entry_text (codes "run") entry document) (runs document)
 
 abbrev pub unknown_metric : Data → (entry : ℕ) → Diagnostic
 unknown_metric document entry =
     unknown_name_diagnostic (places.EntryMember entry entries.Metric) (codes "UnknownMetric") (codes "metric")
-    (codes "metrics") (entry_text (codes "metric") entry document) (metrics document)
+    (entry_text (codes "metric") entry document) (metrics document)
 
 -- ---- documents that have runs
 
@@ -111,12 +111,23 @@ run_diagnostic run =
 abbrev pub shape_place : Data → (metric : ℕ) → Place
 shape_place document metric = places.Metric within.Shapes (metric_item document metric)
 
+-- where no shape has a metric's name
+abbrev pub missing_hint : (close : Option Text) → Text
+missing_hint None = codes "recipes/shapes proposes shapes of results"
+missing_hint (Some key) =
+    codes "shapes has " ++ (quoted key ++ codes "; recipes/shapes proposes shapes of results")
+
+abbrev pub missing_diagnostic : Data → (metric : ℕ) → Diagnostic
+missing_diagnostic document metric =
+    record (expecting (shape_place document metric) (codes "ShapeMissing")
+    (codes "a shape in `shapes` for each metric, by its name")) {
+      hint = Some (missing_hint (close_shape document metric));
+    }
+
 -- an input that is too large or no JSON is no document
 unfoldable pub bundle_diagnostic : Data → BundleError → Diagnostic
 bundle_diagnostic document (errors.Manifest cause) = template_diagnostic document cause
-bundle_diagnostic document (errors.ShapeMissing metric) =
-    expecting (shape_place document metric) (codes "ShapeMissing")
-    (codes "a shape in `shapes` for each metric, by its name")
+bundle_diagnostic document (errors.ShapeMissing metric) = missing_diagnostic document metric
 bundle_diagnostic document (errors.Shapes metric error) =
     shape_diagnostic (shape_place document metric) error
 bundle_diagnostic document errors.Runs =

@@ -1,10 +1,9 @@
-pub mod Private
 pub mod Lists
 pub mod Names
 pub mod Items
 pub mod Fields
 pub mod Bindings
+pub mod Close
 pub mod Shapes
 pub mod Templates
 pub mod Documents
-pub mod Warnings

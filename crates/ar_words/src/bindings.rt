@@ -7,6 +7,7 @@ ghost use Rattle.ar_manifest.specs.declared.error.ManifestError.TheVariants.{Out
 ghost use Rattle.ar_words.specs.Bindings.{binding_of, bound_metrics, condition_in, limit_in, made, own_of, refused_condition, given_template, unbound_of_run};
 
 use crate::lists::{item_at, runs};
+use ar_diagnostic::copy_of;
 use ar_document::BundleError;
 use ar_document::runs::own_arguments;
 use ar_judge::BuildError;
@@ -129,10 +130,7 @@ pub(crate) fn unbound_in(
     let Some((template, own)) = binding_of(alloc, document, run)? else {
         return Ok(None);
     };
-    match template.unbound_reference(&own, metric) {
-        Some(reference) => Ok(Some(Text::of(alloc, reference)?)),
-        None => Ok(None),
-    }
+    copy_of(alloc, template.unbound_reference(&own, metric))
 }
 
 /// The limit of a metric that is refused.

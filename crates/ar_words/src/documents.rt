@@ -2,18 +2,18 @@
 
 ghost use Rattle.std.specs.Prelude.{◌≡◌, IfOk, map, option_map};
 ghost use Rattle.serde_json.specs.View.{view};
-ghost use Rattle.ar_words.specs.Documents.{built_diagnostic, built_place, bundle_diagnostic, condition_place, double_run, eval_diagnostic, has_braces, misfit_expected, run_diagnostic, shape_diagnostic, shape_expected, shape_place, unknown_name_diagnostic, unknown_metric, unknown_run, with_braces};
+ghost use Rattle.ar_words.specs.Documents.{built_diagnostic, built_place, bundle_diagnostic, double_run, eval_diagnostic, has_braces, misfit_expected, missing_diagnostic, missing_hint, run_diagnostic, shape_diagnostic, shape_expected, shape_place, unknown_name_diagnostic, unknown_metric, unknown_run, with_braces};
 
 use crate::bindings::{bound_of, refused_condition};
 use crate::items::{metric_item, run_item};
 use crate::lists::{entry_text, metrics, runs};
 use crate::names::{nothing_named, those_there};
-use crate::said::with_quoted;
-use crate::shapes::{declaration_in, declared_shape};
+use crate::shapes::{close_shape, declaration_in, declared_shape};
 use crate::templates::{binding_diagnostic, template_diagnostic};
 use ar_condition_words::{code_diagnostic, condition_diagnostic, length_diagnostic};
 use ar_diagnostic::{
     ConditionField, Diagnostic, EntryPart, Expected, Item, Member, Place, Within, rule, thing,
+    with_quoted,
 };
 use ar_document::BundleError;
 use ar_eval::EvalError;
@@ -103,17 +103,16 @@ fn built_diagnostic(
 
 // ---- entries
 
-/// An entry names nothing that there is.
+/// An entry names an item of a kind that isn't there.
 fn unknown_name_diagnostic(
     alloc: Global,
     place: Place,
     error: &str,
     kind: &str,
-    kinds: &str,
     name: Option<&str>,
     items: Option<&[Json]>,
 ) -> Result<Diagnostic, AllocError>
-    ensures { IfOk result (λ it. it ≡ unknown_name_diagnostic place error.now kind.now kinds.now
+    ensures { IfOk result (λ it. it ≡ unknown_name_diagnostic place error.now kind.now
         (option_map (λ name. name.now) name.entry)
         (option_map (λ list. map (λ item. view item) list.now) items.entry)) }
 {
@@ -121,8 +120,9 @@ fn unknown_name_diagnostic(
     let (Some(name), Some(items)) = (name, items) else {
         return Ok(it);
     };
+    let kinds = format!(in alloc; "{kind}s")?;
     it.found = Some(nothing_named(alloc, kind, name)?);
-    it.hint = Some(those_there(alloc, kinds, items)?);
+    it.hint = Some(those_there(alloc, kinds.as_str(), items)?);
     Ok(it)
 }
 
@@ -131,32 +131,15 @@ fn unknown_run(alloc: Global, document: &Json, entry: usize) -> Result<Diagnosti
 {
     let place = Place::EntryMember(entry, EntryPart::Run);
     let name = entry_text(document, entry, "run");
-    unknown_name_diagnostic(
-        alloc,
-        place,
-        "UnknownRun",
-        "run",
-        "runs",
-        name,
-        runs(document),
-    )
+    unknown_name_diagnostic(alloc, place, "UnknownRun", "run", name, runs(document))
 }
 
 fn unknown_metric(alloc: Global, document: &Json, entry: usize) -> Result<Diagnostic, AllocError>
     ensures { IfOk result (λ it. it ≡ unknown_metric (view document.now) entry) }
 {
     let place = Place::EntryMember(entry, EntryPart::Metric);
-    let name = entry_text(document, entry, "metric");
-    let found = metrics(document);
-    unknown_name_diagnostic(
-        alloc,
-        place,
-        "UnknownMetric",
-        "metric",
-        "metrics",
-        name,
-        found,
-    )
+    let (name, found) = (entry_text(document, entry, "metric"), metrics(document));
+    unknown_name_diagnostic(alloc, place, "UnknownMetric", "metric", name, found)
 }
 
 // ---- documents that have runs
@@ -191,6 +174,34 @@ fn shape_place(alloc: Global, document: &Json, metric: usize) -> Result<Place, A
     Ok(Place::Metric(Within::Shapes, metric_item(alloc, document, metric)?))
 }
 
+/// What helps where no shape has a metric's name.
+fn missing_hint(alloc: Global, close: Option<Text>) -> Result<Text, AllocError>
+    ensures { IfOk result (λ hint. hint ≡ missing_hint close) }
+{
+    match close {
+        Some(key) => {
+            let after = "; recipes/shapes proposes shapes of results";
+            with_quoted(alloc, "shapes has ", key.as_str(), after)
+        }
+        None => Text::of(alloc, "recipes/shapes proposes shapes of results"),
+    }
+}
+
+/// No shape has a metric's name.
+fn missing_diagnostic(
+    alloc: Global,
+    document: &Json,
+    metric: usize,
+) -> Result<Diagnostic, AllocError>
+    ensures { IfOk result (λ it. it ≡ missing_diagnostic (view document.now) metric) }
+{
+    let place = shape_place(alloc, document, metric)?;
+    let expected = "a shape in `shapes` for each metric, by its name";
+    let mut it = Diagnostic::expecting(alloc, place, "ShapeMissing", expected)?;
+    it.hint = Some(missing_hint(alloc, close_shape(alloc, document, metric)?)?);
+    Ok(it)
+}
+
 /// The refusal of a document that has runs.
 ///
 /// # Errors
@@ -206,11 +217,7 @@ pub fn bundle_diagnostic(
 {
     match error {
         BundleError::Manifest(cause) => template_diagnostic(alloc, document, cause),
-        BundleError::ShapeMissing(metric) => {
-            let place = shape_place(alloc, document, metric)?;
-            let expected = "a shape in `shapes` for each metric, by its name";
-            Diagnostic::expecting(alloc, place, error.name(), expected)
-        }
+        BundleError::ShapeMissing(metric) => missing_diagnostic(alloc, document, metric),
         BundleError::Shapes(metric, cause) => {
             let place = shape_place(alloc, document, metric)?;
             shape_diagnostic(alloc, place, cause)
@@ -290,12 +297,6 @@ fn with_braces(
     }
 }
 
-fn condition_place() -> Place
-    ensures { result ≡ condition_place }
-{
-    Place::Member(Member::Condition)
-}
-
 /// The refusal of what `eval` reads.
 ///
 /// # Errors
@@ -309,6 +310,7 @@ pub fn eval_diagnostic(
 ) -> Result<Diagnostic, AllocError>
     ensures { IfOk result (λ it. it ≡ eval_diagnostic (view document.now) error) }
 {
+    let place = Place::Member(Member::Condition);
     let condition = text_member(document, "condition");
     match error {
         EvalError::BadDocument => {
@@ -318,16 +320,16 @@ pub fn eval_diagnostic(
         EvalError::Shape(error) => { shape_diagnostic(alloc, Place::Member(Member::Shape), error) }
         EvalError::Grammar(error) => {
             let cause = BuildCause::Grammar(error);
-            let it = condition_diagnostic(alloc, condition_place(), &None, condition, cause)?;
+            let it = condition_diagnostic(alloc, place, &None, condition, cause)?;
             with_braces(alloc, error, condition, it)
         }
         EvalError::Kinds(error) => {
             let shape = declared_shape(alloc, document.get("shape"))?;
             let cause = BuildCause::Kinds(error);
-            condition_diagnostic(alloc, condition_place(), &shape, condition, cause)
+            condition_diagnostic(alloc, place, &shape, condition, cause)
         }
-        EvalError::Compiler(_) => length_diagnostic(alloc, condition_place()),
-        EvalError::Verifier(_, reason) => code_diagnostic(alloc, condition_place(), reason),
+        EvalError::Compiler(_) => length_diagnostic(alloc, place),
+        EvalError::Verifier(_, reason) => code_diagnostic(alloc, place, reason),
         EvalError::Misfit(fault) => {
             let place = Place::Member(Member::Value);
             Diagnostic::expecting(alloc, place, fault.name(), misfit_expected(fault))

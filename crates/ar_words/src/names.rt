@@ -1,20 +1,17 @@
 //! How names of a document are listed.
 
-ghost use Rattle.std.specs.Prelude.{◌≡◌, ◌++◌, IfOk, OnOk, codes, map, option_map, string_bytes, take};
+ghost use Rattle.std.specs.Prelude.{◌≡◌, [], ◌++◌, IfOk, OnOk, codes, map, option_map};
+ghost use Rattle.std.specs.List.{cons_option};
 ghost use Rattle.serde_json.specs.View.{view};
-ghost use Rattle.ar_words.specs.Names.{item_name, metrics_there, most_listed, names_listed, names_text, nothing_named, others_counted, runs_there, those_there};
-ghost use Rattle.ar_words.specs.Private.Listed.{name_listed};
+ghost use Rattle.ar_words.specs.Names.{item_name, item_names, metrics_there, nothing_named, runs_there, those_there};
 
 use crate::lists::{metrics, runs};
+use ar_diagnostic::{first_listed, those_listed};
 use ar_json::members::text_member;
 use ar_quote::push_quoted;
 use ar_value::Text;
 use serde_json::Value as Json;
 use std::alloc::{AllocError, Global};
-use std::fmt::Write;
-
-/// How many items' names are listed.
-const MOST_LISTED: usize = 8;
 
 fn name_of(item: &Json) -> Option<&str>
     ensures { option_map (λ name. name.now) result ≡ item_name (view item.now) }
@@ -22,96 +19,42 @@ fn name_of(item: &Json) -> Option<&str>
     text_member(item, "name")
 }
 
-/// A name in a list, if there is one: after others, or the first.
-fn push_listed(out: &mut String, listed: bool, name: Option<&str>) -> Result<(), AllocError>
-    ensures { OnOk result (string_bytes out.new ≡ string_bytes out.old
-        ++ name_listed listed (option_map (λ name. name.now) name.entry)) }
+/// A name after others, if there is one.
+fn push_name(alloc: Global, names: &mut Vec<Text>, name: Option<&str>) -> Result<(), AllocError>
+    ensures { OnOk result (names.new.items
+        ≡ names.old.items ++ cons_option (option_map (λ name. name.now) name.entry) []) }
 {
-    let Some(name) = name else {
-        return Ok(());
-    };
-    if listed {
-        out.push_str(", ")?;
+    if let Some(name) = name {
+        names.push(Text::of(alloc, name)?)?;
     }
-    push_quoted(out, name)
+    Ok(())
 }
 
-/// The names of items.
-#[tactic(auto, using(crate::proofs::Listed::next_name, crate::proofs::Listed::no_name))]
-fn push_all(out: &mut String, items: &[Json]) -> Result<(), AllocError>
-    ensures { OnOk result (string_bytes out.new ≡ string_bytes out.old
-        ++ names_listed (map (λ item. view item) items.now)) }
+/// The names of the items that have one.
+fn names_of(alloc: Global, items: &[Json]) -> Result<Vec<Text>, AllocError>
+    ensures { IfOk result (λ names. names.items ≡ item_names (map (λ item. view item) items.now)) }
 {
-    let mut listed = false;
+    let mut names = Vec::new(alloc);
     for item in items {
-        let name = name_of(item);
-        push_listed(out, listed, name)?;
-        listed = listed || name.is_some();
+        push_name(alloc, &mut names, name_of(item))?;
     }
-    Ok(())
-}
-
-/// The first items.
-fn first(items: &[Json]) -> &[Json]
-    ensures { map (λ item. view item) result.now ≡ take most_listed (map (λ item. view item) items.now) }
-{
-    items.get(..MOST_LISTED).unwrap_or(items)
-}
-
-/// How many items there are after the first.
-fn push_others(out: &mut String, count: usize) -> Result<(), AllocError>
-    ensures { OnOk result (string_bytes out.new ≡ string_bytes out.old ++ others_counted count) }
-{
-    if count > MOST_LISTED {
-        write!(out, " and {} more", count - MOST_LISTED)?;
-    }
-    Ok(())
-}
-
-/// The names of items, as many as a line has room for.
-fn push_names(out: &mut String, items: &[Json]) -> Result<(), AllocError>
-    ensures { OnOk result (string_bytes out.new ≡ string_bytes out.old
-        ++ names_text (map (λ item. view item) items.now)) }
-{
-    push_all(out, first(items))?;
-    push_others(out, items.len())
-}
-
-/// Those of a kind that there are.
-fn push_those(out: &mut String, kinds: &str, items: &[Json]) -> Result<(), AllocError>
-    ensures { OnOk result (string_bytes out.new ≡ string_bytes out.old
-        ++ those_there kinds.now (map (λ item. view item) items.now)) }
-{
-    if items.is_empty() {
-        return write!(out, "there are no {kinds}");
-    }
-    write!(out, "{kinds} are ")?;
-    push_names(out, items)
+    Ok(names)
 }
 
 /// Those of a kind that there are.
 pub(crate) fn those_there(alloc: Global, kinds: &str, items: &[Json]) -> Result<Text, AllocError>
     ensures { IfOk result (λ text. text ≡ those_there kinds.now (map (λ item. view item) items.now)) }
 {
-    let mut text = String::new(alloc);
-    push_those(&mut text, kinds, items)?;
-    Ok(Text::from(text))
-}
-
-/// That no item of a kind has a name.
-fn push_nothing_named(out: &mut String, kind: &str, name: &str) -> Result<(), AllocError>
-    ensures { OnOk result (string_bytes out.new ≡ string_bytes out.old ++ nothing_named kind.now name.now) }
-{
-    write!(out, "no {kind} has the name ")?;
-    push_quoted(out, name)
+    let names = names_of(alloc, first_listed(items))?;
+    those_listed(alloc, kinds, &names, items.len())
 }
 
 /// That no item of a kind has a name.
 pub(crate) fn nothing_named(alloc: Global, kind: &str, name: &str) -> Result<Text, AllocError>
     ensures { IfOk result (λ text. text ≡ nothing_named kind.now name.now) }
 {
-    let mut text = String::new(alloc);
-    push_nothing_named(&mut text, kind, name)?;
+    let mut text = format!(in alloc; "no {kind} has the name ")?;
+    push_quoted(&mut text, name)?;
     Ok(Text::from(text))
 }
 
@@ -120,10 +63,9 @@ pub(crate) fn no_metric_named(alloc: Global, name: &str, found: &[Json]) -> Resu
     ensures { IfOk result (λ text. text ≡ nothing_named (codes "metric") name.now
         ++ (codes "; " ++ those_there (codes "metrics") (map (λ item. view item) found.now))) }
 {
-    let mut text = String::new(alloc);
-    push_nothing_named(&mut text, "metric", name)?;
+    let mut text = nothing_named(alloc, "metric", name)?.into_string();
     text.push_str("; ")?;
-    push_those(&mut text, "metrics", found)?;
+    text.push_str(those_there(alloc, "metrics", found)?.as_str())?;
     Ok(Text::from(text))
 }
 

@@ -3,13 +3,13 @@
 //!
 //! The program reads one JSON document from standard input, carries a command out on it, and
 //! writes the answer to standard output. `ar_command` is all of that over any reader and writer:
-//! `serve` with workers, `serve_plain` without. `ar_command_line` says what the words of the command
+//! `serve_warning` with workers, `serve_plain_warning` without. `ar_command_line` says what the words of the command
 //! line ask for, and `ar_refusal` what is said of a refused input or command line. What is left to this crate
 //! are the standard streams and the exit status.
 #![tactic(auto)]
 
 ghost use Rattle.std.specs.Prelude.{◌≡◌, ◌≢◌, ◌≤◌, ◌⊎◌, ℕ, Ok, false};
-ghost use Rattle.ar_command.specs.Served.{IfBroken, Served};
+ghost use Rattle.ar_command.specs.Served.{IfBroken, ServedWarning};
 ghost use Rattle.ar_command.specs.Serving.{IsBroken, RunsWith};
 ghost use Rattle.ar_command_line.specs.Kept.{wants_memory};
 ghost use Rattle.ar_command_line.specs.declared.command_line.Command.TheVariants as commands;
@@ -18,10 +18,11 @@ ghost use Rattle.argo_judge.specs.Ending.{EndsWith};
 
 use ar_board::MOST_WORKERS;
 use ar_command::{
-    Closing, Command, Device, Format, Kept, Refusal, ServeError, Sink, Source, serve, serve_plain,
-    status, write_output,
+    Closing, Command, Device, Format, Kept, Refusal, ServeError, Sink, Source, serve_plain_warning,
+    serve_warning, status, write_output,
 };
 use ar_command_line::{UsageError, command_of, shown};
+use ar_diagnostic::Diagnostic;
 use ar_refusal::{format_of, refusal_text, usage_text, warnings_text};
 use ar_workers::{FreeGate, WorkError};
 use std::alloc::{AllocError, Global};
@@ -144,25 +145,17 @@ where
 {
     let mut reader = Kept::new(rt.alloc(), Device::new(rt.reader()));
     let mut writer = Device::new(io::writer(rt));
-    let outcome = served(rt, command, &mut reader, &mut writer);
-    if warns(command, &outcome) {
-        warn(rt, format_of(command), reader.bytes());
-    }
+    let mut warnings = Vec::new(rt.alloc());
+    let outcome = served(rt, command, &mut reader, &mut writer, &mut warnings);
+    warn(rt, format_of(command), &warnings);
     close(rt, command, &reader, &writer, &outcome)
 }
 
-/// Whether a command that was carried out warns of what its document has that is probably not meant.
-fn warns(command: Command<'_>, outcome: &Result<Closing, ServeError>) -> bool {
-    matches!(command, Command::Check(_)) && outcome.is_ok()
-}
-
-/// Reports what a document has that is probably not meant.
-fn warn<R: AllocGlobal + Eprint>(rt: &R, format: Format, input: &[u8]) {
-    let _ = match warnings_text(rt.alloc(), format, input) {
+/// Reports warnings.
+fn warn<R: AllocGlobal + Eprint>(rt: &R, format: Format, warnings: &[Diagnostic]) {
+    let _ = match warnings_text(rt.alloc(), format, warnings) {
         Ok(text) => eprint!(rt; "{text}"),
-        Err(_) => eprintln!(rt;
-            "argo_judge: warning: out of memory: the document is not looked at"
-        ),
+        Err(_) => eprintln!(rt; "argo_judge: warning: out of memory: warnings are not shown"),
     };
 }
 
@@ -172,6 +165,7 @@ fn served<R, S: Source, W: Sink>(
     command: Command<'_>,
     reader: &mut S,
     writer: &mut W,
+    warnings: &mut Vec<Diagnostic>,
 ) -> Result<Closing, ServeError>
 where
     R: AllocGlobal + Threads + Wait + Sync,
@@ -180,8 +174,8 @@ where
     requires reader { S.has_failed reader.old ≡ false }
     requires writer { W.has_failed writer.old ≡ false }
 
-    ensures served { Served command.entry S.taken S.remaining S.reads S.has_failed reader.old reader.new
-        W.contents W.calls W.has_failed writer.old writer.new result }
+    ensures served { ServedWarning command.entry S.taken S.remaining S.reads S.has_failed reader.old reader.new
+        W.contents W.calls W.has_failed writer.old writer.new warnings.old.items warnings.new.items result }
 
     // Only a command for workers ends by what became of them.
     ensures work { IfBroken result (λ error. RunsWith command.entry MOST_WORKERS
@@ -189,9 +183,9 @@ where
 {
     match command {
         Command::Run(..) | Command::Ordered(..) => {
-            serve(rt, rt.alloc(), command, reader, writer, &FreeGate)
+            serve_warning(rt, rt.alloc(), command, reader, writer, &FreeGate, warnings)
         }
-        _ => serve_plain(rt.alloc(), command, reader, writer),
+        _ => serve_plain_warning(rt.alloc(), command, reader, writer, warnings),
     }
 }
 

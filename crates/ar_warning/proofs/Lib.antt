@@ -1,0 +1,2 @@
+pub mod Warned
+pub mod Faults

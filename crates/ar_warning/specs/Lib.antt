@@ -1,0 +1,4 @@
+pub mod Private
+pub mod Each
+pub mod Templates
+pub mod Measurements

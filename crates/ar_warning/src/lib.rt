@@ -1,0 +1,13 @@
+//! Warnings: what a document that has an answer has that is probably not meant.
+//!
+//! [`template_warnings`] are those of its template (`specs/Templates`): metrics without a condition, and fields that
+//! are ignored and close to ones that are read. [`push_misfits`] adds those of its measurements
+//! (`specs/Measurements`): of each metric, the first that counts as an error for the kind of its value. Only out of
+//! memory can keep them from that.
+#![tactic(auto)]
+
+mod measurements;
+mod templates;
+
+pub use measurements::push_misfits;
+pub use templates::template_warnings;

@@ -1,3 +1,0 @@
--- Definitions of private contracts and of proofs alone, which follow the code: a reader need not believe them.
-pub mod Listed
-pub mod Sites
