@@ -4,8 +4,10 @@ import os
 from concurrent.futures import ThreadPoolExecutor
 
 from documents import Refused, judged
-from refusals import refusal_in
+from refusals import refusal_in, warnings_in
 from reports import checked
+
+from backtesting.histories import report_notes
 
 # A document may have 16 MiB.
 MOST_BYTES = 8 << 20
@@ -42,22 +44,46 @@ def joined(documents, batch):
     return {**first, "runs": runs, "measurements": entries}
 
 
+def warned_in(made, batch, errors):
+    """What the engine warns of, each with the places of the documents that it is of. A measurement's number is left
+    out: it is that in the document of the batch."""
+    for warning in warnings_in(errors):
+        if warning.entry is None:
+            yield warning.text, batch
+        else:
+            yield f"{warning.found}; expected {warning.expected}", [int(made["measurements"][warning.entry]["run"])]
+
+
 def reports_of(engine, documents, batch):
-    """The reported run of each document of a batch; where one is refused each is judged alone."""
+    """The reported run of each document of a batch, and the warnings; where one is refused each is judged alone."""
     made = joined(documents, batch)
     ended = judged(engine, ["run", "--plain", "--output", "json"], made, capture_output=True)
     if ended.returncode in (0, 1):
-        return dict(zip(batch, checked(made, ended.stdout, "document", "report")))
+        reports = dict(zip(batch, checked(made, ended.stdout, "document", "report")))
+        return reports, list(warned_in(made, batch, ended.stderr))
     if ended.returncode != 2:
         raise Refused(f"the engine ended with status {ended.returncode}: {ended.stderr.strip()}")
     if len(batch) == 1:
-        return {batch[0]: refusal_in(ended.stderr)}
-    return {place: report for one in batch for place, report in reports_of(engine, documents, [one]).items()}
+        return {batch[0]: refusal_in(ended.stderr)}, []
+    return together(reports_of(engine, documents, [one]) for one in batch)
 
 
-def judged_runs(engine, documents):
-    """The reported run of each document, or why it is refused."""
+def together(found):
+    """Reports and warnings of several batches."""
+    reports, warned = {}, []
+    for own, lines in found:
+        reports.update(own)
+        warned += lines
+    return reports, warned
+
+
+def judged_runs(engine, documents, names):
+    """The reported run of each document, or why it is refused. Warnings are noted, with the names of the runs."""
     with ThreadPoolExecutor(os.cpu_count()) as side_by_side:
-        found = list(side_by_side.map(lambda batch: reports_of(engine, documents, batch), batches_of(documents)))
-    reports = {place: report for reports in found for place, report in reports.items()}
+        found = side_by_side.map(lambda batch: reports_of(engine, documents, batch), batches_of(documents))
+        reports, warned = together(found)
+    noted = {}
+    for line, places in warned:
+        noted.setdefault(line, {}).update(dict.fromkeys(names[place] for place in places))
+    report_notes({line: list(runs) for line, runs in noted.items()})
     return [reports[place] for place in range(len(documents))]

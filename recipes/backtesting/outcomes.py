@@ -59,7 +59,8 @@ def outcomes_of(judgements, engine):
     """The outcome of each run, and the runs of which the engine refuses a document."""
     found, left_out = [], []
     documents = [made for one in judgements for made in (one.own, one.other, *one.swept)]
-    reports = iter(judged_runs(engine, documents))
+    names = [one.name for one in judgements for _ in (one.own, one.other, *one.swept)]
+    reports = iter(judged_runs(engine, documents, names))
     for one in judgements:
         own, other, *swept = [next(reports) for _ in range(2 + len(one.swept))]
         refusals = [report.text for report in (own, other, *swept) if isinstance(report, Refusal)]

@@ -1,5 +1,5 @@
 """What the recipe `test` and kubectl's plugin do alike."""
-from documents import ENGINE, ENGINE_HELP, Refused, note, shown, write_text
+from documents import ENGINE, ENGINE_HELP, Refused, kept_notes, note, shown, write_text
 from suites.explaining import result_of
 from suites.files import suites_in
 from suites.judging import Subject, outcomes_of
@@ -22,8 +22,12 @@ def chosen(suites, text):
 
 
 def results_of(engine, suite):
+    """The results of a suite. What is noted of it is noted once, though a case may be judged once more by itself."""
     subject = Subject(suite.template, suite.shapes)
-    outcomes = outcomes_of(engine, subject, suite.cases)
+    with kept_notes() as lines:
+        outcomes = list(outcomes_of(engine, subject, suite.cases))
+    for line in dict.fromkeys(lines):
+        note(line)
     return [result_of(engine, subject, suite, case, outcome) for case, outcome in outcomes]
 
 

@@ -31,8 +31,8 @@ class Result(NamedTuple):
 def explained(engine, document, place):
     """What the engine explains of an event, and the metrics of its run; without an event, of a run that has none."""
     words = ["--event", str(place)] if place is not None else ["--run", NAME]
-    text, _ = answered(engine, ["explain", "--output", "json", *words], document)
-    return parsed(text, "explain")["runs"][0]
+    ended, _ = answered(engine, ["explain", "--output", "json", *words], document)
+    return parsed(ended.stdout, "explain")["runs"][0]
 
 
 def lines_of_metrics(metrics):

@@ -3,8 +3,8 @@ import json
 from typing import NamedTuple, Optional
 
 from documents import judged
-from ending import REFUSED, Status
-from refusals import Refusal, hand_on, refusal_in
+from ending import REFUSED, Status, note
+from refusals import Refusal, hand_on, refusal_in, warnings_in
 from reports import checked
 from suites.cases import MOST_BYTES, MOST_MEASUREMENTS
 
@@ -61,21 +61,37 @@ def ended_otherwise(ended):
 
 
 def answered(engine, words, document):
-    """What the engine writes of a document, or its refusal, one of which is None."""
+    """What the engine writes of a document, to both outputs, or its refusal, one of which is None."""
     ended = judged(engine, words, document, capture_output=True)
     if ended.returncode == REFUSED:
         return None, refusal_in(ended.stderr)
     if ended.returncode not in (0, 1):
         ended_otherwise(ended)
-    return ended.stdout, None
+    return ended, None
+
+
+def expects_error(answer):
+    return answer.expected.verdict[:1] == ("Error",) or answer.expected.fault is not None
+
+
+def note_warnings(cases, warnings):
+    """Notes what the engine warns of in a document of these cases: of the template under the suite's name, and of a
+    measurement where its answer is, unless that expects an error."""
+    answers = [answer for case in cases for answer in case.in_order()] if warnings else []
+    for warning in warnings:
+        if warning.entry is None:
+            note(f"{cases[0].node.found.file}: {warning.text}")
+        elif not expects_error(answers[warning.entry]):
+            note(f"{answers[warning.entry].node.where}: {warning.found}; expected {warning.expected}")
 
 
 def outcomes_of_part(engine, subject, cases):
     """The outcome of each case of a part; where their document is refused each has one of its own."""
     document = document_of(subject, cases)
-    text, refusal = answered(engine, ["run", "--plain", "--output", "json"], document)
+    ended, refusal = answered(engine, ["run", "--plain", "--output", "json"], document)
     if refusal is None:
-        return [Outcome(run, None) for run in checked(document, text, "document", "report")]
+        note_warnings(cases, warnings_in(ended.stderr))
+        return [Outcome(run, None) for run in checked(document, ended.stdout, "document", "report")]
     if len(cases) == 1:
         return [Outcome(None, refusal)]
     return [outcome for case in cases for outcome in outcomes_of_part(engine, subject, [case])]

@@ -3,7 +3,7 @@ import os
 from concurrent.futures import ThreadPoolExecutor
 from dataclasses import dataclass, field
 
-from documents import Refused, shown
+from documents import Refused, kept_notes, shown
 from suites.comparing import differences
 from suites.judging import Subject, outcomes_of
 from suites.moves import moves_of
@@ -48,10 +48,10 @@ def moves_of_suite(suite, cases):
 
 
 def trials_of(engine, suites):
-    """A trial for each suite; moves are judged side by side."""
+    """A trial for each suite; moves are judged side by side. What is noted of their templates was noted before."""
     trials = [Trial(suite, judged_cases(suite)) for suite in suites]
     found = [(trial, move) for trial in trials for move in moves_of_suite(trial.suite, trial.cases)]
-    with ThreadPoolExecutor(os.cpu_count()) as side_by_side:
+    with kept_notes(), ThreadPoolExecutor(os.cpu_count()) as side_by_side:
         answers = side_by_side.map(lambda one: one[1].after and tried(engine, *one), found)
         for (trial, move), answer in zip(found, answers):
             add(trial, move, answer)

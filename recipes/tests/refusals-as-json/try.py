@@ -29,6 +29,10 @@ def refusal(version=1, **others):
     return json.dumps({"refusal": {**DOUBLE, **others}, "version": version}, separators=(",", ":")) + "\n"
 
 
+def warning(version=1, **others):
+    return json.dumps({"version": version, "warnings": [{**DOUBLE, **others}]}, separators=(",", ":")) + "\n"
+
+
 # A status and a text, and the recipes that are started by it.
 ENDINGS = {
     "a refusal": (2, refusal(), RECIPES),
@@ -51,6 +55,11 @@ ENDINGS = {
     "a list": (2, "[]\n", ["go-on"]),
     "a refusal and more": (2, refusal() + "more\n", ["go-on"]),
     "another status": (3, "argo_judge: out of memory\n", RECIPES),
+    "warnings that aren't shown": (0, "argo_judge: warning: out of memory: warnings are not shown\n", ["go-on"]),
+    "warnings of another version": (0, warning(2), ["go-on"]),
+    "a warning whose text is none": (0, warning(text=None), ["go-on"]),
+    "no warning": (0, '{"version":1,"warnings":[]}\n', ["go-on"]),
+    "a warning with a line feed": (0, warning(text="a\nargo_judge: b"), ["go-on"]),
 }
 
 
