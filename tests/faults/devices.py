@@ -7,7 +7,7 @@ import threading
 import time
 from functools import partial
 
-from documents import AS_JSON, BUNDLES, CONDITIONS, DECIMAL, RATES, STOPPED, Answer, is_answer
+from documents import AS_JSON, BUNDLES, CONDITIONS, DECIMAL, RATES, STOPPED, WARNED, Answer, is_answer
 from errors import TOO_LARGE, has_failed_to_read, has_failed_to_write
 from program import HERE, Ended
 
@@ -148,9 +148,10 @@ def leave_output(program, pipe, counts):
 
 
 def close_streams(program, counts):
-    """Standard streams that are closed; and a line on standard error that can't be written changes no status."""
-    def through(redirection):
-        return {'input': STOPPED.text.encode(), 'through': ('sh', '-c', f'exec "$0" "$@" {redirection}')}
+    """Standard streams that are closed; and what can't be written to standard error, a line or warnings, changes nothing
+    else."""
+    def through(redirection, document=STOPPED):
+        return {'input': document.text.encode(), 'through': ('sh', '-c', f'exec "$0" "$@" {redirection}')}
     for words in ALL:
         ended = program.start(words, **through('>&-'))
         counts.expect(has_failed_to_write(ended, '', errno.EBADF), f'{words} into a closed output: {ended}')
@@ -159,6 +160,9 @@ def close_streams(program, counts):
         for errors in ('2>&-', '2>/dev/full'):
             ended = program.start(words, **through(f'>/dev/full {errors}'))
             counts.expect(ended == Ended(4, '', ''), f'{words} into a full output, {errors}: {ended}')
+            ended = program.start(words, **through(errors, WARNED))
+            good = is_answer(ended, WARNED.answer(words)._replace(lines=0), words)
+            counts.expect(good, f'{words}, warnings, {errors}: {ended}')
 
 
 # Inputs that fail

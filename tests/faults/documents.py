@@ -15,6 +15,11 @@ class Answer(NamedTuple):
     output: str
     lines: int = 0
 
+    @property
+    def warns(self):
+        """Whether the lines are warnings; else they are a refusal."""
+        return self.status in (0, 1) and self.lines > 0
+
 
 class Document(NamedTuple):
     """A document for `run`, `check` and `list`, with the answer of each."""
@@ -142,7 +147,33 @@ run r0 metric m success
 8 EqNumber
 9 Return
 '''))
-BUNDLES = {'stopped': STOPPED, 'rates': RATES, 'filters': FILTERS}
+
+# Warnings: a metric without a condition, and of each metric a value of another kind than its shape.
+WARNED = Document(
+    text=document_of([{'name': 'a', 'interval': '1m', 'successCondition': 'result > 0'}, {'name': 'b', 'interval': '1m'}],
+                     {'a': 'whole', 'b': 'whole'}, ['r0', 'r1'], [measured('r0', 'a', 1.5), measured('r1', 'b', 'high')]),
+    run=Answer(0, f'''\
+run r0 Running
+metric a Running successful=0 failed=0 inconclusive=0 error=1 consecutiveError=1
+metric b Pending {NONE}
+event 0 a Error shape FloatNumber applied
+run r1 Running
+metric a Pending {NONE}
+metric b Running successful=0 failed=0 inconclusive=0 error=1 consecutiveError=1
+event 1 b Error shape WrongKind applied
+''', lines=3),
+    check=Answer(0, '''\
+run r0 metric a success operations=4 depth=2 budget=4
+run r1 metric a success operations=4 depth=2 budget=4
+''', lines=3),
+    list=Answer(0, ''.join(f'''\
+run {run} metric a success
+0 LoadResult
+1 PushWhole 0
+2 GtW
+3 Return
+''' for run in ('r0', 'r1'))))
+BUNDLES = {'stopped': STOPPED, 'rates': RATES, 'filters': FILTERS, 'warned': WARNED}
 
 # A template without shapes: the command is refused.
 SHAPELESS = json.dumps({'manifest': manifest_of(FILTERED)})
@@ -189,8 +220,8 @@ CONDITIONS = {
 # Answers as JSON
 
 
-def as_json(answer):
-    return Answer(0, json.dumps({**answer, 'version': 1}, separators=(',', ':'), sort_keys=True) + '\n')
+def as_json(answer, lines=0):
+    return Answer(0, json.dumps({**answer, 'version': 1}, separators=(',', ':'), sort_keys=True) + '\n', lines)
 
 
 def successful(run, number):
@@ -203,10 +234,31 @@ def successful(run, number):
     return {'name': run, 'phase': 'Successful', 'metrics': [metric], 'events': [event]}
 
 
+def open_metric(name, errors):
+    """A metric of WARNED that was measured as often as it met an error."""
+    counts = dict.fromkeys(('successful', 'failed', 'inconclusive'), 0) | {'error': errors, 'consecutiveError': errors}
+    limits = {'count': None, 'failureLimit': 0, 'inconclusiveLimit': 0, 'consecutiveErrorLimit': 4}
+    return {'name': name, 'phase': 'Running' if errors else 'Pending', 'dryRun': False, 'counts': counts, 'limits': limits}
+
+
+def warned(run, number, metric, fault):
+    """A run of WARNED."""
+    event = {'number': number, 'stop': False, 'metric': metric, 'verdict': 'Error', 'cause': 'shape', 'fault': fault,
+             'effect': 'applied', 'phase': None}
+    return {'name': run, 'phase': 'Running', 'metrics': [open_metric(name, int(name == metric)) for name in 'ab'],
+            'events': [event]}
+
+
 BOUNDS = {'metric': 'm', 'condition': 'success', 'operations': 6, 'depth': 2, 'budget': 6}
+OF_WARNED = as_json({'runs': [warned('r0', 0, 'a', 'FloatNumber'), warned('r1', 1, 'b', 'WrongKind')]}, lines=1)
+BOUNDS_OF_WARNED = {'metric': 'a', 'condition': 'success', 'operations': 4, 'depth': 2, 'budget': 4}
 OF_RATES = as_json({'runs': [successful('r0', 0), successful('r1', 1)]})
-# By their command lines: the document and its answer.
+# By their command lines: the document and its answer. Those of `--output=json` have warnings, which are one line.
 AS_JSON = {
+    'run --plain --output=json': (WARNED.text, OF_WARNED),
+    'run --workers 2 --output=json': (WARNED.text, OF_WARNED),
+    'check --output=json': (WARNED.text, as_json({'conditions': [{'run': run, **BOUNDS_OF_WARNED} for run in ('r0', 'r1')]},
+                                                 lines=1)),
     'run --plain --output json': (RATES.text, OF_RATES),
     'run --ordered --workers 2 --output json': (RATES.text, OF_RATES),
     'check --output json': (RATES.text, as_json({'conditions': [{'run': run, **BOUNDS} for run in ('r0', 'r1')]})),

@@ -2,8 +2,10 @@
 
 import os
 
+from documents import is_answer
+
 OUT_OF_MEMORY = 'argo_judge: out of memory\n'
-NO_WARNINGS = 'argo_judge: warning: out of memory: the document is not looked at\n'
+NO_WARNINGS = 'argo_judge: warning: out of memory: warnings are not shown\n'
 NO_THREAD = ("argo_judge: run: NoThread: a thread for a worker couldn't be started; "
              'try fewer --workers, or --plain, which starts none\n')
 READ = "argo_judge: input: Read: the input can't be read: "
@@ -15,9 +17,10 @@ def is_out_of_memory(ended):
     return ended[:3] == (3, '', OUT_OF_MEMORY)
 
 
-def is_without_warnings(ended, answer):
-    """The answer is whole, and the line says that nothing was looked for that deserves a warning."""
-    return ended[:3] == (answer.status, answer.output, NO_WARNINGS)
+def is_without_warnings(ended, answer, words):
+    """The answer is whole, and in the place of its warnings a line says that they aren't shown."""
+    is_line = answer.warns and ended.errors == NO_WARNINGS
+    return is_line and is_answer(ended, answer._replace(lines=1), words)
 
 
 def is_without_thread(ended):

@@ -51,14 +51,18 @@ def cases_of_json():
 
 
 def cases_of_explain(program):
-    """As lines, which the examples have, and as JSON, which has to be what is written with ample memory."""
+    """As lines, which the examples have, and as JSON, which has to be what is written with ample memory. Warnings as JSON
+    are one line."""
     made = []
     for path in EXPLAINED:
         text = path.with_suffix('.json').read_text(encoding='utf-8')
-        lines = Answer(0, path.with_suffix('.stdout').read_text(encoding='utf-8'))
+        warnings = path.with_suffix('.warnings')
+        warned = warnings.read_text(encoding='utf-8').count('\n') if warnings.is_file() else 0
+        lines = Answer(0, path.with_suffix('.stdout').read_text(encoding='utf-8'), warned)
         made.append(Case(f'explain, {path.name}', 'explain', text, lines, OF_TEMPLATE))
         words = 'explain --output json'
-        made.append(Case(f'{words}, {path.name}', words, text, Answer(0, program.start(words, input=text.encode()).output), OF_TEMPLATE))
+        as_object = Answer(0, program.start(words, input=text.encode()).output, min(warned, 1))
+        made.append(Case(f'{words}, {path.name}', words, text, as_object, OF_TEMPLATE))
     return made
 
 
@@ -77,23 +81,26 @@ def other_cases(program):
 
 
 def has_ended_as_it_may(ended, words, answer):
-    """Whether a run to which something was refused reported that, having written nothing; `check` may leave out its
-    warnings alone."""
-    words = words.removesuffix(' --output json')
-    if is_out_of_memory(ended) or (words in WITH_WORKERS and is_without_thread(ended)):
+    """Whether a run to which something was refused reported that, having written nothing, or left out its warnings alone."""
+    if is_out_of_memory(ended) or (words.startswith(WITH_WORKERS) and is_without_thread(ended)):
         return True
-    return words == 'check' and is_without_warnings(ended, answer)
+    return is_without_warnings(ended, answer, words)
 
 
 def refuse_growths(program, case, counts):
-    """Refuses the first growth of memory, then the second, and so on until a run meets no refusal."""
+    """Refuses the first growth of memory, then the second, and so on until a run meets no refusal. Where there are
+    warnings, some of the refusals leave out these alone."""
+    without_warnings = 0
     for growth in range(1, MOST_GROWTHS):
         ended = program.run(case.words, case.document, REFUSE_CALL=growth)
         if not ended.refused:
             good = is_answer(ended, case.answer, case.words)
             counts.expect(good, f'{case.name}, with all {growth - 1} growths of memory: {ended}')
             counts.expect(growth > case.least, f'{case.name}: only {growth - 1} growths of memory were refused')
+            good = (without_warnings > 0) == case.answer.warns
+            counts.expect(good, f'{case.name}: {without_warnings} refusals left out warnings alone')
             return
+        without_warnings += is_without_warnings(ended, case.answer, case.words)
         good = has_ended_as_it_may(ended, case.words, case.answer)
         counts.expect(good, f'{case.name}, growth {growth} refused: {ended}')
     counts.expect(False, f'{case.name}: no run was without refusal')

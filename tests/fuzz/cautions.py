@@ -1,4 +1,4 @@
-"""The rules of docs/use/formats.md on the warnings of `check`, read apart from the program."""
+"""The rules of docs/use/formats.md on warnings, read apart from the program."""
 
 import re
 
@@ -19,6 +19,11 @@ CLOSE_TO_METRIC = {
     'failureLimits': 'failureLimit', 'failLimit': 'failureLimit', 'inconclusivelimit': 'inconclusiveLimit',
     'consecutiveErrorLimits': 'consecutiveErrorLimit', 'consecutiveerrorlimit': 'consecutiveErrorLimit',
     'errorLimit': 'consecutiveErrorLimit', 'counts': 'count', 'intervals': 'interval',
+}
+# The misfits that are warned of, with what is expected in their place.
+OF_KIND = {
+    'FloatNumber': 'a whole JSON number, or a decimal as a text, as "0.95"',
+    'WrongKind': 'a value of the declared shape',
 }
 
 
@@ -44,10 +49,29 @@ def of_metric(number, metric):
         yield f'{at}: no condition, so each measured value is Successful'
 
 
-def cautions(document):
-    """What `check` writes to standard error about a document that it answers, a line each."""
-    spec = document['manifest']['spec']
-    found = list(close_names('spec', spec, CLOSE_TO_SPEC))
+def of_template(spec):
+    yield from close_names('spec', spec, CLOSE_TO_SPEC)
     for number, metric in enumerate(spec['metrics']):
-        found += of_metric(number, metric)
+        yield from of_metric(number, metric)
+
+
+def misfit_of(entry, metric):
+    """The misfit of an entry, where it measures the metric with this number."""
+    _, what, sample = entry
+    return sample[1] if what == metric and sample[0] == 'misfit' else None
+
+
+def of_measurements(bundle):
+    """Of each metric the first measurement that is an error for the kind of its value, whatever its run and its effect."""
+    for metric, (name, _) in enumerate(bundle['metrics']):
+        for number, entry in enumerate(bundle['entries']):
+            if (misfit := misfit_of(entry, metric)) in OF_KIND:
+                yield (f'measurements[{number}].value: {misfit}, the first such error of metric {quoted_name(name)}; '
+                       f'expected {OF_KIND[misfit]}; `explain --event {number}` shows where')
+                break
+
+
+def cautions(document, bundle):
+    """What `check`, `run` and `explain` write to standard error about a document that they answer, a line each."""
+    found = [*of_template(document['manifest']['spec']), *of_measurements(bundle)]
     return [f'argo_judge: warning: {text}' for text in found]

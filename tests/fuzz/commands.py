@@ -12,8 +12,12 @@ from cautions import cautions
 
 PLAIN = ('run', '--plain')
 ORDERED = ('run', '--ordered', '--workers', '2')
+# One worker posts in the order of the document.
+POSTED = ('run', '--workers', '1')
+EXPLAIN = ('explain',)
 AS_JSON = ('--output', 'json')
-COMMANDS = (PLAIN, ORDERED, PLAIN + AS_JSON, ORDERED + AS_JSON, ('check',), ('check',) + AS_JSON, ('list',))
+COMMANDS = (PLAIN, ORDERED, PLAIN + AS_JSON, ORDERED + AS_JSON, POSTED, POSTED + AS_JSON, ('check',), ('check',) + AS_JSON,
+            ('list',), EXPLAIN, EXPLAIN + AS_JSON)
 EVALS = (('eval',), ('eval',) + AS_JSON)
 MEMBERS = {'UnknownRun': r'\[{}\]\.run', 'UnknownMetric': r'\[{}\]\.metric', 'BadEntry': r'(?:\[{}\])?'}
 NAME = r'"(?:[^"\\]|\\.)*"(?:\.\.)?'
@@ -72,19 +76,25 @@ def answer_line(words, line):
     return line_of({'answer': None if fault else line == 'true', 'fault': fault, 'version': 1})
 
 
+def answer_of_bundle(words, bundle):
+    """The status of a command and its output, None where any may come: what `explain` writes isn't read apart here."""
+    is_json = words[-2:] == AS_JSON
+    if words[0] == 'run':
+        status = 1 if any(phase in BAD for phase in run_phases(bundle)) else 0
+        return status, line_of(report_object(bundle)) if is_json else text_of(report(bundle))
+    if words[0] == 'check':
+        return 0, line_of(bounds_object(bundle)) if is_json else text_of(bounds_lines(bundle))
+    return 0, None if words[0] == 'explain' else text_of(list_lines(bundle))
+
+
 def expected_of_bundle(words, document):
-    """The status of a command, its output, and the regular expression of its line on standard error."""
+    """The status of a command, its output, and the regular expression of its lines on standard error."""
     try:
         bundle = read_bundle(document)
     except Refused as refused:
         return refusal(*where_of(refused))
-    is_json = words[-2:] == AS_JSON
-    if words[0] == 'run':
-        status = 1 if any(phase in BAD for phase in run_phases(bundle)) else 0
-        return status, line_of(report_object(bundle)) if is_json else text_of(report(bundle)), ''
-    if words[0] == 'check':
-        return 0, line_of(bounds_object(bundle)) if is_json else text_of(bounds_lines(bundle)), re.escape(text_of(cautions(read_json(document))).decode())
-    return 0, text_of(list_lines(bundle)), ''
+    warned = [] if words[0] == 'list' else cautions(read_json(document), bundle)
+    return *answer_of_bundle(words, bundle), re.escape(text_of(warned).decode())
 
 
 def expected_of_eval(words, document):
@@ -117,4 +127,5 @@ def said_lines(words, said):
 
 
 def is_right(words, expected, got):
-    return got[:2] == expected[:2] and re.fullmatch(expected[2], said_lines(words, got[2])) is not None
+    is_answer = got[0] == expected[0] and expected[1] in (None, got[1])
+    return is_answer and re.fullmatch(expected[2], said_lines(words, got[2])) is not None

@@ -13,7 +13,7 @@ NAMES = ('m', 'a', 'rate', 'error-rate', '', 'é', 'x y', 'stop', 'nn')
 FIELDS = (
     'manifest shapes runs measurements apiVersion kind metadata name spec args value metrics successCondition '
     'failureCondition interval count failureLimit inconclusiveLimit consecutiveErrorLimit consecutiveSuccessLimit '
-    'dryRun metricName run metric error stop list max record optional condition shape'
+    'dryRun metricName run metric error stop list max record optional condition shape succesCondition failurelimit dryrun'
 ).split()
 # A text that means itself without its quotes in the document, and a name that another member has already.
 RAW, AGAIN = '@raw@', '@again@'
