@@ -17,6 +17,13 @@ use Rattle.ar_bundle.specs.declared.history.Entry.{Entry}
 
 -- ---- what is at an index of a changed list
 
+-- what holds of each, and of one more
+pub pushed_at : {A : Type 0} (P : ℕ → A → Type 0) (xs : List A) (last : A) (at : ℕ) (x : A) → ((at : ℕ) (x : A) → slice_get xs at ≡ Some x → P at x) → P (length xs) last → slice_get (xs ++ last ∷ []) at ≡ Some x → P at x
+pushed_at P [] last zero x each new there = let same : last ≡ x = cc in subst (P 0) same new
+pushed_at P [] last (suc at) x each new there = absurd cc
+pushed_at P (first ∷ xs) last zero x each new there = each zero x there
+pushed_at P (first ∷ xs) last (suc at) x each new there = pushed_at (λ at x. P (suc at) x) xs last at x (λ at x there. each (suc at) x there) new there
+
 pub at_set_same : {A : Type 0} (xs : List A) (at : ℕ) (x : A) → at < length xs → slice_get (set xs at x) at ≡ Some x
 at_set_same [] at x inside = absurd (omega arith)
 at_set_same (first ∷ xs) zero x inside = refl

@@ -6,3 +6,4 @@ pub mod HistoryLemmas
 pub mod Room
 pub mod Sizes
 pub mod SoFar
+pub mod Finishing

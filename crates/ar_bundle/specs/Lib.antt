@@ -3,3 +3,4 @@ pub mod Growing
 pub mod Bundle
 pub mod Sound
 pub mod Lawful
+pub mod Finished

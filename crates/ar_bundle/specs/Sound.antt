@@ -1,16 +1,15 @@
 -- What holds of every bundle, which of its numbers are judged whatever memory is left, and how many entries each run
 -- has.
 use Rattle.ar_judge.specs.Condition.{Condition}
-use Rattle.std.specs.Prelude.{◌≡◌, ◌≢◌, ◌<◌, ◌≤◌, ◌==◌, ℕ, suc, true, List, [], ◌∷◌, length, slice_get, Option, Some, IfSome, count_by}
+use Rattle.std.specs.Prelude.{◌≡◌, ◌<◌, ◌≤◌, ◌==◌, ℕ, suc, true, List, [], ◌∷◌, length, slice_get, Option, Some, IfSome, count_by}
 use Rattle.std.specs.List.{AllByRecursion}
 use Rattle.ar_value.specs.Fits.{fits}
 use Rattle.ar_value.specs.Shape.{Shape}
 use Rattle.ar_value.specs.View.{shape_view}
 use Rattle.ar_value.specs.Limits.{most_metrics, most_runs}
-use Rattle.ar_json.specs.declared.value_reading.ShapeFault.TheVariants as shape_fault
 use Rattle.ar_limits.specs.Replay.{most_events}
 use Rattle.ar_judge.specs.Judging.{TakesNoMemory, SampleFits}
-use Rattle.ar_judge.specs.Verdict.{Judge, Sample, measured, misfit, provider, sample_view}
+use Rattle.ar_judge.specs.Verdict.{Judge, Sample, sample_view}
 use Rattle.ar_limits.specs.Metric.{HasPositiveCounts}
 use Rattle.ar_bundle.specs.declared.bundle.EventPart.{EventPart}
 use Rattle.ar_bundle.specs.declared.bundle.MetricPart.{MetricPart}

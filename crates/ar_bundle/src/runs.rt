@@ -5,7 +5,7 @@ ghost use Rattle.ar_bundle.specs.Sound.{IsBundle};
 ghost use Rattle.ar_bundle.specs.Bundle.{finding_at};
 ghost use Rattle.ar_bundle.specs.Growing.{AreGrown};
 
-use crate::{Bundle, Entry, Finding, History};
+use crate::{Bundle, Entry, Finding, Finished, Histories, History};
 use ar_limits::RunState;
 use std::alloc::{AllocError, Global};
 
@@ -56,5 +56,16 @@ impl Runs {
             effect,
         })?;
         Ok(())
+    }
+
+    /// The runs as they are now, as finished ones.
+    pub fn finish(self) -> Finished
+        ensures histories { result.histories ≡ self.histories.items }
+        ensures states { result.states.items ≡ self.states.items }
+    {
+        Finished {
+            histories: Histories::from(self.histories),
+            states: self.states,
+        }
     }
 }

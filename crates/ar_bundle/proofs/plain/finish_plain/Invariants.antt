@@ -1,6 +1,6 @@
 use Rattle.std.proofs.Common.{◌≤◌}
 use Rattle.ar_bundle.specs.Growing.{AreGrown}
-use Rattle.ar_bundle.proofs.plain.run_plain.Given as goal
+use Rattle.ar_bundle.proofs.plain.finish_plain.Given as goal
 
 -- the numbers so far
 abbrev pub invariant-loop-number : goal.invariant-loop-number
