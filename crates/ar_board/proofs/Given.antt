@@ -4,14 +4,15 @@ use Rattle.std.specs.Prelude.{option_map, slice_get}
 use Rattle.std.specs.List.{AllByRecursion, sum_by}
 use Rattle.std.proofs.lemmas.Bool.Decides.{nat_tests}
 use Rattle.std.proofs.lemmas.List.Sums.{sum_by-cons}
-use Rattle.std.proofs.lemmas.Option.{get_or_from_slice_get, slice_get-map, slice_get_within}
+use Rattle.std.proofs.lemmas.Option.{slice_get-map, slice_get_within}
 use Rattle.ar_bundle.specs.Bundle.{Bundle}
 use Rattle.ar_bundle.specs.Lawful.{AreHistories, AreHistoriesSoFar, AtMostOnce, IsFound, IsHistory, numbers_of}
 use Rattle.ar_bundle.specs.declared.bundle.RunPart.{RunPart}
 use Rattle.ar_bundle.specs.declared.history.Entry.{Entry}
+use Rattle.ar_bundle.specs.declared.runs.Runs.{Runs}
 use Rattle.ar_bundle.proofs.Bundles.{entry_at}
 use Rattle.ar_bundle.proofs.Room.{number_inside}
-use Rattle.ar_board.specs.Cell.{ArePut, IsKept, KeptRun, histories_of, history_at}
+use Rattle.ar_board.specs.Cell.{ArePut, IsKept, KeptRun, histories_of}
 use Rattle.ar_board.proofs.Cells.{histories_each}
 use Rattle.ar_board.specs.Lost.{stored_from, stored_under}
 use Rattle.ar_board.specs.Private.Closing.{AreInside, AreOfCell, IsCellClosed}
@@ -24,7 +25,7 @@ all_each P (x ∷ xs) each = (each 0 x refl, all_each P xs (λ at x there. each 
 
 -- ---- one lock after another
 
-own_put : (bundle : Bundle) (workers lock amount : ℕ) (before after : List (List Entry)) → IsCellClosed bundle workers lock amount before after → AreOfCell bundle workers lock amount after
+own_put : (bundle : Bundle) (workers lock amount : ℕ) (before after : Runs) → IsCellClosed bundle workers lock amount before after → AreOfCell bundle workers lock amount after.histories.items
 own_put bundle workers lock amount before after given =
     let many = given.put.as_many in
     record { cell = given.cell; is = given.is; whole = given.whole; each = λ run inside under. given.put.put run (omega arith) under }
@@ -39,18 +40,18 @@ pub record AreOfCells (bundle : Bundle) (workers : ℕ) (whole : PerLock) (histo
   pub as_many : length histories ≡ length bundle.runs
   pub each : (lock : ℕ) → lock < 4 → AreOfCell bundle workers lock (at_lock whole lock) histories
 
-pub of_cells : (bundle : Bundle) (workers a b c d : ℕ) (none first second third fourth : List (List Entry)) → length none ≡ length bundle.runs → IsCellClosed bundle workers 0 a none first → IsCellClosed bundle workers 1 b first second → IsCellClosed bundle workers 2 c second third → IsCellClosed bundle workers 3 d third fourth
-    → AreOfCells bundle workers (per_lock a b c d) fourth
+pub of_cells : (bundle : Bundle) (workers a b c d : ℕ) (none first second third fourth : Runs) → length none.histories.items ≡ length bundle.runs → IsCellClosed bundle workers 0 a none first → IsCellClosed bundle workers 1 b first second → IsCellClosed bundle workers 2 c second third → IsCellClosed bundle workers 3 d third fourth
+    → AreOfCells bundle workers (per_lock a b c d) fourth.histories.items
 of_cells bundle workers a b c d none first second third fourth many one two three four = record { as_many = four.put.as_many ∙ (three.put.as_many ∙ (two.put.as_many ∙ (one.put.as_many ∙ many))); each = each } where
-  each : (lock : ℕ) → lock < 4 → AreOfCell bundle workers lock (at_lock (per_lock a b c d) lock) fourth
+  each : (lock : ℕ) → lock < 4 → AreOfCell bundle workers lock (at_lock (per_lock a b c d) lock) fourth.histories.items
   each zero below =
-      still_put bundle workers 0 3 a (histories_of four.cell) third fourth (λ same. absurd (omega arith)) four.put
-      (still_put bundle workers 0 2 a (histories_of three.cell) second third (λ same. absurd (omega arith)) three.put
-      (still_put bundle workers 0 1 a (histories_of two.cell) first second (λ same. absurd (omega arith)) two.put (own_put bundle workers 0 a none first one)))
+      still_put bundle workers 0 3 a (histories_of four.cell) third.histories.items fourth.histories.items (λ same. absurd (omega arith)) four.put
+      (still_put bundle workers 0 2 a (histories_of three.cell) second.histories.items third.histories.items (λ same. absurd (omega arith)) three.put
+      (still_put bundle workers 0 1 a (histories_of two.cell) first.histories.items second.histories.items (λ same. absurd (omega arith)) two.put (own_put bundle workers 0 a none first one)))
   each (suc zero) below =
-      still_put bundle workers 1 3 b (histories_of four.cell) third fourth (λ same. absurd (omega arith)) four.put
-      (still_put bundle workers 1 2 b (histories_of three.cell) second third (λ same. absurd (omega arith)) three.put (own_put bundle workers 1 b first second two))
-  each (suc (suc zero)) below = still_put bundle workers 2 3 c (histories_of four.cell) third fourth (λ same. absurd (omega arith)) four.put (own_put bundle workers 2 c second third three)
+      still_put bundle workers 1 3 b (histories_of four.cell) third.histories.items fourth.histories.items (λ same. absurd (omega arith)) four.put
+      (still_put bundle workers 1 2 b (histories_of three.cell) second.histories.items third.histories.items (λ same. absurd (omega arith)) three.put (own_put bundle workers 1 b first second two))
+  each (suc (suc zero)) below = still_put bundle workers 2 3 c (histories_of four.cell) third.histories.items fourth.histories.items (λ same. absurd (omega arith)) four.put (own_put bundle workers 2 c second third three)
   each (suc (suc (suc zero))) below = own_put bundle workers 3 d third fourth four
   each (suc (suc (suc (suc lock)))) below = absurd (omega arith)
 
@@ -68,8 +69,8 @@ of_run bundle workers whole histories run part history are part_there there =
     let many = are.as_many in
     let as_many = of_cell.is.as_many in
     let kept = entry_at of_cell.cell.runs run (omega arith) in
-    let in_cell : history_at of_cell.cell run ≡ kept.0.history = get_or_from_slice_get (histories_of of_cell.cell) run kept.0.history [] (slice_get-map (λ (kept : KeptRun). kept.history) of_cell.cell.runs run ∙ ap (option_map (λ (kept : KeptRun). kept.history)) kept.1) in
-    let same : kept.0.history ≡ history = (let both = sym (of_cell.each run inside refl) ∙ there in let equal : history_at of_cell.cell run ≡ history = cc in sym in_cell ∙ equal) in
+    let in_cell : slice_get (histories_of of_cell.cell) run ≡ Some kept.0.history = slice_get-map (λ (kept : KeptRun). kept.history) of_cell.cell.runs run ∙ ap (option_map (λ (kept : KeptRun). kept.history)) kept.1 in
+    let same : kept.0.history ≡ history = (let both = sym in_cell ∙ (sym (of_cell.each run inside refl) ∙ there) in cc) in
     let is : IsKept bundle workers (lock_of run) run part.limits kept.0 = of_cell.is.each run part kept.0 part_there kept.1 in
     record {
       is = subst (IsHistory bundle run part.limits) same is.history;
@@ -137,15 +138,14 @@ of_lock bundle workers lock amount histories many are = stored_as lock 0 histori
   at : (run : ℕ) → 0 + run ≡ run
   at run = omega arith
 
-  in_cell : (run : ℕ) (own : KeptRun) → slice_get are.cell.runs run ≡ Some own → history_at are.cell run ≡ own.history
-  in_cell run own there = get_or_from_slice_get (histories_of are.cell) run own.history [] (slice_get-map (λ (kept : KeptRun). kept.history) are.cell.runs run ∙ ap (option_map (λ (kept : KeptRun). kept.history)) there)
+  in_cell : (run : ℕ) (own : KeptRun) → slice_get are.cell.runs run ≡ Some own → slice_get (histories_of are.cell) run ≡ Some own.history
+  in_cell run own there = slice_get-map (λ (kept : KeptRun). kept.history) are.cell.runs run ∙ ap (option_map (λ (kept : KeptRun). kept.history)) there
 
   same : (run : ℕ) (history : List Entry) (own : KeptRun) → slice_get histories run ≡ Some history → slice_get are.cell.runs run ≡ Some own → lock_of (0 + run) ≡ lock → history ≡ own.history
   same run history own there own_there under =
       let inside = slice_get_within histories run history there in
-      let both = sym there ∙ are.each run inside (ap lock_of (sym (at run)) ∙ under) in
-      let equal : history ≡ history_at are.cell run = cc in
-      equal ∙ in_cell run own own_there
+      let both = sym there ∙ (are.each run inside (ap lock_of (sym (at run)) ∙ under) ∙ in_cell run own own_there) in
+      cc
 
   empty : (run : ℕ) (own : KeptRun) → slice_get are.cell.runs run ≡ Some own → lock_of (0 + run) ≢ lock → own.history ≡ []
   empty run own own_there away =

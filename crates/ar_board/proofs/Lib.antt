@@ -25,5 +25,6 @@ pub mod Seats
 pub mod Marks
 pub mod Stored
 pub mod Given
+pub mod GivenStates
 pub mod Closed
 pub mod Unposted

@@ -16,7 +16,7 @@ use Rattle.ar_bundle.proofs.Bundles.{run_of_number}
 use Rattle.ar_bundle.proofs.HistoryLemmas.{all_push}
 use Rattle.ar_bundle.proofs.Room.{number_inside}
 use Rattle.ar_board.proofs.Cells.{cases_at}
-use Rattle.ar_board.proofs.Opened.{pushed_at}
+use Rattle.ar_bundle.proofs.HistoryLemmas.{pushed_at}
 use Rattle.ar_board.proofs.Seats.{at_before, at_last}
 
 -- ---- lists

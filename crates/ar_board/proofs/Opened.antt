@@ -20,17 +20,12 @@ use Rattle.ar_bundle.specs.declared.bundle.RunPart.{RunPart}
 use Rattle.ar_board.specs.declared.cell.kept_run.KeptRun.{KeptRun as Declared}
 use Rattle.ar_bundle.specs.declared.history.Entry.{Entry}
 use Rattle.ar_bundle.proofs.Bundles.{entry_at, run_of_number}
+use Rattle.ar_bundle.proofs.HistoryLemmas.{pushed_at}
 use Rattle.ar_board.proofs.Cells.{history_is, kept_at, size_at}
 use Rattle.ar_bundle.proofs.Room.{number_inside}
 use Rattle.ar_bundle.proofs.Sizes.{as_many_counts}
 
 -- ---- one run more
-
-pub pushed_at : {A : Type 0} (P : ℕ → A → Type 0) (xs : List A) (last : A) (at : ℕ) (x : A) → ((at : ℕ) (x : A) → slice_get xs at ≡ Some x → P at x) → P (length xs) last → slice_get (xs ++ last ∷ []) at ≡ Some x → P at x
-pushed_at P [] last zero x each new there = let same : last ≡ x = cc in subst (P 0) same new
-pushed_at P [] last (suc at) x each new there = absurd cc
-pushed_at P (first ∷ xs) last zero x each new there = each zero x there
-pushed_at P (first ∷ xs) last (suc at) x each new there = pushed_at (λ at x. P (suc at) x) xs last at x (λ at x there. each (suc at) x there) new there
 
 pub opened_next : (bundle : Bundle) (parts : List RunPart) (workers lock upto room : ℕ) (sizes : List ℕ) (runs : List Declared) (part : RunPart) (kept : Declared) → parts ≡ bundle.runs → upto < length parts → part ≡ slice_index_or parts upto part → sizes ≡ sizes_of bundle → length runs ≡ upto → room ≡ (if lock_of (length runs) == lock then get_or sizes (length runs) 0 else 0)
     → IsOpened part.limits room workers kept → AreOpened bundle workers lock upto runs → AreOpened bundle workers lock (upto + 1) (runs ++ kept ∷ [])

@@ -77,6 +77,10 @@ histories_of cell = map (λ kept. kept.history) cell.runs
 abbrev pub history_at : Cell → (run : ℕ) → List Entry
 history_at cell run = get_or (histories_of cell) run []
 
+-- the states that they lead to
+abbrev pub states_of : Cell → List Standing
+states_of cell = map (λ kept. kept.state) cell.runs
+
 abbrev pub authors_of : Cell → List (List ℕ)
 authors_of cell = map (λ kept. kept.authors) cell.runs
 
@@ -153,8 +157,8 @@ CanBe worker authors (Stale posts) = posts ≡ posts_of worker authors
 
 -- ---- closing
 
--- of some histories, those of the runs under a lock move to their positions among others, which stay
-pub record ArePut (lock : ℕ) (own before after : List (List Entry)) : Type 0 where
+-- of what each run has, that of the runs under a lock moves to their positions among others, which stay
+pub record ArePut {A : Type 0} (lock : ℕ) (own before after : List A) : Type 0 where
   pub as_many : length after ≡ length before
-  pub put : (run : ℕ) → run < length before → lock_of run ≡ lock → slice_get after run ≡ Some (get_or own run [])
+  pub put : (run : ℕ) → run < length before → lock_of run ≡ lock → slice_get after run ≡ slice_get own run
   pub others : (run : ℕ) → lock_of run ≢ lock → slice_get after run ≡ slice_get before run

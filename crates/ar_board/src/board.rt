@@ -2,6 +2,7 @@
 
 ghost use Rattle.std.specs.Prelude.{◌≡◌, ◌<◌, ◌≤◌, IfErr, IfOk, OnErr, OnOk, Some, length};
 ghost use Rattle.ar_bundle.specs.Bundle.{finding_at, run_at};
+ghost use Rattle.ar_bundle.specs.Finished.{AreStatesOf};
 ghost use Rattle.ar_board.specs.Lost.{IsLost};
 ghost use Rattle.ar_board.specs.Board.{AreSeated, IsAnswered, IsClosed, IsReceived, IsSeen, IsUnseen, receipts_of};
 ghost use Rattle.ar_board.specs.Locks.{AreOf, lock_of};
@@ -14,7 +15,7 @@ use crate::lost::Lost;
 use crate::seat::{Seat, gather, seats_of};
 use crate::shares::Shares;
 use crate::{Double, LookFault, Posted, Receipt, RunCell, Snapshot, lock_of_run, under};
-use ar_bundle::{Bundle, BundleName, Finding, Histories};
+use ar_bundle::{Bundle, BundleName, Finding, Finished, Histories};
 use ar_value::limits::MOST_WORKERS;
 use std::alloc::{AllocError, Global};
 use std::sync::{Mutex, Wait};
@@ -166,34 +167,51 @@ impl<'b, M: BundleName, L: LockNames> Board<'b, M, L> {
         }
     }
 
-    /// The histories of the runs, by all seats of the board. Out of memory is never returned. It takes
-    /// time in proportion to the bundle's entries and the receipts.
+    /// The runs, by all seats of the board: their histories, and the states in the cells. Out of memory is
+    /// never returned. It takes time in proportion to the bundle's entries and the receipts.
     ///
     /// # Errors
     ///
     /// `Lost` where the histories don't hold each number: where one is nowhere, not where its receipt
     /// says, or at no later position than an earlier receipt of the same seat for the run.
+    pub fn finish(self, seats: Vec<Seat<M, L>>) -> Result<Finished, Lost>
+        requires all { length seats.items ≡ M.workers }
+        requires parts { L.parts ≡ M.workers }
+        ensures closed { IfOk result
+            (λ finished. IsClosed M.bundle (receipts_of seats.items) finished.histories) }
+        ensures states { IfOk result
+            (λ finished. AreStatesOf M.bundle finished.histories finished.states.items) }
+        ensures lost { IfErr result (IsLost M.bundle (receipts_of seats.items)) }
+    {
+        let mut room = self.room;
+        let mut all = gather(seats, &mut room.receipts);
+        under::close_cell(self.first, &mut all.first, &mut room.runs);
+        under::close_cell(self.second, &mut all.second, &mut room.runs);
+        under::close_cell(self.third, &mut all.third, &mut room.runs);
+        under::close_cell(self.fourth, &mut all.fourth, &mut room.runs);
+        let lost = room.first_lost::<M>();
+        let finished = room.runs.finish();
+        match lost {
+            None => Ok(finished),
+            Some(number) => Err(Lost {
+                number,
+                histories: finished.histories,
+                receipts: room.receipts,
+            }),
+        }
+    }
+
+    /// The histories of the runs that [`finish`](Board::finish) gives.
+    ///
+    /// # Errors
+    ///
+    /// `Lost`, as of `finish`.
     pub fn close(self, seats: Vec<Seat<M, L>>) -> Result<Histories, Lost>
         requires all { length seats.items ≡ M.workers }
         requires parts { L.parts ≡ M.workers }
         ensures closed { IfOk result (IsClosed M.bundle (receipts_of seats.items)) }
         ensures lost { IfErr result (IsLost M.bundle (receipts_of seats.items)) }
     {
-        let mut room = self.room;
-        let mut all = gather(seats, &mut room.receipts);
-        under::close_cell(self.first, &mut all.first, &mut room.histories);
-        under::close_cell(self.second, &mut all.second, &mut room.histories);
-        under::close_cell(self.third, &mut all.third, &mut room.histories);
-        under::close_cell(self.fourth, &mut all.fourth, &mut room.histories);
-        let lost = room.first_lost::<M>();
-        let histories = Histories::from(room.histories);
-        match lost {
-            None => Ok(histories),
-            Some(number) => Err(Lost {
-                number,
-                histories,
-                receipts: room.receipts,
-            }),
-        }
+        Ok(self.finish(seats)?.histories)
     }
 }

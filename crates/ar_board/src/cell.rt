@@ -3,7 +3,7 @@
 ghost use Rattle.std.specs.Prelude.{◌≡◌, ◌<◌, ◌≤◌, ◌==◌, ◌↔◌, if◌then◌else◌, Err, IfErr, IfOk, IsErr, OnErr, get_or, length};
 ghost use Rattle.ar_bundle.specs.Sound.{IsBundle};
 ghost use Rattle.ar_board.specs.Locks.{lock_of};
-ghost use Rattle.ar_board.specs.Cell.{ArePut, CanBe, IsAdded, IsCell, IsEmpty, IsFresh, IsPostable, IsShownTo, IsInHistory, authors_at, entries_under, histories_of, history_at, stale};
+ghost use Rattle.ar_board.specs.Cell.{ArePut, CanBe, IsAdded, IsCell, IsEmpty, IsFresh, IsPostable, IsShownTo, IsInHistory, authors_at, entries_under, histories_of, history_at, stale, states_of};
 ghost use Rattle.ar_board.specs.Private.KeptRuns.{AreOpened};
 
 use crate::cell::kept_run::KeptRun;
@@ -11,7 +11,7 @@ use crate::cell::names::{LockName, lock_of_run};
 use crate::cell::posted::{Double, Posted};
 use crate::cell::receipt::Receipt;
 use crate::cell::snapshot::{LookFault, Snapshot};
-use ar_bundle::{Bundle, BundleName, Entry, Finding, History};
+use ar_bundle::{Bundle, BundleName, Entry, Finding, Runs};
 use std::alloc::{AllocError, Global};
 use std::marker::{Model, PhantomData};
 use std::sync::ledger::{Book, Share};
@@ -172,14 +172,16 @@ impl<'b, M: BundleName, L: LockName> RunCell<'b, M, L> {
         Ok(kept.snapshot(alloc)?)
     }
 
-    /// Puts the histories of the runs under the lock at their positions of a list, which has one for each
-    /// run of the bundle.
-    #[tactic(auto, using(crate::proofs::Put::put_first, crate::proofs::Put::put_own, crate::proofs::Put::put_other, crate::proofs::Put::put_all))]
-    pub fn put_histories(self, lock: usize, histories: &mut Vec<History>)
+    /// Puts the histories and the states of the runs under the lock at their positions among those of all runs of
+    /// the bundle.
+    #[tactic(auto, using(crate::proofs::Put::put_first, crate::proofs::Put::put_all))]
+    pub fn put_runs(self, lock: usize, all: &mut Runs)
         requires lock { lock ≡ L.lock }
-        requires as_many { length histories.old.items ≡ length M.bundle.runs }
+        requires histories { length all.old.histories.items ≡ length M.bundle.runs }
+        requires states { length all.old.states.items ≡ length M.bundle.runs }
         ensures cell { IsCell M.bundle M.workers L.lock self.entry }
-        ensures put { ArePut L.lock (histories_of self.entry) histories.old.items histories.new.items }
+        ensures put { ArePut L.lock (histories_of self.entry) all.old.histories.items all.new.histories.items }
+        ensures states { ArePut L.lock (states_of self.entry) all.old.states.items all.new.states.items }
     {
         let RunCell {
             bundle: _,
@@ -190,10 +192,7 @@ impl<'b, M: BundleName, L: LockName> RunCell<'b, M, L> {
         } = self;
         let mut run = 0;
         for kept in runs {
-            let history = kept.into_history();
-            if lock_of_run(run) == lock {
-                histories[run] = history;
-            }
+            kept.put_under(lock, run, all);
             run += 1;
         }
     }

@@ -7,15 +7,15 @@ ghost use Rattle.ar_bundle.specs.Lawful.{numbers_of, times, times_in};
 ghost use Rattle.ar_board.specs.Private.Closing.{AreAllMarked, AreInside, AreMarked, AreOwn, AreStored, FirstLost, FirstUnheld, IsAt, IsAfter, IsLaterOf, IsReady, lists_of};
 
 use crate::Receipt;
-use ar_bundle::{Bundle, BundleName, Entry, History};
+use ar_bundle::{Bundle, BundleName, Entry, History, Runs};
 use ar_value::limits::MOST_RUNS;
 use std::alloc::{AllocError, Global};
 
 /// What closing a board requires, reserved when the board is made.
 #[derive(Drop)]
 pub(crate) struct Room {
-    /// Of each run; empty until the board is closed.
-    pub(crate) histories: Vec<History>,
+    /// The runs as they are before any event, until the board is closed.
+    pub(crate) runs: Runs,
     /// Of each seat; none until the board is closed, with room for them.
     pub(crate) receipts: Vec<Vec<Receipt>>,
     /// By number, whether a receipt for it isn't met; all false until the board is closed.
@@ -32,7 +32,7 @@ impl Room {
     {
         let numbers = bundle.events() as usize;
         Ok(Room {
-            histories: no_histories(alloc, bundle.runs().len())?,
+            runs: Runs::open(alloc, bundle)?,
             receipts: Vec::with_capacity(alloc, workers)?,
             unmet: vec![in alloc; false; numbers]?,
             stored: vec![in alloc; false; numbers]?,
@@ -43,30 +43,19 @@ impl Room {
     #[tactic(auto, using(crate::proofs::Closed::first_lost))]
     pub(crate) fn first_lost<M: BundleName>(&mut self) -> Option<u64>
         requires bundle { IsBundle M.bundle }
-        requires runs { length self.old.histories.items ≡ length M.bundle.runs }
-        requires inside { AllByRecursion (AreInside (length M.bundle.entries)) self.old.histories.items }
+        requires runs { length self.old.runs.histories.items ≡ length M.bundle.runs }
+        requires inside { AllByRecursion (AreInside (length M.bundle.entries)) self.old.runs.histories.items }
         requires own { AllByRecursion (AreOwn M.bundle) (lists_of self.old.receipts.items) }
         requires none_unmet { self.old.unmet.items ≡ replicate (length M.bundle.entries) false }
         requires none_stored { self.old.stored.items ≡ replicate (length M.bundle.entries) false }
-        ensures least { FirstLost M.bundle self.old.histories.items (lists_of self.old.receipts.items) result }
-        ensures histories { self.new.histories ≡ self.old.histories }
+        ensures least { FirstLost M.bundle self.old.runs.histories.items (lists_of self.old.receipts.items) result }
+        ensures runs { self.new.runs ≡ self.old.runs }
         ensures receipts { self.new.receipts ≡ self.old.receipts }
     {
-        note_all_stored(&self.histories, &mut self.stored);
-        note_all_unmet::<M>(&self.histories, &self.receipts, &mut self.unmet);
+        note_all_stored(&self.runs.histories, &mut self.stored);
+        note_all_unmet::<M>(&self.runs.histories, &self.receipts, &mut self.unmet);
         first_unheld(&self.unmet, &self.stored)
     }
-}
-
-/// For each of `runs` runs a history to which nothing has happened.
-fn no_histories(alloc: Global, runs: usize) -> Result<Vec<History>, AllocError>
-    ensures { IfOk result (λ histories. length histories.items ≡ runs) }
-{
-    let mut histories = Vec::with_capacity(alloc, runs)?;
-    for _run in 0..runs {
-        histories.push_reserved(History::new(alloc));
-    }
-    Ok(histories)
 }
 
 /// Notes the numbers of a history as stored.

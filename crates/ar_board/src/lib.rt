@@ -2,15 +2,16 @@
 //!
 //! A [`Board`] keeps the runs of a bundle in four cells, each under a lock of its own. Each worker has a
 //! [`Seat`], by which it posts and looks, and which keeps the receipts of its posts. A post or a look takes
-//! the lock of its run alone. [`Board::close`] gives the histories where they hold each number, and else
-//! says in [`Lost`] which is the least that is lost (`specs/Lost`).
+//! the lock of its run alone. [`Board::finish`] gives the histories and states of the runs where the histories hold
+//! each number, and else says in [`Lost`] which is the least that is lost (`specs/Lost`); [`Board::close`] gives the
+//! histories alone.
 //!
 //! A [`RunCell`] is what is kept under one lock: of each run the history with the worker that posted each
 //! entry, and the state of the run. [`RunCell::add`] puts a number to the end of its run's history, as
 //! `specs/Posting` says, and returns the entry's position and effect; [`RunCell::show`] shows a run to a worker
-//! whose entries in it are just those of its [`Receipt`]s for the run; [`RunCell::put_histories`] gives the
-//! histories up. `specs/Cell` says what is true of a cell whenever its lock is free, `specs/Receipts` when
-//! histories meet a receipt. A [`LockName`] names the lock and its ledger in contracts.
+//! whose entries in it are just those of its [`Receipt`]s for the run; [`RunCell::put_runs`] gives the
+//! histories and the states up. `specs/Cell` says what is true of a cell whenever its lock is free,
+//! `specs/Receipts` when histories meet a receipt. A [`LockName`] names the lock and its ledger in contracts.
 //!
 //! The core is a board without threads: one [`CoreStep`] after another on plain lists (`specs/Core`). A number
 //! is put into the queue, a worker takes it, and posts it to its run's history. In an ordered core a posted
@@ -41,7 +42,7 @@ pub mod seat;
 mod shares;
 mod under;
 
-pub use ar_bundle::{Bundle, Entry, EventPart, Finding, Histories, MetricPart, RunPart, What};
+pub use ar_bundle::{Bundle, Entry, EventPart, Finding, Finished, Histories, MetricPart, RunPart, What};
 pub use ar_value::limits::MOST_WORKERS;
 pub use board::Board;
 pub use cell::RunCell;

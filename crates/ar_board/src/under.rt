@@ -10,7 +10,7 @@ ghost use Rattle.ar_board.specs.Cell.{IsUnder, entries_under};
 
 use crate::locks::{Lock, LockNames};
 use crate::{Double, LockName, LookFault, Posted, Receipt, RunCell, Snapshot};
-use ar_bundle::{BundleName, Finding, History};
+use ar_bundle::{BundleName, Finding, Runs};
 use std::alloc::Global;
 use std::sync::ledger::Share;
 use std::sync::{Mutex, Wait};
@@ -61,19 +61,20 @@ pub(crate) fn look<M: BundleName, L: LockName, R: Wait>(
     cell.show(alloc, run, worker, receipts)
 }
 
-/// A lock's cell is compared with the share that has all parts of its ledger, and its histories move to
-/// their positions among others.
+/// A lock's cell is compared with the share that has all parts of its ledger, and its histories and states move
+/// to their positions among those of all runs.
 pub(crate) fn close_cell<M: BundleName, L: LockNames, const LOCK: usize>(
     lock: Mutex<RunCell<'_, M, Lock<L, LOCK>>>,
     share: &mut Share<Lock<L, LOCK>>,
-    histories: &mut Vec<History>,
+    all: &mut Runs,
 )
-    requires all { share.old.parts ≡ L.parts }
-    requires as_many { length histories.old.items ≡ length M.bundle.runs }
-    ensures given { IsCellClosed M.bundle M.workers LOCK share.old.amount histories.old.items histories.new.items }
+    requires whole { share.old.parts ≡ L.parts }
+    requires histories { length all.old.histories.items ≡ length M.bundle.runs }
+    requires states { length all.old.states.items ≡ length M.bundle.runs }
+    ensures given { IsCellClosed M.bundle M.workers LOCK share.old.amount all.old all.new }
     ensures bundle { IsBundle M.bundle }
 {
     let mut cell = lock.into_inner();
     cell.audit(share);
-    cell.put_histories(LOCK, histories);
+    cell.put_runs(LOCK, all);
 }

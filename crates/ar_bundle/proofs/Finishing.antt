@@ -14,16 +14,16 @@ use Rattle.ar_bundle.specs.declared.runs.Runs.{Runs}
 use Rattle.ar_bundle.proofs.Grown.{kept}
 use Rattle.ar_bundle.proofs.Lawful.{lawful_after}
 
--- each run has a state
-as_many : (bundle : Bundle) (upto from : ℕ) (runs : List RunPart) (states : List Standing) (histories : List (List Entry)) → AreGrown bundle upto from runs states histories → length states ≡ length runs
-as_many bundle upto from [] [] [] grown = refl
-as_many bundle upto from (run ∷ runs) (state ∷ states) (history ∷ histories) grown = ap suc (as_many bundle upto (suc from) runs states histories grown.1)
+-- each run has a state and a history
+pub as_many : (bundle : Bundle) (upto from : ℕ) (runs : List RunPart) (states : List Standing) (histories : List (List Entry)) → AreGrown bundle upto from runs states histories → (length states ≡ length runs) × (length histories ≡ length runs)
+as_many bundle upto from [] [] [] grown = (refl, refl)
+as_many bundle upto from (run ∷ runs) (state ∷ states) (history ∷ histories) grown = let later = as_many bundle upto (suc from) runs states histories grown.1 in (ap suc later.0, ap suc later.1)
 as_many bundle upto from [] [] (history ∷ histories) grown = absurd grown
 as_many bundle upto from [] (state ∷ states) histories grown = absurd grown
 as_many bundle upto from (run ∷ runs) [] histories grown = absurd grown
 as_many bundle upto from (run ∷ runs) (state ∷ states) [] grown = absurd grown
 
--- which its history leads to
+-- each state is the one that its run's history leads to
 leads_to : (bundle : Bundle) (upto : ℕ) (states : List Standing) (histories : List (List Entry)) (run : ℕ) (part : RunPart) (history : List Entry) (state : Standing) → AreGrown bundle upto 0 bundle.runs states histories → slice_get bundle.runs run ≡ Some part → slice_get histories run ≡ Some history → slice_get states run ≡ Some state
     → Replays part.limits (events_of bundle (numbers_of history)) state
 leads_to bundle upto states histories run part history state grown part_there history_there state_there =
@@ -41,7 +41,7 @@ leads_to bundle upto states histories run part history state grown part_there hi
 pub states_are : (bundle : Bundle) (upto : ℕ) (states : List Standing) (histories : List (List Entry)) → AreGrown bundle upto 0 bundle.runs states histories → AreStatesOf bundle histories states
 states_are bundle upto states histories grown =
     record {
-      as_many = as_many bundle upto 0 bundle.runs states histories grown;
+      as_many = (as_many bundle upto 0 bundle.runs states histories grown).0;
       each = λ run part history state part_there history_there state_there. leads_to bundle upto states histories run part history state grown part_there history_there state_there;
     }
 

@@ -6,7 +6,8 @@ use Rattle.ar_value.specs.Limits.{most_runs}
 use Rattle.ar_bundle.specs.Bundle.{Bundle, run_at}
 use Rattle.ar_bundle.specs.Lawful.{times}
 use Rattle.ar_bundle.specs.declared.history.Entry.{Entry}
-use Rattle.ar_board.specs.Cell.{ArePut, Cell, IsCell, histories_of, history_at}
+use Rattle.ar_bundle.specs.declared.runs.Runs.{Runs}
+use Rattle.ar_board.specs.Cell.{ArePut, Cell, IsCell, histories_of, states_of}
 use Rattle.ar_board.specs.Receipts.{Hold, IsMet, numbers_at}
 use Rattle.ar_board.specs.declared.cell.receipt.Receipt.{Receipt}
 use Rattle.ar_board.specs.Lost.{IsUnmet, IsUnmetAmong, received_under}
@@ -20,7 +21,8 @@ use Rattle.ar_board.specs.declared.closing.Room.{Room}
 -- what closing requires, as it is reserved for a bundle and n workers, of whom there is one at least
 pub record IsReady (bundle : Bundle) (workers : ℕ) (room : Room) : Type 0 where
   pub one : 1 ≤ workers
-  pub histories : length room.histories.items ≡ length bundle.runs
+  pub histories : length room.runs.histories.items ≡ length bundle.runs
+  pub states : length room.runs.states.items ≡ length bundle.runs
   pub no_receipts : room.receipts.items ≡ []
   pub receipt_room : workers ≤ vec_capacity room.receipts
   pub none_unmet : room.unmet.items ≡ replicate (length bundle.entries) false
@@ -44,13 +46,14 @@ pub record AreGiven (bundle : Bundle) (seats : List Seat) (receipts : List (List
   pub as_many : shares.parts ≡ length seats
   pub counted : (lock : ℕ) → at_lock shares.amounts lock ≡ received_under lock (receipts_of seats)
 
--- the cell of a lock was closed: its entries are as many as the amount, and its histories moved to their positions
--- among others
-pub record IsCellClosed (bundle : Bundle) (workers lock amount : ℕ) (before after : List (List Entry)) : Type 0 where
+-- the cell of a lock was closed: its entries are as many as the amount, and its histories and their states moved to
+-- their positions among others
+pub record IsCellClosed (bundle : Bundle) (workers lock amount : ℕ) (before after : Runs) : Type 0 where
   pub cell : Cell
   pub is : IsCell bundle workers lock cell
   pub whole : amount ≡ cell.total
-  pub put : ArePut lock (histories_of cell) before after
+  pub put : ArePut lock (histories_of cell) before.histories.items after.histories.items
+  pub states : ArePut lock (states_of cell) before.states.items after.states.items
 
 -- the histories of the runs under a lock are those of a cell, whose entries are as many as the amount
 pub record AreOfCell (bundle : Bundle) (workers lock amount : ℕ) (histories : List (List Entry)) : Type 0 where
@@ -58,7 +61,7 @@ pub record AreOfCell (bundle : Bundle) (workers lock amount : ℕ) (histories : 
   pub is : IsCell bundle workers lock cell
   pub whole : amount ≡ cell.total
   pub each : (run : ℕ) → run < length histories → lock_of run ≡ lock
-      → slice_get histories run ≡ Some (history_at cell run)
+      → slice_get histories run ≡ slice_get (histories_of cell) run
 
 -- ---- which receipts are met
 

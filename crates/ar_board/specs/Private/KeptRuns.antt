@@ -101,10 +101,10 @@ pub record IsSoundCell (named : Bundle) (workers lock : ℕ) (bundle : Bundle) (
   pub table : IsTable bundle (cell_of runs total) stored
   pub room : (run : ℕ) (kept : Declared) → slice_get runs run ≡ Some kept → HasRoom bundle lock run kept
 
--- of some histories, those of the runs below `upto` that are under a lock have moved to their positions among others,
+-- of what each run has, that of the runs below `upto` that are under a lock has moved to their positions among others,
 -- which stay
-pub record ArePutBelow (lock upto : ℕ) (own before after : List (List Entry)) : Type 0 where
+pub record ArePutBelow {A : Type 0} (lock upto : ℕ) (own before after : List A) : Type 0 where
   pub as_many : length after ≡ length before
   pub put : (run : ℕ) → run < length before → run < upto → lock_of run ≡ lock
-      → slice_get after run ≡ Some (get_or own run [])
+      → slice_get after run ≡ slice_get own run
   pub others : (run : ℕ) → (run < upto → lock_of run ≢ lock) → slice_get after run ≡ slice_get before run

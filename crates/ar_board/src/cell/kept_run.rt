@@ -1,14 +1,16 @@
 //! What a cell keeps of one run.
 
-ghost use Rattle.std.specs.Prelude.{◌≡◌, ◌<◌, ◌↔◌, IfOk, IsTrue, Some, length, slice_get};
+ghost use Rattle.std.specs.Prelude.{◌≡◌, ◌≢◌, ◌<◌, ◌↔◌, IfOk, IsTrue, Some, length, set, slice_get};
 ghost use Rattle.ar_limits.specs.Metric.{HasPositiveCounts};
 ghost use Rattle.ar_bundle.specs.declared.history.Entry.{Entry};
+ghost use Rattle.ar_board.specs.Locks.{lock_of};
 
+use crate::cell::names::lock_of_run;
 use crate::cell::posted::Posted;
 use crate::cell::receipt::Receipt;
 use crate::cell::run_history::RunHistory;
 use crate::cell::snapshot::Snapshot;
-use ar_bundle::{Finding, History};
+use ar_bundle::{Finding, History, Runs};
 use ar_limits::{Event, Limits, Phase};
 use std::alloc::{AllocError, Global};
 
@@ -60,11 +62,21 @@ impl KeptRun {
         Posted { place, effect }
     }
 
-    /// Its history alone.
-    pub(crate) fn into_history(self) -> History
-        ensures { result ≡ self.run.entries.items }
+    /// Puts its history and its state at the run's position among those of all runs, if the run is under the lock.
+    pub(crate) fn put_under(self, lock: usize, run: usize, all: &mut Runs)
+        requires history { run < length all.old.histories.items }
+        requires state { run < length all.old.states.items }
+        ensures history { lock_of run ≡ lock
+            → all.new.histories.items ≡ set all.old.histories.items run self.run.entries.items }
+        ensures state { lock_of run ≡ lock → all.new.states.items ≡ set all.old.states.items run self.run.state }
+        ensures other { lock_of run ≢ lock → all.new ≡ all.old }
     {
-        History::from(self.run.entries)
+        if lock_of_run(run) != lock {
+            return;
+        }
+        let RunHistory { entries, state } = self.run;
+        all.histories[run] = History::from(entries);
+        all.states[run] = state;
     }
 
     /// Whether the numbers and positions of a worker's entries are those of its receipts for the run.
