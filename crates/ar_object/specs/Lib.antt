@@ -1,2 +1,3 @@
 pub mod Object
 pub mod Line
+pub mod Written
