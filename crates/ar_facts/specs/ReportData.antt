@@ -1,5 +1,5 @@
 -- Reports as JSON (RFC 8259): one object, in one line. Its members are in the byte order of their names.
-use Rattle.std.specs.Prelude.{ℕ, true, false, List, codes, length, map, Option, Result, Ok, Err, Bool}
+use Rattle.std.specs.Prelude.{true, false, List, codes, length, map, Result, Ok, Err, Bool}
 use Rattle.serde_json.specs.Data.{Data, boolean, member, no_members, null, object, string}
 use Rattle.ar_object.specs.Object.{array_of, count_data, count_or_null, text_or_null, version}
 use Rattle.ar_value.specs.Fault.{fault_name}

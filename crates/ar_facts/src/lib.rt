@@ -6,7 +6,7 @@
 //! object, which reads back as what was written (`specs/ReportData`). Here are the parts: a run's line, a metric's and
 //! an event's, and their objects. `ar_report` prints whole runs by them, and `ar_reason` what led to each event.
 //!
-//! - `data`: the objects of runs, metrics and events
+//! - `data`: the objects of metrics and events
 //! - `names`: phases, verdicts and effects as they are printed
 //! - `text`: the lines of runs, metrics and events
 #![tactic(auto)]
@@ -15,6 +15,6 @@ mod data;
 mod names;
 mod text;
 
-pub use data::{counts_json, event_json, limits_json, metric_json, run_object, runs_object};
+pub use data::{write_counts, write_event, write_limits, write_metric};
 pub use names::{phase_name, put_verdict};
 pub use text::{put_counted, put_event, put_metric, put_run_line};

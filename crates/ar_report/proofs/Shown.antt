@@ -1,5 +1,5 @@
 -- Conditions, one after another.
-use Rattle.std.proofs.Common.{◌≡◌, ◌<◌, ◌≤◌, ℕ, suc, ◌+◌, List, [], ◌∷◌, ◌++◌, codes, flat_map, length, map, drop, refl, sym, ◌∙◌, ap, arith, append-nil}
+use Rattle.std.proofs.Common.{◌≡◌, ◌<◌, ◌≤◌, ℕ, suc, ◌+◌, List, [], ◌∷◌, ◌++◌, flat_map, length, map, drop, refl, sym, ◌∙◌, ap, arith, append-nil}
 use Rattle.std.specs.Prelude.{slice_index_or}
 use Rattle.std.proofs.lemmas.List.{append_assoc}
 use Rattle.ar_judge.specs.Verdict.{Judge}
@@ -8,12 +8,12 @@ use Rattle.ar_bundle.specs.declared.bundle.MetricPart.{MetricPart}
 use Rattle.ar_bundle.specs.declared.bundle.RunPart.{RunPart}
 use Rattle.ar_facts.specs.Facts.{ConditionFacts, facts_of_conditions, facts_of_judges, judge_facts}
 use Rattle.serde_json.specs.Data.{Data}
-use Rattle.serde_json.specs.View.{view}
-use Rattle.serde_json.specs.declared.value.Value.{Value}
+use Rattle.ar_object.proofs.Texts.{Remains, next_value, none_remains}
+use Rattle.ar_object.specs.Written.{AddsValue, AddsValues, Output}
 use Rattle.ar_report.specs.Private.Shown.{condition_seen, conditions_seen}
-use Rattle.ar_facts.specs.ReportData.{check_data, condition_data, named_list}
+use Rattle.ar_facts.specs.ReportData.{condition_data}
 use Rattle.ar_report.specs.declared.conditions.NamedCondition.{NamedCondition}
-use Rattle.ar_facts.proofs.Lines.{no_item, no_more, none_left, one_more, one_seen, read_at}
+use Rattle.ar_facts.proofs.Lines.{no_more, none_left, one_more, read_at}
 
 same_length : (metrics : List MetricPart) (judges : List Judge) → JudgesEach metrics judges → length judges ≡ length metrics
 same_length [] [] each = refl
@@ -60,16 +60,10 @@ pub no_line : (text : ConditionFacts → List ℕ) (conditions : List NamedCondi
 no_line text conditions index written total past so_far =
     no_more text (conditions_seen (drop index conditions)) written total (ap conditions_seen (none_left conditions index past)) so_far
 
-pub next_condition : (conditions : List NamedCondition) (index : ℕ) (condition : NamedCondition) (found : List Value) (new : Value) (total : List Data) → index < length conditions → condition ≡ slice_index_or conditions index condition → view new ≡ condition_data (condition_seen condition)
-    → map view found ++ map condition_data (conditions_seen (drop index conditions)) ≡ total → map view (found ++ new ∷ []) ++ map condition_data (conditions_seen (drop (index + 1) conditions)) ≡ total
-next_condition conditions index condition found new total inside read is so_far =
-    one_seen view condition_data _ _ (condition_seen condition) found new total (condition_read conditions index condition inside read) is so_far
+pub next_condition : (conditions : List NamedCondition) (index : ℕ) (condition : NamedCondition) (all : List Data) (start now next : Output) → index < length conditions → condition ≡ slice_index_or conditions index condition → AddsValue (condition_data (condition_seen condition)) now next
+    → Remains (map condition_data (conditions_seen (drop index conditions))) all start now → Remains (map condition_data (conditions_seen (drop (index + 1) conditions))) all start next
+next_condition conditions index condition all start now next inside read adds remains =
+    next_value condition_data _ _ (condition_seen condition) all start now next (condition_read conditions index condition inside read) adds remains
 
-pub no_condition : (conditions : List NamedCondition) (index : ℕ) (found : List Value) (total : List Data) → length conditions ≤ index → map view found ++ map condition_data (conditions_seen (drop index conditions)) ≡ total → map view found ≡ total
-no_condition conditions index found total past so_far =
-    no_item condition_data (conditions_seen (drop index conditions)) (map view found) total (ap conditions_seen (none_left conditions index past)) so_far
-
--- conditions that were gathered, as their object
-pub checked : (found borrowed : List NamedCondition) (conditions : List ConditionFacts) (shown : List Value) (written : Data) → conditions_seen found ≡ conditions → borrowed ≡ found → map view shown ≡ map condition_data (conditions_seen borrowed) → written ≡ named_list (codes "conditions") (map view shown) → written ≡ check_data conditions
-checked found borrowed conditions shown written seen same shown_are is =
-    is ∙ ap (named_list (codes "conditions")) (shown_are ∙ ap (map condition_data) (ap conditions_seen same ∙ seen))
+pub no_condition : (conditions : List NamedCondition) (index : ℕ) (all : List Data) (start now : Output) → length conditions ≤ index → Remains (map condition_data (conditions_seen (drop index conditions))) all start now → AddsValues all start now
+no_condition conditions index all start now past remains = none_remains condition_data _ all start now (ap conditions_seen (none_left conditions index past)) remains

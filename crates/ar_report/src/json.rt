@@ -1,7 +1,6 @@
 //! Reports as JSON.
 
-ghost use Rattle.std.specs.Prelude.{◌≡◌, ◌≤◌, IfOk, codes, length, map, string_bytes};
-ghost use Rattle.serde_json.specs.View.{view};
+ghost use Rattle.std.specs.Prelude.{◌≡◌, ◌≤◌, IfOk, OnOk, codes, length, map, string_bytes};
 ghost use Rattle.ar_limits.specs.Replay.{most_events};
 ghost use Rattle.ar_limits.specs.Run.{effects};
 ghost use Rattle.ar_bundle.specs.Bundle.{events_of};
@@ -10,93 +9,94 @@ ghost use Rattle.ar_bundle.specs.Sound.{IsRun};
 ghost use Rattle.ar_facts.specs.Facts.{check_facts, facts_of_metrics, report_facts, run_facts};
 ghost use Rattle.ar_facts.specs.Private.Entries.{AreFound, facts_of_entries};
 ghost use Rattle.ar_report.specs.Private.Shown.{condition_seen, conditions_seen};
-ghost use Rattle.ar_facts.specs.ReportData.{answer_data, check_data, condition_data, event_data, metric_data, named_list, report_data, run_data};
+ghost use Rattle.ar_facts.specs.ReportData.{answer_data, check_data, condition_data, event_data, metric_data, report_data, run_data};
 ghost use Rattle.ar_object.specs.Line.{IsJsonLine};
+ghost use Rattle.ar_object.specs.Object.{array_of};
+ghost use Rattle.ar_object.specs.Written.{AddsMember, AddsValue};
 
 use crate::conditions::{NamedCondition, conditions};
 use crate::reports::replayed;
 use ar_bundle::{Bundle, Entry, Histories, MetricPart, RunPart};
-use ar_facts::{event_json, metric_json, run_object, runs_object};
+use ar_facts::{phase_name, write_event, write_metric};
 use ar_limits::{Limits, RunState};
-use ar_object::{Object, VERSION, json_line};
+use ar_object::{JsonText, VERSION};
 use ar_value::Fault;
-use serde_json::Value as Json;
 use std::alloc::{AllocError, Global};
-
-// ---- metrics
-
-/// A run's metrics, as the run is.
-#[tactic(auto, using(ar_facts::proofs::Objects::no_metric))]
-fn metrics_json(
-    alloc: Global,
-    metrics: &[MetricPart],
-    limits: &[Limits],
-    state: &RunState,
-) -> Result<Vec<Json>, AllocError>
-    requires limits { length limits.now ≡ length metrics.now }
-    requires metrics { length state.now.limits ≡ length metrics.now }
-    ensures { IfOk result (λ found. map view found.items
-        ≡ map metric_data (facts_of_metrics metrics.now limits.now state.now.phases state.now.counts)) }
-{
-    let mut found = Vec::new(alloc);
-    for (number, metric) in metrics.iter().enumerate() {
-        let (phase, counts) = (state.metric_phase(number), state.counts(number));
-        found.push(metric_json(alloc, metric, limits[number], phase, counts)?)?;
-    }
-    Ok(found)
-}
-
-// ---- events
-
-/// A run's events.
-#[tactic(auto, using(ar_facts::proofs::Objects::next_event, ar_facts::proofs::Objects::no_event, ar_facts::proofs::Lines::is_found))]
-fn events_json(alloc: Global, bundle: &Bundle, entries: &[Entry]) -> Result<Vec<Json>, AllocError>
-    requires { AreFound bundle.now entries.now }
-    ensures { IfOk result
-        (λ found. map view found.items ≡ map event_data (facts_of_entries bundle.now entries.now)) }
-{
-    let mut found = Vec::new(alloc);
-    for entry in entries {
-        found.push(event_json(alloc, bundle, *entry)?)?;
-    }
-    Ok(found)
-}
 
 // ---- runs
 
-#[tactic(auto, using(ar_facts::proofs::Objects::run_is))]
-fn run_json(
+/// Writes a run's metrics, as the run is.
+fn put_metrics(json: &mut JsonText, metrics: &[MetricPart], limits: &[Limits], state: &RunState)
+    requires limits { length limits.now ≡ length metrics.now }
+    requires metrics { length state.now.limits ≡ length metrics.now }
+    ensures { AddsMember (codes "metrics") (array_of (map metric_data
+        (facts_of_metrics metrics.now limits.now state.now.phases state.now.counts)))
+        json.old.written json.new.written }
+{
+    json.begin_list("metrics");
+    for (number, metric) in metrics.iter().enumerate() {
+        let (phase, counts) = (state.metric_phase(number), state.counts(number));
+        write_metric(json, metric, limits[number], phase, counts);
+    }
+    json.end_list()
+}
+
+/// Writes a run's events.
+fn put_events(json: &mut JsonText, bundle: &Bundle, entries: &[Entry])
+    requires { AreFound bundle.now entries.now }
+    ensures { AddsMember (codes "events") (array_of (map event_data (facts_of_entries bundle.now entries.now)))
+        json.old.written json.new.written }
+{
+    json.begin_list("events");
+    for entry in entries {
+        write_event(json, bundle, *entry);
+    }
+    json.end_list()
+}
+
+fn write_run(
     alloc: Global,
+    json: &mut JsonText,
     bundle: &Bundle,
     run: &RunPart,
     entries: &[Entry],
-) -> Result<Json, AllocError>
+) -> Result<(), AllocError>
     requires run { IsRun bundle.now.metrics run.now }
     requires found { AreFound bundle.now entries.now }
     requires effects { map (λ entry. entry.effect) entries.now ≡ effects run.now.limits
         (events_of bundle.now (numbers_of entries.now)) }
     requires few { length entries.now ≤ most_events }
-    ensures { IfOk result
-        (λ json. view json ≡ run_data (run_facts bundle.now run.now (numbers_of entries.now))) }
+    ensures { OnOk result (AddsValue (run_data (run_facts bundle.now run.now (numbers_of entries.now)))
+        json.old.written json.new.written) }
 {
     let state = replayed(alloc, bundle, run, entries)?;
-    let metrics = metrics_json(alloc, bundle.metrics(), run.limits.as_slice(), &state)?;
-    let events = events_json(alloc, bundle, entries)?;
-    run_object(alloc, run.name.as_str(), state.phase(), metrics, events)
+    json.begin_object();
+    put_events(json, bundle, entries);
+    put_metrics(json, bundle.metrics(), run.limits.as_slice(), &state);
+    json.put_text("name", run.name.as_str());
+    json.put_text("phase", phase_name(state.phase()));
+    json.end_object();
+    Ok(())
 }
 
-#[tactic(auto, using(ar_facts::proofs::Runs::has_history, ar_facts::proofs::Runs::run_is_run, ar_facts::proofs::Objects::next_run, ar_facts::proofs::Objects::no_run))]
-fn runs_json(alloc: Global, bundle: &Bundle, histories: &Histories) -> Result<Vec<Json>, AllocError>
+#[tactic(auto, using(ar_facts::proofs::Runs::has_history, ar_facts::proofs::Runs::run_is_run))]
+fn put_runs(
+    alloc: Global,
+    json: &mut JsonText,
+    bundle: &Bundle,
+    histories: &Histories,
+) -> Result<(), AllocError>
     requires { AreHistoriesSoFar bundle.now histories.now }
-    ensures { IfOk result (λ found. map view found.items
-        ≡ map run_data (report_facts bundle.now (map numbers_of histories.now))) }
+    ensures { OnOk result (AddsMember (codes "runs") (array_of (map run_data
+        (report_facts bundle.now (map numbers_of histories.now)))) json.old.written json.new.written) }
 {
-    let mut found = Vec::new(alloc);
+    json.begin_list("runs");
     let histories = histories.runs();
     for (number, run) in bundle.runs().iter().enumerate() {
-        found.push(run_json(alloc, bundle, run, histories[number].entries())?)?;
+        write_run(alloc, json, bundle, run, histories[number].entries())?;
     }
-    Ok(found)
+    json.end_list();
+    Ok(())
 }
 
 /// The report of a bundle's runs by their histories as one JSON object, with the facts of
@@ -114,49 +114,38 @@ pub fn report_json(
     ensures { IfOk result (λ text. IsJsonLine
         (report_data (report_facts bundle.now (map numbers_of histories.now))) (string_bytes text)) }
 {
-    let runs = runs_json(alloc, bundle, histories)?;
-    let report = runs_object(alloc, runs)?;
-    json_line(alloc, &report)
+    let mut json = JsonText::new(alloc);
+    json.begin_object();
+    put_runs(alloc, &mut json, bundle, histories)?;
+    json.put_count("version", VERSION);
+    json.end_object();
+    json.finish()
 }
 
 // ---- conditions
 
-fn condition_json(alloc: Global, condition: NamedCondition<'_>) -> Result<Json, AllocError>
-    ensures { IfOk result (λ json. view json ≡ condition_data (condition_seen condition.entry)) }
+fn write_condition(json: &mut JsonText, condition: NamedCondition<'_>)
+    ensures { AddsValue (condition_data (condition_seen condition.entry)) json.old.written json.new.written }
 {
-    let mut object = Object::new(alloc);
-    object.put_count("budget", condition.verified.budget());
-    object.put_text("condition", condition.which);
-    object.put_count("depth", condition.verified.depth() as u64);
-    object.put_text("metric", condition.metric);
-    object.put_count("operations", condition.verified.code().ops().len() as u64);
-    object.put_text("run", condition.run);
-    object.finish()
+    json.begin_object();
+    json.put_count("budget", condition.verified.budget());
+    json.put_text("condition", condition.which);
+    json.put_count("depth", condition.verified.depth() as u64);
+    json.put_text("metric", condition.metric);
+    json.put_count("operations", condition.verified.code().ops().len() as u64);
+    json.put_text("run", condition.run);
+    json.end_object()
 }
 
-#[tactic(auto, using(crate::proofs::Shown::next_condition, crate::proofs::Shown::no_condition))]
-fn conditions_json(
-    alloc: Global,
-    conditions: &[NamedCondition<'_>],
-) -> Result<Vec<Json>, AllocError>
-    ensures { IfOk result
-        (λ found. map view found.items ≡ map condition_data (conditions_seen conditions.entry.now)) }
+fn put_conditions(json: &mut JsonText, conditions: &[NamedCondition<'_>])
+    ensures { AddsMember (codes "conditions") (array_of (map condition_data (conditions_seen conditions.entry.now)))
+        json.old.written json.new.written }
 {
-    let mut found = Vec::new(alloc);
+    json.begin_list("conditions");
     for condition in conditions {
-        found.push(condition_json(alloc, *condition)?)?;
+        write_condition(json, *condition);
     }
-    Ok(found)
-}
-
-fn check_object(alloc: Global, conditions: Vec<Json>) -> Result<Json, AllocError>
-    ensures { IfOk result
-        (λ json. view json ≡ named_list (codes "conditions") (map view conditions.items)) }
-{
-    let mut object = Object::new(alloc);
-    object.put_list("conditions", conditions);
-    object.put_count("version", VERSION);
-    object.finish()
+    json.end_list()
 }
 
 /// The bounds of each condition of a bundle as one JSON object, with the facts of
@@ -169,29 +158,32 @@ pub fn check_json(alloc: Global, bundle: &Bundle) -> Result<String, AllocError>
     ensures { IfOk result (λ text. IsJsonLine (check_data (check_facts bundle.now)) (string_bytes text)) }
 {
     let found = conditions(alloc, bundle)?;
-    let shown = conditions_json(alloc, &found)?;
-    let object = check_object(alloc, shown)?;
-    json_line(alloc, &object)
+    let mut json = JsonText::new(alloc);
+    json.begin_object();
+    put_conditions(&mut json, &found);
+    json.put_count("version", VERSION);
+    json.end_object();
+    json.finish()
 }
 
 // ---- one condition on one value
 
-fn answer_object(alloc: Global, answer: Result<bool, Fault>) -> Result<Json, AllocError>
-    ensures { IfOk result (λ json. view json ≡ answer_data answer) }
+fn write_answer(json: &mut JsonText, answer: Result<bool, Fault>)
+    ensures { AddsValue (answer_data answer) json.old.written json.new.written }
 {
-    let mut object = Object::new(alloc);
+    json.begin_object();
     match answer {
         Ok(holds) => {
-            object.put_flag("answer", holds);
-            object.put_null("fault");
+            json.put_flag("answer", holds);
+            json.put_null("fault");
         }
         Err(fault) => {
-            object.put_null("answer");
-            object.put_text("fault", fault.name());
+            json.put_null("answer");
+            json.put_text("fault", fault.name());
         }
     }
-    object.put_count("version", VERSION);
-    object.finish()
+    json.put_count("version", VERSION);
+    json.end_object()
 }
 
 /// What a condition says of a value, as one JSON object.
@@ -199,10 +191,10 @@ fn answer_object(alloc: Global, answer: Result<bool, Fault>) -> Result<Json, All
 /// # Errors
 ///
 /// Out of memory alone.
-#[tactic(auto, using(ar_facts::proofs::Objects::answer_exact, ar_facts::proofs::Objects::answer_flat))]
 pub fn answer_json(alloc: Global, answer: Result<bool, Fault>) -> Result<String, AllocError>
     ensures { IfOk result (λ text. IsJsonLine (answer_data answer) (string_bytes text)) }
 {
-    let object = answer_object(alloc, answer)?;
-    json_line(alloc, &object)
+    let mut json = JsonText::new(alloc);
+    write_answer(&mut json, answer);
+    json.finish()
 }

@@ -1,6 +1,0 @@
-use Rattle.std.proofs.Common.{arith}
-use Rattle.ar_facts.proofs.Lines.{facts_found_are, found_inside}
-use Rattle.ar_facts.proofs.data.event_json.Goals as goal
-
-pub returns : goal.returns
-returns c = grind (arith, found_inside, facts_found_are) steps 2000000
