@@ -53,7 +53,7 @@ no_phase bundle runs histories index found total past so_far =
 
 -- ---- what is known of a run's history
 
-are_found : (bundle : Bundle) (run : ℕ) (history : List Entry) → AllByRecursion (IsFound bundle run) history → AreFound bundle history
+pub are_found : (bundle : Bundle) (run : ℕ) (history : List Entry) → AllByRecursion (IsFound bundle run) history → AreFound bundle history
 are_found bundle run [] all = tt
 are_found bundle run (entry ∷ history) all = (all.0.finding, are_found bundle run history all.1)
 
@@ -63,6 +63,7 @@ pub record HasHistory (bundle : Bundle) (run : RunPart) (histories : List (List 
   pub found : (history : List Entry) → history ≡ slice_index_or histories index history → AreFound bundle history
   pub effects_are : (history : List Entry) → history ≡ slice_index_or histories index history → map (λ (entry : Entry). entry.effect) history ≡ effects run.limits (events_of bundle (numbers_of history))
   pub few : (history : List Entry) → history ≡ slice_index_or histories index history → length history ≤ most_events
+  pub own : (history : List Entry) → history ≡ slice_index_or histories index history → AllByRecursion (IsFound bundle index) history
 
 pub record OfRun (bundle : Bundle) (number : ℕ) (run : RunPart) (histories : List (List Entry)) (index : ℕ) : Type 0 where
   pub history : List Entry
@@ -102,7 +103,11 @@ has_history bundle run histories index is can inside read =
       found = λ history history_read. subst (AreFound bundle) (read_history histories index own.history history own.there history_read) (are_found bundle (0 + index) own.history own.is.found);
       effects_are = λ history history_read. subst (λ (history : List Entry). map (λ (entry : Entry). entry.effect) history ≡ effects run.limits (events_of bundle (numbers_of history))) (read_history histories index own.history history own.there history_read) own.is.effects;
       few = λ history history_read. subst (λ (history : List Entry). length history ≤ most_events) (read_history histories index own.history history own.there history_read) few;
+      own = λ history history_read. subst (AllByRecursion (IsFound bundle index)) (read_history histories index own.history history own.there history_read) (subst (λ (run : ℕ). AllByRecursion (IsFound bundle run) own.history) (zero_more index) own.is.found);
     }
+  where
+    zero_more : (index : ℕ) → 0 + index ≡ index
+    zero_more index = omega arith
 
 pub run_is_run : (bundle : Bundle) (run : RunPart) (index : ℕ) → IsBundle bundle → index < length bundle.runs → run ≡ slice_index_or bundle.runs index run → IsRun bundle.metrics run
 run_is_run bundle run index is inside read = of_each (IsRun bundle.metrics) bundle.runs index run is.runs (slice_get_read bundle.runs (length bundle.runs) index run refl inside read)

@@ -1,10 +1,11 @@
 //! Reports as JSON.
 
-ghost use Rattle.std.specs.Prelude.{◌≡◌, ◌≤◌, IfOk, OnOk, codes, length, map, string_bytes};
-ghost use Rattle.ar_limits.specs.Replay.{most_events};
+ghost use Rattle.std.specs.Prelude.{◌≡◌, IfOk, codes, length, map, string_bytes};
+ghost use Rattle.ar_limits.specs.Replay.{Replays};
 ghost use Rattle.ar_limits.specs.Run.{effects};
 ghost use Rattle.ar_bundle.specs.Bundle.{events_of};
-ghost use Rattle.ar_bundle.specs.Lawful.{AreHistoriesSoFar, numbers_of};
+ghost use Rattle.ar_bundle.specs.Finished.{AreFinished};
+ghost use Rattle.ar_bundle.specs.Lawful.{numbers_of};
 ghost use Rattle.ar_bundle.specs.Sound.{IsRun};
 ghost use Rattle.ar_facts.specs.Facts.{check_facts, facts_of_metrics, report_facts, run_facts};
 ghost use Rattle.ar_facts.specs.Private.Entries.{AreFound, facts_of_entries};
@@ -15,8 +16,7 @@ ghost use Rattle.ar_object.specs.Object.{array_of};
 ghost use Rattle.ar_object.specs.Written.{AddsMember, AddsValue};
 
 use crate::conditions::{NamedCondition, conditions};
-use crate::reports::replayed;
-use ar_bundle::{Bundle, Entry, Histories, MetricPart, RunPart};
+use ar_bundle::{Bundle, Entry, Finished, MetricPart, RunPart};
 use ar_facts::{phase_name, write_event, write_metric};
 use ar_limits::{Limits, RunState};
 use ar_object::{JsonText, VERSION};
@@ -55,52 +55,45 @@ fn put_events(json: &mut JsonText, bundle: &Bundle, entries: &[Entry])
 }
 
 fn write_run(
-    alloc: Global,
     json: &mut JsonText,
     bundle: &Bundle,
     run: &RunPart,
     entries: &[Entry],
-) -> Result<(), AllocError>
+    state: &RunState,
+)
     requires run { IsRun bundle.now.metrics run.now }
     requires found { AreFound bundle.now entries.now }
     requires effects { map (λ entry. entry.effect) entries.now ≡ effects run.now.limits
         (events_of bundle.now (numbers_of entries.now)) }
-    requires few { length entries.now ≤ most_events }
-    ensures { OnOk result (AddsValue (run_data (run_facts bundle.now run.now (numbers_of entries.now)))
-        json.old.written json.new.written) }
+    requires state { Replays run.now.limits (events_of bundle.now (numbers_of entries.now)) state.now }
+    ensures { AddsValue (run_data (run_facts bundle.now run.now (numbers_of entries.now)))
+        json.old.written json.new.written }
 {
-    let state = replayed(alloc, bundle, run, entries)?;
     json.begin_object();
     put_events(json, bundle, entries);
-    put_metrics(json, bundle.metrics(), run.limits.as_slice(), &state);
+    put_metrics(json, bundle.metrics(), run.limits.as_slice(), state);
     json.put_text("name", run.name.as_str());
     json.put_text("phase", phase_name(state.phase()));
-    json.end_object();
-    Ok(())
+    json.end_object()
 }
 
-#[tactic(auto, using(ar_facts::proofs::Runs::has_history, ar_facts::proofs::Runs::run_is_run))]
-fn put_runs(
-    alloc: Global,
-    json: &mut JsonText,
-    bundle: &Bundle,
-    histories: &Histories,
-) -> Result<(), AllocError>
-    requires { AreHistoriesSoFar bundle.now histories.now }
-    ensures { OnOk result (AddsMember (codes "runs") (array_of (map run_data
-        (report_facts bundle.now (map numbers_of histories.now)))) json.old.written json.new.written) }
+#[tactic(auto, using(ar_facts::proofs::Runs::has_history, ar_facts::proofs::Runs::run_is_run, ar_facts::proofs::States::state_inside, ar_bundle::proofs::SoFar::lawful_are_so_far))]
+fn put_runs(json: &mut JsonText, bundle: &Bundle, finished: &Finished)
+    requires { AreFinished bundle.now finished.now }
+    ensures { AddsMember (codes "runs") (array_of (map run_data
+        (report_facts bundle.now (map numbers_of finished.now.histories)))) json.old.written json.new.written }
 {
     json.begin_list("runs");
-    let histories = histories.runs();
+    let histories = finished.histories.runs();
     for (number, run) in bundle.runs().iter().enumerate() {
-        write_run(alloc, json, bundle, run, histories[number].entries())?;
+        let entries = histories[number].entries();
+        write_run(json, bundle, run, entries, &finished.states[number]);
     }
-    json.end_list();
-    Ok(())
+    json.end_list()
 }
 
-/// The report of a bundle's runs by their histories as one JSON object, with the facts of
-/// [`report`](crate::report).
+/// The report of a bundle's finished runs as one JSON object, with the facts of
+/// [`finished_report`](crate::finished_report).
 ///
 /// # Errors
 ///
@@ -108,15 +101,15 @@ fn put_runs(
 pub fn report_json(
     alloc: Global,
     bundle: &Bundle,
-    histories: &Histories,
+    finished: &Finished,
 ) -> Result<String, AllocError>
-    requires { AreHistoriesSoFar bundle.now histories.now }
+    requires { AreFinished bundle.now finished.now }
     ensures { IfOk result (λ text. IsJsonLine
-        (report_data (report_facts bundle.now (map numbers_of histories.now))) (string_bytes text)) }
+        (report_data (report_facts bundle.now (map numbers_of finished.now.histories))) (string_bytes text)) }
 {
     let mut json = JsonText::new(alloc);
     json.begin_object();
-    put_runs(alloc, &mut json, bundle, histories)?;
+    put_runs(&mut json, bundle, finished);
     json.put_count("version", VERSION);
     json.end_object();
     json.finish()

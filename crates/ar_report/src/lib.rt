@@ -6,14 +6,14 @@
 //! (`ar_facts/specs/Report`, `specs/Check`) and as a JSON object, which reads back as what was written
 //! (`ar_facts/specs/ReportData`).
 //!
-//! [`report`] and [`report_json`] print the histories of a bundle's runs, and [`run_phases`] returns the phases of
-//! the runs. [`check_text`] and [`check_json`] print the bounds of each condition, [`list_text`] its code, and
+//! [`finished_report`] and [`report_json`] print a bundle's finished runs; [`report`] prints histories, whose states it
+//! makes first. [`check_text`] and [`check_json`] print the bounds of each condition, [`list_text`] its code, and
 //! [`answer_json`] what one condition says.
 //!
 //! - `conditions`: the conditions of a bundle, and their lines
 //! - `json`: the objects of reports, conditions and answers
 //! - [`laws`]: that the object of a report determines its facts
-//! - `reports`: the lines of a report, and the phases of runs
+//! - `reports`: the lines of a report
 #![tactic(auto)]
 
 mod conditions;
@@ -23,4 +23,4 @@ mod reports;
 
 pub use conditions::{check_text, list_text};
 pub use json::{answer_json, check_json, report_json};
-pub use reports::{report, run_phases};
+pub use reports::{finished_report, report};

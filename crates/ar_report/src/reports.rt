@@ -1,18 +1,19 @@
-//! The lines of a report, and the phases of runs.
+//! The lines of a report.
 
 ghost use Rattle.std.specs.Prelude.{◌≡◌, ◌≤◌, ◌++◌, IfOk, OnOk, flat_map, length, map, string_bytes};
 ghost use Rattle.ar_limits.specs.Replay.{Replays, most_events};
 ghost use Rattle.ar_bundle.specs.Sound.{IsRun};
 ghost use Rattle.ar_bundle.specs.Bundle.{events_of};
+ghost use Rattle.ar_bundle.specs.Finished.{AreFinished, AreStatesOf};
 ghost use Rattle.ar_limits.specs.Run.{effects};
-ghost use Rattle.ar_facts.specs.Facts.{facts_of_metrics, phases_of, report_facts, run_facts};
+ghost use Rattle.ar_facts.specs.Facts.{facts_of_metrics, report_facts, run_facts};
 ghost use Rattle.ar_facts.specs.Private.Entries.{AreFound, facts_of_entries};
 ghost use Rattle.ar_bundle.specs.Lawful.{AreHistoriesSoFar, numbers_of};
 ghost use Rattle.ar_facts.specs.Report.{event_line, metric_line, report_text, run_text};
 
-use ar_bundle::{Bundle, Entry, Histories, MetricPart, RunPart};
+use ar_bundle::{Bundle, Entry, Finished, Histories, MetricPart, RunPart};
 use ar_facts::{put_event, put_metric, put_run_line};
-use ar_limits::{Limits, Phase, RunState};
+use ar_limits::{Limits, RunState};
 use std::alloc::{AllocError, Global};
 
 /// The lines of a run's metrics, as the run is.
@@ -55,7 +56,7 @@ fn put_events(out: &mut String, bundle: &Bundle, entries: &[Entry]) -> Result<()
 
 /// The state of a run after its entries.
 #[tactic(auto, using(ar_facts::proofs::Lines::is_found, ar_facts::proofs::Replaying::next_entry, ar_facts::proofs::Replaying::no_entry_left, ar_facts::proofs::Replaying::of_metric, ar_facts::proofs::Replaying::room_left))]
-pub(crate) fn replayed(
+fn replayed(
     alloc: Global,
     bundle: &Bundle,
     run: &RunPart,
@@ -73,28 +74,67 @@ pub(crate) fn replayed(
     Ok(state)
 }
 
+/// The states that the histories of a bundle's runs lead to.
+#[tactic(auto, using(ar_facts::proofs::Runs::has_history, ar_facts::proofs::Runs::run_is_run, ar_facts::proofs::States::no_states, ar_facts::proofs::States::next_state, ar_facts::proofs::States::all_states))]
+fn states_of(
+    alloc: Global,
+    bundle: &Bundle,
+    histories: &Histories,
+) -> Result<Vec<RunState>, AllocError>
+    requires { AreHistoriesSoFar bundle.now histories.now }
+    ensures { IfOk result (λ states. AreStatesOf bundle.now histories.now states.items) }
+{
+    let histories = histories.runs();
+    let mut states = Vec::with_capacity(alloc, histories.len())?;
+    for (number, run) in bundle.runs().iter().enumerate() {
+        states.push(replayed(alloc, bundle, run, histories[number].entries())?)?;
+    }
+    Ok(states)
+}
+
 /// The lines of a run.
 #[tactic(auto, using(ar_facts::proofs::Lines::run_is))]
 fn put_run(
-    alloc: Global,
     out: &mut String,
     bundle: &Bundle,
     run: &RunPart,
     entries: &[Entry],
+    state: &RunState,
 ) -> Result<(), AllocError>
     requires run { IsRun bundle.now.metrics run.now }
     requires found { AreFound bundle.now entries.now }
     requires effects { map (λ entry. entry.effect) entries.now ≡ effects run.now.limits
         (events_of bundle.now (numbers_of entries.now)) }
-    requires few { length entries.now ≤ most_events }
+    requires state { Replays run.now.limits (events_of bundle.now (numbers_of entries.now)) state.now }
     ensures { OnOk result
         (string_bytes out.new
         ≡ string_bytes out.old ++ run_text (run_facts bundle.now run.now (numbers_of entries.now))) }
 {
-    let state = replayed(alloc, bundle, run, entries)?;
     put_run_line(out, run, state.phase())?;
-    put_metrics(out, bundle.metrics(), run.limits.as_slice(), &state)?;
+    put_metrics(out, bundle.metrics(), run.limits.as_slice(), state)?;
     put_events(out, bundle, entries)
+}
+
+/// The report of a bundle's runs by their histories and the states that these lead to.
+#[tactic(auto, using(ar_facts::proofs::Runs::has_history, ar_facts::proofs::Runs::next_run, ar_facts::proofs::Runs::no_run, ar_facts::proofs::Runs::run_is_run, ar_facts::proofs::States::state_inside))]
+fn report_with(
+    alloc: Global,
+    bundle: &Bundle,
+    histories: &Histories,
+    states: &[RunState],
+) -> Result<String, AllocError>
+    requires so_far { AreHistoriesSoFar bundle.now histories.now }
+    requires states { AreStatesOf bundle.now histories.now states.now }
+    ensures { IfOk result
+        (λ text. string_bytes text ≡ report_text (report_facts bundle.now (map numbers_of histories.now))) }
+{
+    let mut out = String::new(alloc);
+    let histories = histories.runs();
+    for (number, run) in bundle.runs().iter().enumerate() {
+        let entries = histories[number].entries();
+        put_run(&mut out, bundle, run, entries, &states[number])?;
+    }
+    Ok(out)
 }
 
 /// The report of a bundle's runs by their histories, each of which has numbers of its own run, each
@@ -103,41 +143,29 @@ fn put_run(
 /// # Errors
 ///
 /// Out of memory alone.
-#[tactic(auto, using(ar_facts::proofs::Runs::has_history, ar_facts::proofs::Runs::next_run, ar_facts::proofs::Runs::no_run, ar_facts::proofs::Runs::run_is_run))]
 pub fn report(alloc: Global, bundle: &Bundle, histories: &Histories) -> Result<String, AllocError>
     requires { AreHistoriesSoFar bundle.now histories.now }
     ensures { IfOk result
         (λ text. string_bytes text ≡ report_text (report_facts bundle.now (map numbers_of histories.now))) }
 {
-    let mut out = String::new(alloc);
-    let histories = histories.runs();
-    for (number, run) in bundle.runs().iter().enumerate() {
-        put_run(alloc, &mut out, bundle, run, histories[number].entries())?;
-    }
-    Ok(out)
+    let states = states_of(alloc, bundle, histories)?;
+    report_with(alloc, bundle, histories, &states)
 }
 
-/// The phase of each of a bundle's runs, in their order, by their histories, as [`report`] takes them:
-/// that of the run's line in the report.
+/// The report of a bundle's finished runs, with the lines of [`report`].
 ///
 /// # Errors
 ///
 /// Out of memory alone.
-#[tactic(auto, using(ar_facts::proofs::Runs::has_history, ar_facts::proofs::Runs::next_phase, ar_facts::proofs::Runs::no_phase, ar_facts::proofs::Runs::run_is_run))]
-pub fn run_phases(
+#[tactic(auto, using(ar_bundle::proofs::SoFar::lawful_are_so_far))]
+pub fn finished_report(
     alloc: Global,
     bundle: &Bundle,
-    histories: &Histories,
-) -> Result<Vec<Phase>, AllocError>
-    requires { AreHistoriesSoFar bundle.now histories.now }
-    ensures { IfOk result
-        (λ phases. phases.items ≡ phases_of (report_facts bundle.now (map numbers_of histories.now))) }
+    finished: &Finished,
+) -> Result<String, AllocError>
+    requires { AreFinished bundle.now finished.now }
+    ensures { IfOk result (λ text. string_bytes text
+        ≡ report_text (report_facts bundle.now (map numbers_of finished.now.histories))) }
 {
-    let mut phases = Vec::new(alloc);
-    let histories = histories.runs();
-    for (number, run) in bundle.runs().iter().enumerate() {
-        let history = histories[number].entries();
-        phases.push(replayed(alloc, bundle, run, history)?.phase())?;
-    }
-    Ok(phases)
+    report_with(alloc, bundle, &finished.histories, &finished.states)
 }

@@ -1,6 +1,8 @@
 use Rattle.std.proofs.Common.{ap, arith, length, rules}
 use Rattle.ar_facts.proofs.Objects.{next_run, no_run}
+use Rattle.ar_bundle.proofs.SoFar.{lawful_are_so_far}
 use Rattle.ar_facts.proofs.Runs.{has_history}
+use Rattle.ar_facts.proofs.States.{read_state}
 use Rattle.ar_object.proofs.Texts.{all_remain, list_member}
 use Rattle.ar_report.proofs.json.put_runs.Goals as goal
 
@@ -10,7 +12,13 @@ loop-number-init c = all_remain _ _
 pub loop-number-preserved : goal.loop-number-preserved
 loop-number-preserved c =
     let next = next_run c.args.bundle.now c.args.bundle.now.runs c.runs-histories.result.now c.loop-number.number c.run-item.result c.index-histories-number.result in
-    search (rules, next, has_history)
+    let has = has_history c.args.bundle.now c.run-item.result c.args.finished.now.histories c.loop-number.number c.runs-run-items.ensures.bundle (lawful_are_so_far c.args.bundle.now c.args.finished.now.histories c.requires.lawful) in
+    search (rules, next, has)
+
+pub write_run-requires-clause-state : goal.write_run-requires-clause-state
+write_run-requires-clause-state c =
+    read_state c.args.bundle.now c.args.finished.now.histories c.args.finished.now.states.items _ _ c.loop-number.number c.run-item.result c.index-histories-number.result c.entries-entries.result.now c.index.result.now c.runs-run-items.ensures.bundle (lawful_are_so_far c.args.bundle.now c.args.finished.now.histories c.requires.lawful)
+    c.requires.states c.runs-run-items.ensures.runs c.runs-histories.ensures c.loop-number-test.true c.run-item.is c.index-histories-number.is c.entries-entries.ensures c.index.ensures
 
 pub returns : goal.returns
 returns c =

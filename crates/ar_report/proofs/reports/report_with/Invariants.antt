@@ -2,7 +2,7 @@ use Rattle.std.proofs.Common.{◌≡◌, ◌++◌, drop, flat_map, map, string_b
 use Rattle.ar_bundle.specs.Lawful.{numbers_of}
 use Rattle.ar_facts.specs.Facts.{facts_of_runs, report_facts}
 use Rattle.ar_facts.specs.Report.{report_text, run_text}
-use Rattle.ar_report.proofs.reports.report.Given as goal
+use Rattle.ar_report.proofs.reports.report_with.Given as goal
 
 -- the lines so far come before those of the runs that are left
 abbrev pub invariant-loop-number : goal.invariant-loop-number
