@@ -2,6 +2,7 @@
 
 ghost use Rattle.std.specs.Prelude.{◌≡◌, ◌<◌, ◌≤◌, ℕ, IfErr, IfOk, length};
 ghost use Rattle.ar_bundle.specs.Sound.{IsBundle};
+ghost use Rattle.ar_bundle.specs.Finished.{AreFinished};
 ghost use Rattle.ar_bundle.specs.Lawful.{AllRise, AreLawful};
 ghost use Rattle.ar_workers.specs.Joined.{IsNotLost};
 ghost use Rattle.ar_workers.specs.Private.Judging.{IsKnown};
@@ -10,20 +11,42 @@ use crate::error::WorkError;
 use crate::judging::{Judging, by_number, empty_desks};
 use crate::settling::settle_all;
 use ar_board::MOST_WORKERS;
-use ar_bundle::{Bundle, BundleName, Finding, Histories, Runs};
+use ar_bundle::{Bundle, BundleName, Finding, Finished, Histories, Runs};
 use ar_queue::{Gate, Unfinished};
 use std::alloc::{AllocError, Global};
 use std::marker::Brand;
 use std::sync::Wait;
 use std::thread::Threads;
 
-/// The histories of a bundle's runs, judged by n workers, each in a thread of its own, and applied
-/// in the order of the numbers: whatever the threads do, they are those of the plain run.
+/// A bundle's runs, judged by n workers, each in a thread of its own, and applied in the order of the
+/// numbers: whatever the threads do, their histories are those of the plain run.
 ///
 /// # Errors
 ///
 /// Where a thread couldn't be started, or out of memory, in this order.
 #[tactic(auto, using(crate::proofs::Ending::is_not_lost))]
+pub fn finish_ordered<G: Gate, R: Threads + Wait + Sync>(
+    rt: &R,
+    alloc: Global,
+    bundle: &Bundle,
+    workers: usize,
+    gate: &G,
+) -> Result<Finished, WorkError>
+    requires most { (1 ≤ workers) × (workers ≤ MOST_WORKERS) }
+    ensures finished { IfOk result (AreFinished bundle.now) }
+    // Numbers rise in each history.
+    ensures in_order { IfOk result (λ finished. AllRise finished.histories) }
+    // No number is ever lost.
+    ensures never_lost { IfErr result IsNotLost }
+{
+    Ok(ordered_named::<Brand, G, R>(rt, alloc, bundle, workers, gate)?)
+}
+
+/// The histories of the runs that [`finish_ordered`] gives.
+///
+/// # Errors
+///
+/// As those of `finish_ordered`.
 pub fn run_ordered<G: Gate, R: Threads + Wait + Sync>(
     rt: &R,
     alloc: Global,
@@ -38,7 +61,7 @@ pub fn run_ordered<G: Gate, R: Threads + Wait + Sync>(
     // No number is ever lost.
     ensures never_lost { IfErr result IsNotLost }
 {
-    Ok(ordered_named::<Brand, G, R>(rt, alloc, bundle, workers, gate)?)
+    Ok(finish_ordered(rt, alloc, bundle, workers, gate)?.histories)
 }
 
 /// The same, by a name of the bundle.
@@ -48,15 +71,15 @@ fn ordered_named<M, G, R>(
     bundle: &Bundle,
     workers: usize,
     gate: &G,
-) -> Result<Histories, Unfinished>
+) -> Result<Finished, Unfinished>
 where
     M: BundleName + Send + Sync,
     G: Gate,
     R: Threads + Wait + Sync,
     requires bundle { bundle.now ≡ M.bundle }
     requires some { 1 ≤ workers }
-    ensures lawful { IfOk result (AreLawful M.bundle) }
-    ensures in_order { IfOk result AllRise }
+    ensures finished { IfOk result (AreFinished M.bundle) }
+    ensures in_order { IfOk result (λ finished. AllRise finished.histories) }
 {
     let empty = empty_desks(alloc, workers)?;
     let settled = settle_all::<M, Judging<M>, G, R>(rt, alloc, bundle, empty, gate)?;
@@ -64,15 +87,15 @@ where
     Ok(applied(alloc, bundle, &findings)?)
 }
 
-/// The histories of a bundle's runs, where the finding of each number is known.
+/// A bundle's runs, where the finding of each number is known.
 fn applied(
     alloc: Global,
     bundle: &Bundle,
     findings: &[Option<Finding>],
-) -> Result<Histories, AllocError>
+) -> Result<Finished, AllocError>
     requires known { (number : ℕ) → number < length bundle.now.entries → IsKnown bundle.now findings.now number }
-    ensures lawful { IfOk result (AreLawful bundle.now) }
-    ensures in_order { IfOk result AllRise }
+    ensures finished { IfOk result (AreFinished bundle.now) }
+    ensures in_order { IfOk result (λ finished. AllRise finished.histories) }
 {
     let events = bundle.events();
     let mut runs = Runs::open(alloc, bundle)?;
@@ -82,5 +105,5 @@ fn applied(
         };
         runs.apply(bundle, number, finding)?;
     }
-    Ok(Histories::from(runs.histories))
+    Ok(runs.finish())
 }

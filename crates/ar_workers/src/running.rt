@@ -2,6 +2,7 @@
 
 ghost use Rattle.std.specs.Prelude.{◌≡◌, ◌≤◌, [], IfErr, IfOk, length};
 ghost use Rattle.std.specs.List.{AllByRecursion};
+ghost use Rattle.ar_bundle.specs.Finished.{AreFinished};
 ghost use Rattle.ar_bundle.specs.Lawful.{AreLawful};
 ghost use Rattle.ar_board.specs.Board.{receipts_of};
 ghost use Rattle.ar_board.specs.Locks.{AreOf};
@@ -11,20 +12,40 @@ use crate::error::WorkError;
 use crate::posting::{Posting, desks_of, seats_and_doubles};
 use crate::settling::settle_all;
 use ar_board::{Blanks, Board, LockNames, MOST_WORKERS, Seat};
-use ar_bundle::{Bundle, BundleName, Histories};
+use ar_bundle::{Bundle, BundleName, Finished, Histories};
 use ar_queue::{Gate, Unfinished};
 use std::alloc::Global;
 use std::marker::Brand;
 use std::sync::Wait;
 use std::thread::Threads;
 
-/// The histories of a bundle's runs, by n workers, each in a thread of its own: they take the
-/// bundle's numbers from one queue, judge them, and post them to one board.
+/// A bundle's runs, by n workers, each in a thread of its own: they take the bundle's numbers from one
+/// queue, judge them, and post them to one board.
 ///
 /// # Errors
 ///
 /// Where a thread couldn't be started, out of memory, or where a number was lost, in this
 /// order.
+pub fn finish_all<G: Gate, R: Threads + Wait + Sync>(
+    rt: &R,
+    alloc: Global,
+    bundle: &Bundle,
+    workers: usize,
+    gate: &G,
+) -> Result<Finished, WorkError>
+    requires most { (1 ≤ workers) × (workers ≤ MOST_WORKERS) }
+    ensures finished { IfOk result (AreFinished bundle.now) }
+    ensures cause { IfErr result (IsWorkCause bundle.now) }
+{
+    let blanks = Blanks::new(workers as u64);
+    run_named::<Brand, Brand, G, R>(rt, alloc, bundle, workers, blanks, gate)
+}
+
+/// The histories of the runs that [`finish_all`] gives.
+///
+/// # Errors
+///
+/// As those of `finish_all`.
 pub fn run_all<G: Gate, R: Threads + Wait + Sync>(
     rt: &R,
     alloc: Global,
@@ -36,8 +57,7 @@ pub fn run_all<G: Gate, R: Threads + Wait + Sync>(
     ensures lawful { IfOk result (AreLawful bundle.now) }
     ensures cause { IfErr result (IsWorkCause bundle.now) }
 {
-    let blanks = Blanks::new(workers as u64);
-    run_named::<Brand, Brand, G, R>(rt, alloc, bundle, workers, blanks, gate)
+    Ok(finish_all(rt, alloc, bundle, workers, gate)?.histories)
 }
 
 /// The same, by names of the bundle and of the board's locks: contracts of a board speak of it by names,
@@ -49,7 +69,7 @@ fn run_named<M, L, G, R>(
     workers: usize,
     blanks: Blanks,
     gate: &G,
-) -> Result<Histories, WorkError>
+) -> Result<Finished, WorkError>
 where
     M: BundleName + Send + Sync,
     L: LockNames + Send + Sync,
@@ -60,7 +80,7 @@ where
     requires most { (1 ≤ workers) × (workers ≤ MOST_WORKERS) }
     requires blanks { AreOf L.names L.parts blanks }
     requires parts { L.parts ≡ M.workers }
-    ensures lawful { IfOk result (AreLawful M.bundle) }
+    ensures finished { IfOk result (AreFinished M.bundle) }
     ensures cause { IfErr result (IsWorkCause M.bundle) }
 {
     let (board, seats) = Board::<M, L>::new(alloc, blanks, bundle, workers)?;
@@ -99,15 +119,15 @@ fn closed<M: BundleName, L: LockNames>(
     board: Board<'_, M, L>,
     seats: Vec<Seat<M, L>>,
     doubles: Vec<u64>,
-) -> Result<Histories, WorkError>
+) -> Result<Finished, WorkError>
     requires parts { L.parts ≡ M.workers }
     requires seats { length seats.items ≡ M.workers }
     requires each_once { NameEachOnce (length M.bundle.entries) (receipts_of seats.items) doubles.items }
-    ensures lawful { IfOk result (AreLawful M.bundle) }
+    ensures finished { IfOk result (AreFinished M.bundle) }
     ensures cause { IfErr result (IsWorkCause M.bundle) }
 {
-    match board.close(seats) {
-        Ok(histories) => Ok(histories),
+    match board.finish(seats) {
+        Ok(finished) => Ok(finished),
         Err(lost) => Err(WorkError::Lost { lost, doubles }),
     }
 }

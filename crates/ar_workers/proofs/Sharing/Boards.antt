@@ -37,6 +37,9 @@ history_sync = let entry = entry_sync in search (crosses, sendable) depth 20
 state_send : IsSend RunState.the_row
 state_send = search (crosses, sendable) depth 40
 
+state_sync : IsSync RunState.the_row
+state_sync = search (crosses, sendable) depth 40
+
 receipt_sync : IsSync Receipt.the_row
 receipt_sync = search (crosses, sendable) depth 20
 
@@ -64,9 +67,10 @@ module _ (M : RattleType) (g : BundleName.Ghosts M.Denot) (m : IsSend M) where
       pub board_sync : IsSync (Board.the_row ℓ M L g l)
       board_sync =
           let bundle = bundle_sync in
+          let state = state_sync in
           let history = history_sync in
           let receipt = receipt_sync in
-          search (crosses, sendable, cell_send, lock_send) depth 20
+          search (crosses, sendable, cell_send, lock_send) depth 40
 
       -- a desk is sent to its worker
       pub posting_send : (here : NamedLft) → IsSend (Posting.the_row here ℓ M L g l)

@@ -1,7 +1,7 @@
-use Rattle.std.proofs.Common.{None, rules, subst, sym, ◌∙◌, arith}
-use Rattle.ar_bundle.specs.Lawful.{AreLawful}
+use Rattle.std.proofs.Common.{None, rules, sym, ◌∙◌, arith}
 use Rattle.ar_workers.proofs.Judged.{known_inside, known_read}
-use Rattle.ar_bundle.proofs.Lawful.{all_rise, lawful_after}
+use Rattle.ar_bundle.proofs.Finishing.{finished_after}
+use Rattle.ar_bundle.proofs.Lawful.{all_rise}
 use Rattle.ar_workers.proofs.ordered.applied.Goals as goal
 
 pub bounds : goal.bounds
@@ -17,13 +17,12 @@ apply-requires-clause-finding c =
     let known = c.requires.known c.loop-number.number (let less = c.loop-number-test.true in let count = c.events-events.ensures.count in omega arith) in
     sym (known_read c.args.bundle.now c.loop-number.number c.args.findings.now None known) ∙ c.in-Some.is
 
-pub returns-clause-lawful : goal.returns-clause-lawful
-returns-clause-lawful c =
+pub returns-clause-finished : goal.returns-clause-finished
+returns-clause-finished c =
     let most = c.loop-number.invariant.0 in
     let least = c.loop-number-test.false in
     let count = c.events-events.ensures.count in
-    subst (AreLawful c.args.bundle.now) (sym c.from.ensures)
-    (lawful_after c.args.bundle.now c.loop-number.number c.loop-number.runs.states.items c.loop-number.runs.histories.items c.events-events.ensures.bundle (omega arith) c.loop-number.invariant.1)
+    finished_after c.args.bundle.now c.loop-number.number c.loop-number.runs c.finish.result c.events-events.ensures.bundle (omega arith) c.loop-number.invariant.1 c.finish.ensures.histories c.finish.ensures.states
 
 pub returns-clause-in_order : goal.returns-clause-in_order
 returns-clause-in_order c = search (rules, all_rise)

@@ -1,4 +1,4 @@
-use Rattle.ar_workers.proofs.ordered.run_ordered.Given as goal
+use Rattle.ar_workers.proofs.ordered.finish_ordered.Given as goal
 
 -- the queue is of the bundle, for n workers
 abbrev pub ghosts-ordered_named : goal.ghosts-ordered_named

@@ -1,5 +1,5 @@
 use Rattle.ar_board.specs.Locks.{lock_names}
-use Rattle.ar_workers.proofs.running.run_all.Given as goal
+use Rattle.ar_workers.proofs.running.finish_all.Given as goal
 
 -- the board is of the bundle, for n workers, and its ledgers are those of the blanks
 abbrev pub ghosts-run_named-M-BundleName : goal.ghosts-run_named-M-BundleName
