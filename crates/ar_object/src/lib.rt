@@ -1,11 +1,11 @@
-//! JSON of the program, as one line that reads back as the value (`specs/Line`).
+//! JSON that the program writes: one value in one line, which reads back as the value (`specs/Line`).
 //!
-//! A [`JsonText`] is written one token after another, unless memory was refused, which it returns at the end
-//! (`specs/Written`). An [`Object`] has the members that were put into it in the same way (`specs/Object`);
-//! [`json_line`] writes it.
+//! A [`JsonText`] has the tokens that were written into it (`specs/Written`), and no tree beneath: for long reports.
+//! An [`Object`] has the members that were put into it (`specs/Object`), in any order, and [`json_line`] writes it.
+//! Both return refused memory at the end.
 //!
 //! - `object`: an object that is being made; `line`: its line
-//! - `written`: JSON that is being written into a text
+//! - `written`: a text that is being written
 #![tactic(auto)]
 
 mod line;

@@ -1,4 +1,4 @@
-//! JSON that is written one token after another.
+//! The text of a JSON value, which is written one token after another.
 
 ghost use Rattle.std.specs.Prelude.{◌≡◌, ◌≤◌, [], ◌∷◌, IfOk, decimal, option_map, string_bytes};
 ghost use Rattle.std.specs.Result.{ForOk};
@@ -15,12 +15,13 @@ ghost use Rattle.ar_object.specs.Written.{AddsMember, AddsTokens, AddsValue, Has
 use json::{Token, Writer};
 use std::alloc::{AllocError, Global};
 
-/// JSON that is being written into a text. A refused growth of memory is returned at the end, as by
+/// The text of a JSON value that is being written. A refused growth of memory is returned at the end, as by
 /// [`Object`](crate::Object). The caller puts the members of an object in the byte order of their names.
 #[derive(Drop)]
 pub struct JsonText {
     /// What was written, unless memory was refused.
     pub written: Result<Writer, AllocError>,
+    // Nothing stands before it.
     ghost alone: { ForOk written (λ writer. writer.before ≡ []) },
 }
 
@@ -92,20 +93,7 @@ impl JsonText {
         self.put_token(Token::EndArray)
     }
 
-    // ---- values
-
-    pub fn put_null_value(&mut self)
-        ensures { AddsValue null self.old.written self.new.written }
-    {
-        self.put_token(Token::Null)
-    }
-
-    pub fn put_text_value(&mut self, text: &str)
-        ensures { AddsValue (string text.now) self.old.written self.new.written }
-    {
-        self.put_token(Token::String(text))
-    }
-
+    /// A count without a name, as an item of a list.
     pub fn put_count_value(&mut self, count: u64)
         ensures { AddsValue (count_data count) self.old.written self.new.written }
     {
@@ -149,7 +137,7 @@ impl JsonText {
         ensures { AddsMember name.now (string text.now) self.old.written self.new.written }
     {
         self.put_key(name);
-        self.put_text_value(text)
+        self.put_token(Token::String(text))
     }
 
     /// Puts a text, or null where there is none.
@@ -165,7 +153,7 @@ impl JsonText {
 
     // ---- the text
 
-    /// The one value that was written, in a line.
+    /// The value that was written, in a line.
     ///
     /// # Errors
     ///

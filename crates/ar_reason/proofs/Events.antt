@@ -1,27 +1,18 @@
 -- The events of a history that are asked for, one after another.
-use Rattle.std.proofs.Common.{◌≡◌, ◌<◌, ◌≤◌, ℕ, ◌+◌, List, [], ◌∷◌, ◌++◌, drop, flat_map, length, map, Some, refl, sym, ◌∙◌, ap}
+use Rattle.std.proofs.Common.{◌≡◌, ◌<◌, ◌≤◌, ℕ, ◌+◌, List, ◌++◌, drop, flat_map, length, map, Some, refl, sym, ◌∙◌, ap}
 use Rattle.std.specs.Prelude.{slice_index_or}
 use Rattle.std.proofs.lemmas.Option.{slice_get_read}
 use Rattle.serde_json.specs.Data.{Data}
-use Rattle.serde_json.specs.View.{view}
-use Rattle.serde_json.specs.declared.value.Value.{Value as Json}
 use Rattle.ar_bundle.proofs.Bundles.{of_each}
 use Rattle.ar_bundle.specs.Bundle.{Bundle, finding_at}
 use Rattle.ar_bundle.specs.declared.bundle.EventPart.{EventPart}
 use Rattle.ar_facts.proofs.Lines.{found_inside, two}
 use Rattle.ar_facts.specs.Facts.{event_facts}
-use Rattle.ar_reason.proofs.Lists.{next_object, next_text, no_object_left, no_text_left}
+use Rattle.ar_reason.proofs.Lists.{next_text, no_text_left}
 use Rattle.ar_reason.specs.Private.Found.{AreFoundSteps, IsFoundStep}
-use Rattle.ar_reason.specs.Reason.{Given, conditions_of, given_of, reason_if_there, reason_of, reason_with}
-use Rattle.ar_reason.specs.ReasonData.{change_data, evaluated_data, given_misfit, given_value, reason_data}
-use Rattle.ar_reason.specs.ReasonData as objects
+use Rattle.ar_reason.specs.Reason.{conditions_of, given_of, reason_if_there, reason_of, reason_with}
 use Rattle.ar_reason.specs.ReasonText.{change_line, condition_text, given_line, reason_text, why_line}
-use Rattle.ar_reason.specs.Why.{why_of, why_words}
-use Rattle.ar_facts.specs.ReportData.{event_data}
-use Rattle.ar_object.specs.Object.{text_or_null}
-use Rattle.serde_json.specs.Data.{null}
-use Rattle.std.specs.Option.{option_map_or}
-use Rattle.std.specs.Prelude.{option_map}
+use Rattle.ar_reason.specs.Why.{why_of}
 use Rattle.ar_facts.specs.Report.{event_line}
 use Rattle.ar_reason.specs.declared.steps.Step.{Step}
 
@@ -43,23 +34,9 @@ reason_written document bundle step part before lined given judged all is read l
     (two before lined given _ _ line its_given) (two given judged all _ _ conditions outcome)
     ∙ ap (λ reason. before ++ reason_text reason) (sym (reason_is document bundle step part is read))
 
--- and its object
-pub reason_data_is : (document : Data) (bundle : Bundle) (step : Step) (part : EventPart) (given : Given) (conditions : List Data) (counts event misfit why value : Data) → finding_at bundle step.entry.number ≡ Some step.entry.finding → part ≡ slice_index_or bundle.entries step.entry.number part → given ≡ given_of document bundle step.entry.number part.what
-    → conditions ≡ map evaluated_data (conditions_of bundle part.run part.what) → counts ≡ option_map_or change_data step.change null → event ≡ event_data (event_facts bundle step.entry.number step.entry.effect) → misfit ≡ text_or_null (given_misfit given) → why ≡ text_or_null (option_map why_words (why_of step)) → value ≡ text_or_null (given_value given)
-    → objects.reason_members conditions counts event misfit why value ≡ reason_data (reason_of document bundle step)
-reason_data_is document bundle step part given conditions counts event misfit why value is read given_is conditions_are counts_are event_is misfit_is why_is value_is =
-    rw (conditions_are, counts_are, event_is, misfit_is, why_is, value_is, given_is) (ap reason_data (sym (reason_is document bundle step part is read)))
-
 pub next_step : (document : Data) (bundle : Bundle) (steps : List Step) (index : ℕ) (step : Step) (written total : List ℕ) → index < length steps → step ≡ slice_index_or steps index step → written ++ flat_map reason_text (map (reason_of document bundle) (drop index steps)) ≡ total
     → (written ++ reason_text (reason_of document bundle step)) ++ flat_map reason_text (map (reason_of document bundle) (drop (index + 1) steps)) ≡ total
 next_step document bundle = next_text (reason_of document bundle) reason_text
 
 pub no_step_left : (document : Data) (bundle : Bundle) (steps : List Step) (index : ℕ) (written total : List ℕ) → length steps ≤ index → written ++ flat_map reason_text (map (reason_of document bundle) (drop index steps)) ≡ total → written ≡ total
 no_step_left document bundle = no_text_left (reason_of document bundle) reason_text
-
-pub next_reason : (document : Data) (bundle : Bundle) (steps : List Step) (index : ℕ) (step : Step) (found : List Json) (new : Json) (total : List Data) → index < length steps → step ≡ slice_index_or steps index step → view new ≡ reason_data (reason_of document bundle step)
-    → map view found ++ map reason_data (map (reason_of document bundle) (drop index steps)) ≡ total → map view (found ++ new ∷ []) ++ map reason_data (map (reason_of document bundle) (drop (index + 1) steps)) ≡ total
-next_reason document bundle = next_object (reason_of document bundle) reason_data
-
-pub no_reason_left : (document : Data) (bundle : Bundle) (steps : List Step) (index : ℕ) (found : List Json) (total : List Data) → length steps ≤ index → map view found ++ map reason_data (map (reason_of document bundle) (drop index steps)) ≡ total → map view found ≡ total
-no_reason_left document bundle = no_object_left (reason_of document bundle) reason_data

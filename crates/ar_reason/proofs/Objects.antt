@@ -1,14 +1,13 @@
--- What is written of reasons reads back: no number is a float, and no object is deep.
-use Rattle.std.proofs.Common.{◌≡◌, ◌≤◌, ℕ, suc, max, false, List, Option, Some, None, refl, arith}
+-- No object of reasons is deep.
+use Rattle.std.proofs.Common.{◌≡◌, ◌≤◌, ℕ, suc, max, List, Option, Some, None, refl, arith}
 use Rattle.std.specs.Prelude.{option_map}
 use Rattle.std.specs.Option.{option_map_or}
 use Rattle.std.proofs.Math.Nat.{max-le}
 use Rattle.serde_json.specs.Data.{depth, null}
 use Rattle.serde_json.specs.Read.{max_depth}
-use Rattle.serde_json.specs.Written.{has_float}
 use Rattle.ar_explain.specs.Lines.{Line}
-use Rattle.ar_facts.proofs.Objects.{finding_exact, finding_flat, metric_exact, metric_flat}
-use Rattle.ar_object.proofs.Values.{above, count_exact, count_flat, none_deep, none_float, one_deep, text_exact, text_flat, two_deep}
+use Rattle.ar_facts.proofs.Objects.{finding_flat, metric_flat}
+use Rattle.ar_object.proofs.Values.{above, count_flat, none_deep, one_deep, text_flat, two_deep}
 use Rattle.ar_facts.specs.Facts.{MetricFacts}
 use Rattle.ar_facts.specs.ReportData.{event_data}
 use Rattle.ar_object.specs.Object.{count_data, text_or_null}
@@ -17,33 +16,6 @@ use Rattle.ar_reason.specs.ReasonData.{change_data, evaluated_data, failure_if_t
 use Rattle.ar_reason.specs.Waiting.{waits_for}
 use Rattle.ar_reason.specs.Why.{why_words}
 use Rattle.ar_reason.specs.declared.steps.Change.{Change}
-
--- ---- no float
-
-part_exact : (line : Line) → has_float (part_data line) ≡ false
-part_exact line = rw (text_exact (failure_if_there line.said), none_float count_data (λ n. refl) line.items, text_exact (operands_if_there line.said), text_exact (value_if_there line.said)) refl
-
-evaluated_exact : (condition : EvaluatedCondition) → has_float (evaluated_data condition) ≡ false
-evaluated_exact condition = rw (text_exact (value_if_there condition.answer), text_exact (failure_if_there condition.answer), text_exact (operands_if_there condition.answer), none_float part_data part_exact condition.parts.lines) refl
-
-change_exact : (change : Option Change) → has_float (option_map_or change_data change null) ≡ false
-change_exact (Some change) = rw (count_exact change.limits.count) refl
-change_exact None = refl
-
-reason_exact : (reason : Reason) → has_float (reason_data reason) ≡ false
-reason_exact reason =
-    rw (none_float evaluated_data evaluated_exact reason.conditions, change_exact reason.change, finding_exact reason.event reason.event.finding, text_exact (given_misfit reason.given), text_exact (option_map why_words reason.why), text_exact (given_value reason.given)) refl
-
-waiting_exact : (metric : MetricFacts) → has_float (waiting_data metric) ≡ false
-waiting_exact metric = rw (metric_exact metric, text_exact (waits_for metric.phase metric.limits metric.counts)) refl
-
-run_exact : (run : RunReasons) → has_float (run_reasons_data run) ≡ false
-run_exact run = rw (none_float reason_data reason_exact run.reasons, none_float waiting_data waiting_exact run.metrics) refl
-
-pub reasons_exact : (runs : List RunReasons) → has_float (reasons_data runs) ≡ false
-reasons_exact runs = rw (none_float run_reasons_data run_exact runs) refl
-
--- ---- not deep
 
 text_small : (found : Option (List ℕ)) (levels : ℕ) → depth (text_or_null found) ≤ levels
 text_small found levels = let is = text_flat found in omega arith

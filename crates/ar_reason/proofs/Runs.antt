@@ -2,19 +2,19 @@
 use Rattle.std.proofs.Common.{◌≡◌, ◌<◌, ◌≤◌, ℕ, suc, ◌+◌, Bool, true, false, List, [], ◌∷◌, ◌++◌, drop, flat_map, length, map, refl, sym, ◌∙◌, ap, subst, arith}
 use Rattle.std.specs.Prelude.{if◌then◌else◌, slice_index_or}
 use Rattle.serde_json.specs.Data.{Data}
-use Rattle.serde_json.specs.View.{view}
-use Rattle.serde_json.specs.declared.value.Value.{Value as Json}
 use Rattle.ar_limits.specs.Replay.{Replays, Standing}
 use Rattle.ar_limits.specs.declared.limits.Limits.{Limits}
 use Rattle.ar_bundle.specs.Bundle.{Bundle, events_of}
 use Rattle.ar_bundle.specs.Lawful.{numbers_of}
 use Rattle.ar_bundle.specs.declared.bundle.RunPart.{RunPart}
 use Rattle.ar_bundle.specs.declared.history.Entry.{Entry}
-use Rattle.ar_facts.proofs.Lines.{no_item, no_more, none_left, one_more, one_seen, read_at, three}
+use Rattle.ar_facts.proofs.Lines.{no_more, none_left, one_more, read_at, three}
 use Rattle.ar_facts.specs.Facts.{facts_of_metrics}
 use Rattle.ar_facts.specs.Private.Entries.{AreFound}
 use Rattle.ar_facts.specs.Report.{run_line}
 use Rattle.ar_facts.specs.ReportData.{run_with}
+use Rattle.ar_object.proofs.Texts.{Remains, next_value, none_remains}
+use Rattle.ar_object.specs.Written.{AddsValue, AddsValues, Output}
 use Rattle.ar_reason.specs.Private.Found.{AreFoundSteps, IsFoundStep}
 use Rattle.ar_reason.specs.Reason.{RunReasons, reason_of, reasons_from, run_reasons}
 use Rattle.ar_reason.specs.ReasonData.{reason_data, run_reasons_data, waiting_data}
@@ -55,10 +55,9 @@ text_is document bundle chosen run entries state steps before lined reasoned all
     three before lined reasoned all (run_line run.name state.phase) (flat_map reason_text (map (reason_of document bundle) steps)) (flat_map metric_lines (facts_of_metrics bundle.metrics run.limits state.phases state.counts)) line reasons metrics
     ∙ ap (λ (facts : RunReasons). before ++ run_reasons_text facts) (sym (reasons_are document bundle chosen run entries state steps replays is))
 
-pub data_is : (document : Data) (bundle : Bundle) (chosen : Chosen) (run : RunPart) (entries : List Entry) (state : Standing) (steps : List Step) (metrics events : List Data) → Replays run.limits (events_of bundle (numbers_of entries)) state → steps ≡ chosen_steps bundle chosen run.limits entries
-    → metrics ≡ map waiting_data (facts_of_metrics bundle.metrics run.limits state.phases state.counts) → events ≡ map reason_data (map (reason_of document bundle) steps) → run_with run.name state.phase metrics events ≡ run_reasons_data (run_reasons document bundle chosen run entries)
-data_is document bundle chosen run entries state steps metrics events replays is metrics_are events_are =
-    rw (metrics_are, events_are) (ap run_reasons_data (sym (reasons_are document bundle chosen run entries state steps replays is)))
+pub data_is : (document : Data) (bundle : Bundle) (chosen : Chosen) (run : RunPart) (entries : List Entry) (state : Standing) (steps : List Step) → Replays run.limits (events_of bundle (numbers_of entries)) state → steps ≡ chosen_steps bundle chosen run.limits entries
+    → run_with run.name state.phase (map waiting_data (facts_of_metrics bundle.metrics run.limits state.phases state.counts)) (map reason_data (map (reason_of document bundle) steps)) ≡ run_reasons_data (run_reasons document bundle chosen run entries)
+data_is document bundle chosen run entries state steps replays is = ap run_reasons_data (sym (reasons_are document bundle chosen run entries state steps replays is))
 
 -- ---- one after another
 
@@ -99,17 +98,17 @@ pub no_run_left : (document : Data) (bundle : Bundle) (chosen : Chosen) (runs : 
 no_run_left document bundle chosen runs histories index written total past so_far =
     no_more run_reasons_text (reasons_from document bundle chosen index (drop index runs) (drop index histories)) written total (none_there document bundle chosen runs histories index past) so_far
 
-pub next_object : (document : Data) (bundle : Bundle) (chosen : Chosen) (runs : List RunPart) (histories : List (List Entry)) (index : ℕ) (run : RunPart) (history : List Entry) (found : List Json) (new : Json) (total : List Data) → index < length runs → run ≡ slice_index_or runs index run → index < length histories → history ≡ slice_index_or histories index history → is_chosen_run bundle chosen index ≡ true
-    → view new ≡ run_reasons_data (run_reasons document bundle chosen run history)
-    → map view found ++ map run_reasons_data (reasons_from document bundle chosen index (drop index runs) (drop index histories)) ≡ total → map view (found ++ new ∷ []) ++ map run_reasons_data (reasons_from document bundle chosen (index + 1) (drop (index + 1) runs) (drop (index + 1) histories)) ≡ total
-next_object document bundle chosen runs histories index run history found new total inside read history_inside history_read is made so_far =
-    one_seen view run_reasons_data _ _ (run_reasons document bundle chosen run history) found new total (read_chosen document bundle chosen runs histories index run history inside read history_inside history_read is) made so_far
+pub next_object : (document : Data) (bundle : Bundle) (chosen : Chosen) (runs : List RunPart) (histories : List (List Entry)) (index : ℕ) (run : RunPart) (history : List Entry) (all : List Data) (start now next : Output) → index < length runs → run ≡ slice_index_or runs index run → index < length histories → history ≡ slice_index_or histories index history → is_chosen_run bundle chosen index ≡ true
+    → AddsValue (run_reasons_data (run_reasons document bundle chosen run history)) now next
+    → Remains (map run_reasons_data (reasons_from document bundle chosen index (drop index runs) (drop index histories))) all start now → Remains (map run_reasons_data (reasons_from document bundle chosen (index + 1) (drop (index + 1) runs) (drop (index + 1) histories))) all start next
+next_object document bundle chosen runs histories index run history all start now next inside read history_inside history_read is adds remains =
+    next_value run_reasons_data _ _ (run_reasons document bundle chosen run history) all start now next (read_chosen document bundle chosen runs histories index run history inside read history_inside history_read is) adds remains
 
-pub object_passed : (document : Data) (bundle : Bundle) (chosen : Chosen) (runs : List RunPart) (histories : List (List Entry)) (index : ℕ) (run : RunPart) (history : List Entry) (found : List Json) (total : List Data) → index < length runs → run ≡ slice_index_or runs index run → index < length histories → history ≡ slice_index_or histories index history → is_chosen_run bundle chosen index ≡ false
-    → map view found ++ map run_reasons_data (reasons_from document bundle chosen index (drop index runs) (drop index histories)) ≡ total → map view found ++ map run_reasons_data (reasons_from document bundle chosen (index + 1) (drop (index + 1) runs) (drop (index + 1) histories)) ≡ total
-object_passed document bundle chosen runs histories index run history found total inside read history_inside history_read is so_far =
-    ap (λ left. map view found ++ map run_reasons_data left) (sym (read_unchosen document bundle chosen runs histories index run history inside read history_inside history_read is)) ∙ so_far
+pub object_passed : (document : Data) (bundle : Bundle) (chosen : Chosen) (runs : List RunPart) (histories : List (List Entry)) (index : ℕ) (run : RunPart) (history : List Entry) (all : List Data) (start now : Output) → index < length runs → run ≡ slice_index_or runs index run → index < length histories → history ≡ slice_index_or histories index history → is_chosen_run bundle chosen index ≡ false
+    → Remains (map run_reasons_data (reasons_from document bundle chosen index (drop index runs) (drop index histories))) all start now → Remains (map run_reasons_data (reasons_from document bundle chosen (index + 1) (drop (index + 1) runs) (drop (index + 1) histories))) all start now
+object_passed document bundle chosen runs histories index run history all start now inside read history_inside history_read is remains =
+    subst (λ left. Remains (map run_reasons_data left) all start now) (read_unchosen document bundle chosen runs histories index run history inside read history_inside history_read is) remains
 
-pub no_object_left : (document : Data) (bundle : Bundle) (chosen : Chosen) (runs : List RunPart) (histories : List (List Entry)) (index : ℕ) (found : List Json) (total : List Data) → length runs ≤ index → map view found ++ map run_reasons_data (reasons_from document bundle chosen index (drop index runs) (drop index histories)) ≡ total → map view found ≡ total
-no_object_left document bundle chosen runs histories index found total past so_far =
-    no_item run_reasons_data (reasons_from document bundle chosen index (drop index runs) (drop index histories)) (map view found) total (none_there document bundle chosen runs histories index past) so_far
+pub no_object_left : (document : Data) (bundle : Bundle) (chosen : Chosen) (runs : List RunPart) (histories : List (List Entry)) (index : ℕ) (all : List Data) (start now : Output) → length runs ≤ index
+    → Remains (map run_reasons_data (reasons_from document bundle chosen index (drop index runs) (drop index histories))) all start now → AddsValues all start now
+no_object_left document bundle chosen runs histories index all start now past remains = none_remains run_reasons_data _ all start now (none_there document bundle chosen runs histories index past) remains

@@ -1,6 +1,6 @@
 //! Reasons as one JSON object.
 
-ghost use Rattle.std.specs.Prelude.{◌≡◌, ◌≤◌, ◌∷◌, ◌++◌, [], ℕ, IfOk, List, OnOk, Some, codes, false, length, map, option_map, slice_get, string_bytes};
+ghost use Rattle.std.specs.Prelude.{◌≡◌, ◌≤◌, IfOk, OnOk, Some, codes, length, map, option_map, string_bytes};
 ghost use Rattle.std.specs.List.{list_any};
 ghost use Rattle.std.specs.Option.{option_map_or};
 ghost use Rattle.serde_json.specs.Data.{null};
@@ -12,14 +12,15 @@ ghost use Rattle.ar_bundle.specs.Lawful.{AreHistoriesSoFar};
 ghost use Rattle.ar_bundle.specs.Sound.{IsRun};
 ghost use Rattle.ar_judge.specs.Verdict.{sample_view};
 ghost use Rattle.ar_explain.specs.Views.{explanation_view, line_view, said_view};
-ghost use Rattle.ar_facts.specs.Facts.{facts_of_metrics, metric_facts};
+ghost use Rattle.ar_facts.specs.Facts.{event_facts, facts_of_metrics, metric_facts};
 ghost use Rattle.ar_facts.specs.Private.Entries.{AreFound};
 ghost use Rattle.ar_object.specs.Line.{IsJsonLine};
-ghost use Rattle.ar_object.specs.Object.{count_data, text_or_null};
+ghost use Rattle.ar_object.specs.Object.{array_of, count_data, text_or_null};
+ghost use Rattle.ar_object.specs.Written.{AddsMember, AddsValue, AddsValues};
 ghost use Rattle.ar_tree.specs.Views.{typed_view};
 ghost use Rattle.ar_show.specs.PartText.{shown_part};
-ghost use Rattle.ar_reason.specs.Reason.{conditions_by, conditions_of, conditions_on, evaluated_if_there, evaluated_with, has_failed, reason_of, reasons_of, run_reasons};
-ghost use Rattle.ar_reason.specs.ReasonData.{change_data, evaluated_data, evaluation_data, failure_if_there, given_misfit, given_value, operands_if_there, part_data, reason_data, reason_members, reasons_data, run_reasons_data, value_if_there, waiting_data, was_needed};
+ghost use Rattle.ar_reason.specs.Reason.{conditions_by, conditions_of, conditions_on, evaluated_if_there, evaluated_with, has_failed, reason_of, reason_with, reasons_of, run_reasons};
+ghost use Rattle.ar_reason.specs.ReasonData.{change_data, evaluated_data, evaluation_data, failure_if_there, given_misfit, given_value, operands_if_there, part_data, reason_data, reasons_data, run_reasons_data, value_if_there, waiting_data, was_needed};
 ghost use Rattle.ar_reason.specs.Views.{given_view};
 ghost use Rattle.ar_reason.specs.Waiting.{waits_for};
 ghost use Rattle.ar_reason.specs.Why.{why_of, why_words};
@@ -33,12 +34,12 @@ use crate::parts::{failure_name, is_failure};
 use crate::steps::{Change, Step, is_chosen_run, steps_of};
 use crate::waiting::push_waiting;
 use crate::why::{push_why, why_of};
-use ar_bundle::{Bundle, Entry, Histories, MetricPart, RunPart, What};
+use ar_bundle::{Bundle, Entry, EventPart, Histories, MetricPart, RunPart, What};
 use ar_explain::{Evaluation, Line, Said, tell};
-use ar_facts::{counts_json, event_json, limits_json, metric_json, run_object, runs_object};
+use ar_facts::{phase_name, write_counts, write_event, write_limits, write_metric};
 use ar_judge::{Judge, Sample, SharedCondition, Which};
 use ar_limits::{Counts, Limits, Phase, RunState};
-use ar_object::{Object, json_line};
+use ar_object::{JsonText, VERSION};
 use ar_show::push_part;
 use ar_tree::Typed;
 use ar_value::value::Value;
@@ -89,109 +90,95 @@ fn shown(alloc: Global, part: &Typed) -> Result<String, AllocError>
     Ok(text)
 }
 
-#[tactic(auto, using(crate::proofs::Lists::next_number, crate::proofs::Lists::no_number_left))]
-fn numbers_json(alloc: Global, numbers: &[usize]) -> Result<Vec<Json>, AllocError>
-    ensures { IfOk result (λ found. map view found.items ≡ map count_data numbers.now) }
+/// Writes the items that a part has lines of.
+fn put_items(json: &mut JsonText, items: &[usize])
+    ensures { AddsMember (codes "items") (array_of (map count_data items.now)) json.old.written json.new.written }
 {
-    let mut found = Vec::new(alloc);
-    for number in numbers {
-        found.push(Json::from(*number as u64))?;
+    json.begin_list("items");
+    for item in items {
+        json.put_count_value(*item as u64);
     }
-    Ok(found)
+    json.end_list()
 }
 
-fn part_json(alloc: Global, line: &Line<'_>) -> Result<Json, AllocError>
-    ensures { IfOk result (λ json. view json ≡ part_data (line_view line.now)) }
+fn write_part(alloc: Global, json: &mut JsonText, line: &Line<'_>) -> Result<(), AllocError>
+    ensures { OnOk result (AddsValue (part_data (line_view line.now)) json.old.written json.new.written) }
 {
-    let items = numbers_json(alloc, &line.items)?;
     let part = shown(alloc, line.part)?;
-    let mut object = Object::new(alloc);
-    object.put_text_if_there("failure", failure_if_there(&line.said));
-    object.put_list("items", items);
-    object.put_flag("needed", was_needed(&line.said));
-    object.put_text_if_there("on", operands_if_there(&line.said));
-    object.put_text("part", &part);
-    object.put_text_if_there("value", value_if_there(&line.said));
-    object.finish()
-}
-
-#[tactic(auto, using(crate::proofs::Lists::next_part, crate::proofs::Lists::no_part_left))]
-fn parts_json(alloc: Global, lines: &[Line<'_>]) -> Result<Vec<Json>, AllocError>
-    ensures { IfOk result (λ found. map view found.items ≡ map part_data (map line_view lines.now)) }
-{
-    let mut found = Vec::new(alloc);
-    for line in lines {
-        found.push(part_json(alloc, line)?)?;
-    }
-    Ok(found)
-}
-
-/// A condition with the parts and the answer of its evaluation.
-fn evaluation_json(
-    alloc: Global,
-    which: &str,
-    text: &str,
-    evaluation: &Evaluation<'_>,
-) -> Result<Json, AllocError>
-    ensures { IfOk result (λ json. view json
-        ≡ evaluation_data which.now text.now (explanation_view evaluation.now.parts)
-        (said_view evaluation.now.answer)) }
-{
-    let parts = parts_json(alloc, &evaluation.parts.lines)?;
-    let mut object = Object::new(alloc);
-    object.put_text_if_there("answer", value_if_there(&evaluation.answer));
-    object.put_text("condition", which);
-    object.put_text_if_there("failure", failure_if_there(&evaluation.answer));
-    object.put_count("leftOut", evaluation.parts.left_out);
-    object.put_text_if_there("on", operands_if_there(&evaluation.answer));
-    object.put_list("parts", parts);
-    object.put_text("text", text);
-    object.finish()
-}
-
-fn push_evaluation(
-    alloc: Global,
-    found: &mut Vec<Json>,
-    condition: &NamedTree<'_>,
-    evaluation: &Evaluation<'_>,
-) -> Result<(), AllocError>
-    ensures { OnOk result (map view found.new.items ≡ map view found.old.items
-        ++ evaluation_data condition.now.which.now condition.now.text.now (explanation_view evaluation.now.parts)
-        (said_view evaluation.now.answer) ∷ []) }
-{
-    found.push(evaluation_json(alloc, condition.which, condition.text, evaluation)?)?;
+    json.begin_object();
+    json.put_text_if_there("failure", failure_if_there(&line.said));
+    put_items(json, &line.items);
+    json.put_flag("needed", was_needed(&line.said));
+    json.put_text_if_there("on", operands_if_there(&line.said));
+    json.put_text("part", &part);
+    json.put_text_if_there("value", value_if_there(&line.said));
+    json.end_object();
     Ok(())
 }
 
-/// Adds the object of a condition's tree on a value, and returns whether the condition has failed there.
-fn push_tree(
+fn put_parts(alloc: Global, json: &mut JsonText, lines: &[Line<'_>]) -> Result<(), AllocError>
+    ensures { OnOk result (AddsMember (codes "parts") (array_of (map part_data (map line_view lines.now)))
+        json.old.written json.new.written) }
+{
+    json.begin_list("parts");
+    for line in lines {
+        write_part(alloc, json, line)?;
+    }
+    json.end_list();
+    Ok(())
+}
+
+/// Writes a condition with the parts and the answer of its evaluation.
+fn write_evaluation(
     alloc: Global,
-    found: &mut Vec<Json>,
+    json: &mut JsonText,
+    which: &str,
+    text: &str,
+    evaluation: &Evaluation<'_>,
+) -> Result<(), AllocError>
+    ensures { OnOk result (AddsValue (evaluation_data which.now text.now (explanation_view evaluation.now.parts)
+        (said_view evaluation.now.answer)) json.old.written json.new.written) }
+{
+    json.begin_object();
+    json.put_text_if_there("answer", value_if_there(&evaluation.answer));
+    json.put_text("condition", which);
+    json.put_text_if_there("failure", failure_if_there(&evaluation.answer));
+    json.put_count("leftOut", evaluation.parts.left_out);
+    json.put_text_if_there("on", operands_if_there(&evaluation.answer));
+    put_parts(alloc, json, &evaluation.parts.lines)?;
+    json.put_text("text", text);
+    json.end_object();
+    Ok(())
+}
+
+/// Writes a condition's tree on a value, and returns whether the condition has failed there.
+fn write_tree(
+    alloc: Global,
+    json: &mut JsonText,
     condition: &NamedTree<'_>,
     value: &Value,
 ) -> Result<bool, AllocError>
-    ensures json { OnOk result (map view found.new.items ≡ map view found.old.items
-        ++ evaluated_data (evaluated_with condition.now.which.now condition.now.text.now (value_view value.now)
-        (typed_view condition.now.tree.now)) ∷ []) }
+    ensures json { OnOk result (AddsValue (evaluated_data (evaluated_with condition.now.which.now
+        condition.now.text.now (value_view value.now) (typed_view condition.now.tree.now)))
+        json.old.written json.new.written) }
     ensures fails { IfOk result (λ failed. failed ≡ has_failed (evaluated_with condition.now.which.now
         condition.now.text.now (value_view value.now) (typed_view condition.now.tree.now))) }
 {
     let evaluation = tell(alloc, condition.tree, value)?;
-    push_evaluation(alloc, found, condition, &evaluation)?;
+    write_evaluation(alloc, json, condition.which, condition.text, &evaluation)?;
     Ok(is_failure(&evaluation.answer))
 }
 
-/// Adds the object of a condition on a value, where it is there, and returns whether it has failed.
-fn push_condition(
+/// Writes a condition on a value, where it is there, and returns whether it has failed.
+fn write_condition(
     alloc: Global,
-    found: &mut Vec<Json>,
+    json: &mut JsonText,
     which: &str,
     condition: Option<&SharedCondition>,
     value: &Value,
 ) -> Result<bool, AllocError>
-    ensures json { OnOk result (map view found.new.items ≡ map view found.old.items
-        ++ map evaluated_data (evaluated_if_there which.now (value_view value.now)
-        (option_map (λ condition. condition.now) condition.entry))) }
+    ensures json { OnOk result (AddsValues (map evaluated_data (evaluated_if_there which.now (value_view value.now)
+        (option_map (λ condition. condition.now) condition.entry))) json.old.written json.new.written) }
     ensures fails { IfOk result (λ failed. failed ≡ list_any has_failed (evaluated_if_there which.now
         (value_view value.now) (option_map (λ condition. condition.now) condition.entry))) }
 {
@@ -206,56 +193,63 @@ fn push_condition(
                 text: condition.text(),
                 tree: &tree,
             };
-            push_tree(alloc, found, &named, value)
+            write_tree(alloc, json, &named, value)
         }
         None => Ok(false),
     }
 }
 
-/// What a judge's conditions say of a value.
-fn conditions_json(alloc: Global, judge: &Judge, value: &Value) -> Result<Vec<Json>, AllocError>
-    ensures { IfOk result
-        (λ found. map view found.items ≡ map evaluated_data (conditions_on judge.now (value_view value.now))) }
+/// Writes what a judge's conditions say of a value.
+fn write_conditions(
+    alloc: Global,
+    json: &mut JsonText,
+    judge: &Judge,
+    value: &Value,
+) -> Result<(), AllocError>
+    ensures { OnOk result (AddsValues (map evaluated_data (conditions_on judge.now (value_view value.now)))
+        json.old.written json.new.written) }
 {
-    let mut found = Vec::new(alloc);
     let success = judge.condition(Which::Success);
-    if !push_condition(alloc, &mut found, "success", success, value)? {
+    if !write_condition(alloc, json, "success", success, value)? {
         let failure = judge.condition(Which::Failure);
-        push_condition(alloc, &mut found, "failure", failure, value)?;
+        write_condition(alloc, json, "failure", failure, value)?;
     }
-    Ok(found)
+    Ok(())
 }
 
 // ---- events
 
-fn judged_json(
+fn write_judged(
     alloc: Global,
+    json: &mut JsonText,
     judge: Option<&Judge>,
     sample: &Sample,
-) -> Result<Vec<Json>, AllocError>
-    ensures { IfOk result (λ found. map view found.items ≡ map evaluated_data
-        (conditions_by (option_map (λ judge. judge.now) judge.entry) (sample_view sample.now))) }
+) -> Result<(), AllocError>
+    ensures { OnOk result (AddsValues (map evaluated_data
+        (conditions_by (option_map (λ judge. judge.now) judge.entry) (sample_view sample.now)))
+        json.old.written json.new.written) }
 {
     match (judge, sample) {
-        (Some(judge), Sample::Measured(value)) => conditions_json(alloc, judge, value),
-        (_, Sample::Measured(_) | Sample::Misfit(_) | Sample::Provider) => Ok(Vec::new(alloc)),
+        (Some(judge), Sample::Measured(value)) => write_conditions(alloc, json, judge, value),
+        (_, Sample::Measured(_) | Sample::Misfit(_) | Sample::Provider) => Ok(()),
     }
 }
 
-fn evaluated_json(
+fn write_evaluated(
     alloc: Global,
+    json: &mut JsonText,
     bundle: &Bundle,
     run: usize,
     what: &What,
-) -> Result<Vec<Json>, AllocError>
-    ensures { IfOk result
-        (λ found. map view found.items ≡ map evaluated_data (conditions_of bundle.now run what.now)) }
+) -> Result<(), AllocError>
+    ensures { OnOk result (AddsValues (map evaluated_data (conditions_of bundle.now run what.now))
+        json.old.written json.new.written) }
 {
     match what {
         What::Measure(metric, sample) => {
-            judged_json(alloc, judge_at(bundle, run, *metric), sample)
+            write_judged(alloc, json, judge_at(bundle, run, *metric), sample)
         }
-        What::Stop => Ok(Vec::new(alloc)),
+        What::Stop => Ok(()),
     }
 }
 
@@ -277,178 +271,236 @@ fn given_misfit(given: &Given) -> Option<&str>
     }
 }
 
-fn change_json(alloc: Global, change: Option<Change>) -> Result<Json, AllocError>
-    ensures { IfOk result (λ json. view json ≡ option_map_or change_data change null) }
+fn write_change(json: &mut JsonText, change: Change)
+    ensures { AddsValue (change_data change) json.old.written json.new.written }
 {
-    let Some(change) = change else {
-        return Ok(Json::Null);
-    };
-    let mut object = Object::new(alloc);
-    object.put("after", counts_json(alloc, change.after.counts));
-    object.put("before", counts_json(alloc, change.before.counts));
-    object.put("limits", limits_json(alloc, change.limits));
-    object.finish()
+    json.begin_object();
+    json.put_key("after");
+    write_counts(json, change.after.counts);
+    json.put_key("before");
+    write_counts(json, change.before.counts);
+    json.put_key("limits");
+    write_limits(json, change.limits);
+    json.end_object()
 }
 
-fn why_json(alloc: Global, step: Step) -> Result<Json, AllocError>
-    ensures { IfOk result (λ json. view json ≡ text_or_null (option_map why_words (why_of step))) }
+/// Writes the counts of an event's metric before and after it, or null for a stop.
+fn put_change(json: &mut JsonText, change: Option<Change>)
+    ensures { AddsMember (codes "counts") (option_map_or change_data change null) json.old.written json.new.written }
+{
+    let Some(change) = change else {
+        return json.put_null("counts");
+    };
+    json.put_key("counts");
+    write_change(json, change)
+}
+
+/// Writes why an event closed its run or came late, or null.
+fn put_why(alloc: Global, json: &mut JsonText, step: Step) -> Result<(), AllocError>
+    ensures { OnOk result (AddsMember (codes "reason") (text_or_null (option_map why_words (why_of step)))
+        json.old.written json.new.written) }
 {
     let Some(why) = why_of(step) else {
-        return Ok(Json::Null);
+        json.put_null("reason");
+        return Ok(());
     };
     let mut words = String::new(alloc);
     push_why(&mut words, why)?;
-    Json::try_from_str(alloc, &words)
+    json.put_text("reason", &words);
+    Ok(())
+}
+
+/// Writes what led to an event, for which the provider gave this.
+fn write_reason_of(
+    alloc: Global,
+    json: &mut JsonText,
+    bundle: &Bundle,
+    step: Step,
+    part: &EventPart,
+    given: &Given,
+) -> Result<(), AllocError>
+    requires { finding_at bundle.now step.entry.number ≡ Some step.entry.finding }
+    ensures { OnOk result (AddsValue (reason_data (reason_with
+        (event_facts bundle.now step.entry.number step.entry.effect) (given_view given.now)
+        (conditions_of bundle.now part.now.run part.now.what) step)) json.old.written json.new.written) }
+{
+    json.begin_object();
+    json.begin_list("conditions");
+    write_evaluated(alloc, json, bundle, part.run, &part.what)?;
+    json.end_list();
+    put_change(json, step.change);
+    json.put_key("event");
+    write_event(json, bundle, step.entry);
+    json.put_text_if_there("misfit", given_misfit(given));
+    put_why(alloc, json, step)?;
+    json.put_text_if_there("value", given_value(given));
+    json.end_object();
+    Ok(())
 }
 
 #[tactic(auto, using(ar_facts::proofs::Lines::found_inside))]
-fn reason_json(
+fn write_reason(
     alloc: Global,
+    json: &mut JsonText,
     document: &Json,
     bundle: &Bundle,
     step: Step,
-) -> Result<Json, AllocError>
+) -> Result<(), AllocError>
     requires { finding_at bundle.now step.entry.number ≡ Some step.entry.finding }
-    ensures { IfOk result
-        (λ json. view json ≡ reason_data (reason_of (view document.now) bundle.now step)) }
+    ensures { OnOk result (AddsValue (reason_data (reason_of (view document.now) bundle.now step))
+        json.old.written json.new.written) }
 {
     let number = step.entry.number;
     let part = &bundle.entries()[number as usize];
     let given = given_of(alloc, document, bundle, number, &part.what)?;
-    let conditions = evaluated_json(alloc, bundle, part.run, &part.what)?;
-    let mut object = Object::new(alloc);
-    object.put_list("conditions", conditions);
-    object.put("counts", change_json(alloc, step.change));
-    object.put("event", event_json(alloc, bundle, step.entry));
-    object.put_text_if_there("misfit", given_misfit(&given));
-    object.put("reason", why_json(alloc, step));
-    object.put_text_if_there("value", given_value(&given));
-    object.finish()
+    write_reason_of(alloc, json, bundle, step, part, &given)
 }
 
-#[tactic(auto, using(crate::proofs::Events::next_reason, crate::proofs::Events::no_reason_left, crate::proofs::Events::is_found))]
-fn reasons_list(
+/// Writes what led to each event that is asked for.
+fn put_reasons(
     alloc: Global,
+    json: &mut JsonText,
     document: &Json,
     bundle: &Bundle,
     steps: &[Step],
-) -> Result<Vec<Json>, AllocError>
+) -> Result<(), AllocError>
     requires { AreFoundSteps bundle.now steps.now }
-    ensures { IfOk result (λ found. map view found.items
-        ≡ map reason_data (map (reason_of (view document.now) bundle.now) steps.now)) }
+    ensures { OnOk result (AddsMember (codes "events")
+        (array_of (map reason_data (map (reason_of (view document.now) bundle.now) steps.now)))
+        json.old.written json.new.written) }
 {
-    let mut found = Vec::new(alloc);
+    json.begin_list("events");
     for step in steps {
-        found.push(reason_json(alloc, document, bundle, *step)?)?;
+        write_reason(alloc, json, document, bundle, *step)?;
     }
-    Ok(found)
+    json.end_list();
+    Ok(())
 }
 
 // ---- metrics
 
-fn waits_json(
+/// Writes what a metric waits for, or null where it is complete.
+fn put_waits(
     alloc: Global,
+    json: &mut JsonText,
     phase: Phase,
     limits: Limits,
     counts: Counts,
-) -> Result<Json, AllocError>
-    ensures { IfOk result (λ json. view json ≡ text_or_null (waits_for phase limits counts)) }
+) -> Result<(), AllocError>
+    ensures { OnOk result (AddsMember (codes "waitsFor") (text_or_null (waits_for phase limits counts))
+        json.old.written json.new.written) }
 {
     if phase.is_complete() {
-        return Ok(Json::Null);
+        json.put_null("waitsFor");
+        return Ok(());
     }
     let mut words = String::new(alloc);
     push_waiting(&mut words, limits, counts)?;
-    Json::try_from_str(alloc, &words)
+    json.put_text("waitsFor", &words);
+    Ok(())
 }
 
-fn waiting_json(
+fn write_waiting(
     alloc: Global,
+    json: &mut JsonText,
     metric: &MetricPart,
     limits: Limits,
     phase: Phase,
     counts: Counts,
-) -> Result<Json, AllocError>
-    ensures { IfOk result
-        (λ json. view json ≡ waiting_data (metric_facts metric.now limits phase counts)) }
+) -> Result<(), AllocError>
+    ensures { OnOk result (AddsValue (waiting_data (metric_facts metric.now limits phase counts))
+        json.old.written json.new.written) }
 {
-    let mut object = Object::new(alloc);
-    object.put("metric", metric_json(alloc, metric, limits, phase, counts));
-    object.put("waitsFor", waits_json(alloc, phase, limits, counts));
-    object.finish()
+    json.begin_object();
+    json.put_key("metric");
+    write_metric(json, metric, limits, phase, counts);
+    put_waits(alloc, json, phase, limits, counts)?;
+    json.end_object();
+    Ok(())
 }
 
-/// A run's metrics, as the run is.
-#[tactic(auto, using(crate::proofs::Metrics::next_waiting, crate::proofs::Metrics::no_waiting_left))]
-fn metrics_list(
+/// Writes a run's metrics, as the run is.
+fn put_metrics(
     alloc: Global,
+    json: &mut JsonText,
     metrics: &[MetricPart],
     limits: &[Limits],
     state: &RunState,
-) -> Result<Vec<Json>, AllocError>
+) -> Result<(), AllocError>
     requires limits { length limits.now ≡ length metrics.now }
     requires metrics { length state.now.limits ≡ length metrics.now }
-    ensures { IfOk result (λ found. map view found.items
-        ≡ map waiting_data (facts_of_metrics metrics.now limits.now state.now.phases state.now.counts)) }
+    ensures { OnOk result (AddsMember (codes "metrics") (array_of (map waiting_data
+        (facts_of_metrics metrics.now limits.now state.now.phases state.now.counts)))
+        json.old.written json.new.written) }
 {
-    let mut found = Vec::new(alloc);
+    json.begin_list("metrics");
     for (number, metric) in metrics.iter().enumerate() {
         let (phase, counts) = (state.metric_phase(number), state.counts(number));
-        found.push(waiting_json(alloc, metric, limits[number], phase, counts)?)?;
+        write_waiting(alloc, json, metric, limits[number], phase, counts)?;
     }
-    Ok(found)
+    json.end_list();
+    Ok(())
 }
 
 // ---- runs
 
-#[tactic(auto, using(crate::proofs::Runs::data_is, crate::proofs::Runs::are_found))]
-fn run_json(
+#[tactic(auto, using(crate::proofs::Runs::are_found))]
+fn write_run(
     alloc: Global,
+    json: &mut JsonText,
     document: &Json,
     bundle: &Bundle,
     chosen: Chosen,
     run: &RunPart,
     entries: &[Entry],
-) -> Result<Json, AllocError>
+) -> Result<(), AllocError>
     requires run { IsRun bundle.now.metrics run.now }
     requires found { AreFound bundle.now entries.now }
     requires few { length entries.now ≤ most_events }
-    ensures { IfOk result (λ json. view json
-        ≡ run_reasons_data (run_reasons (view document.now) bundle.now chosen run.now entries.now)) }
+    ensures { OnOk result (AddsValue
+        (run_reasons_data (run_reasons (view document.now) bundle.now chosen run.now entries.now))
+        json.old.written json.new.written) }
 {
     let found = steps_of(alloc, bundle, chosen, run, entries)?;
-    let metrics = metrics_list(alloc, bundle.metrics(), run.limits.as_slice(), &found.state)?;
-    let events = reasons_list(alloc, document, bundle, &found.steps)?;
-    run_object(
+    json.begin_object();
+    put_reasons(alloc, json, document, bundle, &found.steps)?;
+    put_metrics(
         alloc,
-        run.name.as_str(),
-        found.state.phase(),
-        metrics,
-        events,
-    )
+        json,
+        bundle.metrics(),
+        run.limits.as_slice(),
+        &found.state,
+    )?;
+    json.put_text("name", run.name.as_str());
+    json.put_text("phase", phase_name(found.state.phase()));
+    json.end_object();
+    Ok(())
 }
 
-#[tactic(auto, using(ar_facts::proofs::Runs::has_history, ar_facts::proofs::Runs::run_is_run, crate::proofs::Runs::next_object, crate::proofs::Runs::object_passed, crate::proofs::Runs::no_object_left))]
-fn runs_list(
+/// Writes the runs that are asked for.
+#[tactic(auto, using(ar_facts::proofs::Runs::has_history, ar_facts::proofs::Runs::run_is_run))]
+fn put_runs(
     alloc: Global,
+    json: &mut JsonText,
     document: &Json,
     bundle: &Bundle,
     histories: &Histories,
     chosen: Chosen,
-) -> Result<Vec<Json>, AllocError>
+) -> Result<(), AllocError>
     requires { AreHistoriesSoFar bundle.now histories.now }
-    ensures { IfOk result (λ found. map view found.items
-        ≡ map run_reasons_data (reasons_of (view document.now) bundle.now chosen histories.now)) }
+    ensures { OnOk result (AddsMember (codes "runs") (array_of (map run_reasons_data
+        (reasons_of (view document.now) bundle.now chosen histories.now))) json.old.written json.new.written) }
 {
-    let mut found = Vec::new(alloc);
+    json.begin_list("runs");
     let histories = histories.runs();
     for (number, run) in bundle.runs().iter().enumerate() {
         let entries = histories[number].entries();
         if is_chosen_run(bundle, chosen, number) {
-            found.push(run_json(alloc, document, bundle, chosen, run, entries)?)?;
+            write_run(alloc, json, document, bundle, chosen, run, entries)?;
         }
     }
-    Ok(found)
+    json.end_list();
+    Ok(())
 }
 
 /// What led to the verdict and the effect of each event that is asked for, as one JSON object.
@@ -467,7 +519,10 @@ pub fn reasons_json(
     ensures { IfOk result (λ text. IsJsonLine
         (reasons_data (reasons_of (view document.now) bundle.now chosen histories.now)) (string_bytes text)) }
 {
-    let runs = runs_list(alloc, document, bundle, histories, chosen)?;
-    let object = runs_object(alloc, runs)?;
-    json_line(alloc, &object)
+    let mut json = JsonText::new(alloc);
+    json.begin_object();
+    put_runs(alloc, &mut json, document, bundle, histories, chosen)?;
+    json.put_count("version", VERSION);
+    json.end_object();
+    json.finish()
 }

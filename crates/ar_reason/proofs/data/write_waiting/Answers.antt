@@ -1,0 +1,6 @@
+use Rattle.std.proofs.Common.{refl}
+use Rattle.ar_object.proofs.Texts.{last, named, object_is, then}
+use Rattle.ar_reason.proofs.data.write_waiting.Goals as goal
+
+pub returns : goal.returns
+returns c = object_is c.begin_object.ensures (then (named c.put_key.ensures c.write_metric.ensures) (then c.in_ok-put_waits.ensures (last c.end_object.ensures))) refl
