@@ -2,7 +2,7 @@
 use Rattle.std.proofs.Common.{◌≡◌, ◌<◌, ◌≤◌, ℕ, zero, suc, ◌+◌, List, [], ◌∷◌, ◌++◌, length, map, drop, flat_map, Option, Some, None, refl, sym, ◌∙◌, ap, arith, append-nil}
 use Rattle.std.specs.Prelude.{Err, Ok, OnOk, Result, option_and_then, option_map, slice_get, slice_index_or, unwrap_or}
 use Rattle.std.proofs.Math.Seq.{drop-nil}
-use Rattle.std.proofs.lemmas.List.{append_assoc, map_push}
+use Rattle.std.proofs.lemmas.List.{append_assoc}
 use Rattle.std.proofs.lemmas.Option.{slice_get_read, slice_get_within}
 use Rattle.ar_limits.specs.Replay.{Replays, Standing}
 use Rattle.ar_limits.specs.Run.{effects}
@@ -56,12 +56,6 @@ one_item found_of left later x found total new is same so_far =
 
 pub no_item : {A B : Type 0} (found_of : A → B) (left : List A) (found total : List B) → left ≡ [] → found ++ map found_of left ≡ total → found ≡ total
 no_item found_of left found total is so_far = sym (append-nil found) ∙ (ap (λ left. found ++ map found_of left) (sym is) ∙ so_far)
-
--- the same of what is kept in memory and seen by a view
-pub one_seen : {A B C : Type 0} (view : C → B) (found_of : A → B) (left later : List A) (x : A) (found : List C) (new : C) (total : List B) → left ≡ x ∷ later → view new ≡ found_of x → map view found ++ map found_of left ≡ total
-    → map view (found ++ new ∷ []) ++ map found_of later ≡ total
-one_seen view found_of left later x found new total is same so_far =
-    ap (λ front. front ++ map found_of later) (map_push view found new) ∙ one_item found_of left later x (map view found) total (view new) is same so_far
 
 -- ---- texts, one after another
 

@@ -3,7 +3,7 @@
 ghost use Rattle.std.specs.Prelude.{◌≡◌, IfOk, map, option_map};
 ghost use Rattle.serde_json.specs.Data.{Data, Members, boolean, no_members, null, object, put, string};
 ghost use Rattle.serde_json.specs.View.{view};
-ghost use Rattle.ar_object.specs.Object.{Has, array_of, count_data, count_or_null, text_or_null};
+ghost use Rattle.ar_object.specs.Object.{Has, array_of, count_data, text_or_null};
 
 use serde_json::{Map, Value as Json};
 use std::alloc::{AllocError, Global};
@@ -64,17 +64,6 @@ impl Object {
             → Has self.new.made (put name.now (count_data count) members) }
     {
         self.put(name, Ok(Json::from(count)))
-    }
-
-    /// Puts a count, or null where there is none.
-    pub fn put_count_if_there(&mut self, name: &str, count: Option<u32>)
-        ensures { (members : Members) → Has self.old.made members
-            → Has self.new.made (put name.now (count_or_null count) members) }
-    {
-        match count {
-            Some(count) => self.put_count(name, count as u64),
-            None => self.put_null(name),
-        }
     }
 
     pub fn put_text(&mut self, name: &str, text: &str)
