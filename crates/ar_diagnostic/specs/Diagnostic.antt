@@ -37,16 +37,17 @@ abbrev pub spot_text : Option Spot → Text
 spot_text None = []
 spot_text (Some spot) = codes ", byte " ++ decimal spot.offset
 
--- a rule comes before what was found
+-- a rule is said before what was found
 abbrev pub rule_part : Option Expected → Option Text
 rule_part (Some (Rule rule)) = Some rule
 rule_part expected = None
 
+-- what was found, against a rule or in place of a thing
 abbrev pub found_part : Option Expected → (found : Option Text) → Option Text
 found_part (Some (Rule rule)) found = option_map (λ found. codes "found " ++ found) found
 found_part expected found = found
 
--- and what is expected after it
+-- a thing that is expected is said after what was found in its place
 abbrev pub thing_part : Option Expected → Option Text
 thing_part (Some (Thing thing)) = Some (codes "expected " ++ thing)
 thing_part expected = None

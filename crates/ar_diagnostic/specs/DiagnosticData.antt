@@ -6,7 +6,7 @@ use Rattle.serde_json.specs.Data.{Data, boolean, member, no_members, null, objec
 use Rattle.ar_object.specs.Object.{array_of, count_data, count_or_null, text_or_null, version}
 use Rattle.ar_value.specs.Terms.{Text}
 use Rattle.ar_diagnostic.specs.Diagnostic.{refusal_text_of, warning_text_of}
-use Rattle.ar_diagnostic.specs.Place.{entry_part_name, flag_name, member_name, pointer, condition_field_name}
+use Rattle.ar_diagnostic.specs.Place.{entry_part_name, flag_name, member_name, metric_field_name, pointer, template_field_name}
 use Rattle.ar_diagnostic.specs.declared.diagnostic.Diagnostic.{Diagnostic}
 use Rattle.ar_diagnostic.specs.declared.diagnostic.Expected.{Expected}
 use Rattle.ar_diagnostic.specs.declared.diagnostic.Expected.TheVariants.{Thing, Rule}
@@ -25,7 +25,7 @@ use Rattle.ar_diagnostic.specs.declared.place.Within.TheVariants as within
 
 abbrev pub metric_part : Within → Text
 metric_part within.Template = codes "manifest"
-metric_part within.Manifest = codes "manifest"
+metric_part (within.Manifest field) = codes "manifest"
 metric_part within.Shapes = codes "shapes"
 
 -- the part of the input
@@ -42,14 +42,12 @@ place_part place = codes "manifest"
 
 abbrev pub place_run : Place → Option Item
 place_run (places.Run item) = Some item
-place_run (places.BoundMetric run metric) = Some run
-place_run (places.Condition run metric field) = Some run
+place_run (places.BoundMetric run metric field) = Some run
 place_run place = None
 
 abbrev pub place_metric : Place → Option Item
 place_metric (places.Metric part item) = Some item
-place_metric (places.BoundMetric run metric) = Some metric
-place_metric (places.Condition run metric field) = Some metric
+place_metric (places.BoundMetric run metric field) = Some metric
 place_metric place = None
 
 abbrev pub place_argument : Place → Option Item
@@ -67,11 +65,18 @@ spec_field spec.Spec = None
 spec_field spec.Args = Some (codes "args")
 spec_field spec.DryRun = Some (codes "dryRun")
 
+abbrev pub within_field : Within → Option Text
+within_field (within.Manifest field) = option_map metric_field_name field
+within_field part = None
+
 abbrev pub place_field : Place → Option Text
 place_field (places.CommandLine flag) = option_map flag_name flag
+place_field (places.Template field) = Some (template_field_name field)
 place_field (places.Spec part) = spec_field part
+place_field (places.UnnamedDryRun number) = Some (codes "metricName")
 place_field (places.DryRunName number) = Some (codes "metricName")
-place_field (places.Condition run metric field) = Some (condition_field_name field)
+place_field (places.Metric part item) = within_field part
+place_field (places.BoundMetric run metric field) = option_map metric_field_name field
 place_field (places.EntryMember number part) = Some (entry_part_name part)
 place_field place = None
 

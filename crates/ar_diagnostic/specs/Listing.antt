@@ -17,7 +17,7 @@ abbrev pub others_counted : (count : ℕ) → Text
 others_counted count =
     if nat_lt most_listed count then codes " and " ++ (decimal (count - most_listed) ++ codes " more") else []
 
--- things of a kind: the names among the first, and how many more there are of a number in all
+-- of `count` things of a kind: the names of the first ones, and how many things there are past those that are listed
 abbrev pub those_listed : (kinds : Text) → (names : List Text) → (count : ℕ) → Text
 those_listed kinds names count =
     if count == 0 then codes "there are no " ++ kinds

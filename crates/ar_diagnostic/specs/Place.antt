@@ -11,12 +11,14 @@ use Rattle.ar_diagnostic.specs.declared.place.Flag.TheVariants as flags
 use Rattle.ar_diagnostic.specs.declared.place.Item.{Item}
 use Rattle.ar_diagnostic.specs.declared.place.Member.{Member}
 use Rattle.ar_diagnostic.specs.declared.place.Member.TheVariants as members
+use Rattle.ar_diagnostic.specs.declared.place.MetricField.{MetricField}
+use Rattle.ar_diagnostic.specs.declared.place.MetricField.TheVariants as metric_field
 use Rattle.ar_diagnostic.specs.declared.place.Place.{Place}
 use Rattle.ar_diagnostic.specs.declared.place.Place.TheVariants as places
 use Rattle.ar_diagnostic.specs.declared.place.SpecPart.{SpecPart}
 use Rattle.ar_diagnostic.specs.declared.place.SpecPart.TheVariants as spec
-use Rattle.ar_diagnostic.specs.declared.place.ConditionField.{ConditionField}
-use Rattle.ar_diagnostic.specs.declared.place.ConditionField.TheVariants as condition
+use Rattle.ar_diagnostic.specs.declared.place.TemplateField.{TemplateField}
+use Rattle.ar_diagnostic.specs.declared.place.TemplateField.TheVariants as template_field
 use Rattle.ar_diagnostic.specs.declared.place.Within.{Within}
 use Rattle.ar_diagnostic.specs.declared.place.Within.TheVariants as within
 
@@ -38,9 +40,22 @@ member_name members.Manifest = codes "manifest"
 member_name members.Runs = codes "runs"
 member_name members.Measurements = codes "measurements"
 
-abbrev pub condition_field_name : ConditionField → Text
-condition_field_name condition.Success = codes "successCondition"
-condition_field_name condition.Failure = codes "failureCondition"
+abbrev pub template_field_name : TemplateField → Text
+template_field_name template_field.Version = codes "apiVersion"
+template_field_name template_field.Kind = codes "kind"
+template_field_name template_field.Name = codes "name"
+template_field_name template_field.Metrics = codes "metrics"
+
+abbrev pub metric_field_name : MetricField → Text
+metric_field_name metric_field.Name = codes "name"
+metric_field_name metric_field.SuccessCondition = codes "successCondition"
+metric_field_name metric_field.FailureCondition = codes "failureCondition"
+metric_field_name metric_field.Interval = codes "interval"
+metric_field_name metric_field.Count = codes "count"
+metric_field_name metric_field.FailureLimit = codes "failureLimit"
+metric_field_name metric_field.InconclusiveLimit = codes "inconclusiveLimit"
+metric_field_name metric_field.ConsecutiveErrorLimit = codes "consecutiveErrorLimit"
+metric_field_name metric_field.ConsecutiveSuccessLimit = codes "consecutiveSuccessLimit"
 
 abbrev pub entry_part_name : EntryPart → Text
 entry_part_name entries.Run = codes "run"
@@ -64,13 +79,20 @@ spec_text spec.DryRun = codes "manifest: spec.dryRun"
 
 abbrev pub within_text : Within → Text
 within_text within.Template = []
-within_text within.Manifest = codes "manifest: "
+within_text (within.Manifest field) = codes "manifest: "
 within_text within.Shapes = codes "shapes: "
 
+-- after a metric: the words that follow name any other field that is refused
+abbrev pub condition_named : Option MetricField → Text
+condition_named (Some metric_field.SuccessCondition) = codes ", successCondition"
+condition_named (Some metric_field.FailureCondition) = codes ", failureCondition"
+condition_named field = []
+
 -- a metric, with the arguments of a run
-abbrev pub bound_metric_text : (run metric : Item) → Text
-bound_metric_text run metric =
-    item_place_text (codes "run") run ++ (codes ", " ++ item_place_text (codes "metric") metric)
+abbrev pub bound_metric_text : (run metric : Item) → Option MetricField → Text
+bound_metric_text run metric field =
+    item_place_text (codes "run") run
+    ++ (codes ", " ++ (item_place_text (codes "metric") metric ++ condition_named field))
 
 abbrev pub entry_place_text : (number : ℕ) → Text
 entry_place_text number = codes "measurements[" ++ (decimal number ++ codes "]")
@@ -81,14 +103,14 @@ place_text (places.CommandLine (Some flag)) = codes "command line, " ++ flag_nam
 place_text places.CommandNumber = codes "command"
 place_text places.Document = codes "document"
 place_text (places.Member member) = member_name member
+place_text (places.Template field) = codes "manifest"
 place_text (places.Spec part) = spec_text part
 place_text (places.Argument item) = codes "manifest: " ++ item_place_text (codes "argument") item
+place_text (places.UnnamedDryRun number) = codes "manifest: spec.dryRun"
 place_text (places.DryRunName number) = codes "manifest: spec.dryRun[" ++ (decimal number ++ codes "].metricName")
 place_text (places.Metric part item) = within_text part ++ item_place_text (codes "metric") item
 place_text (places.Run item) = codes "runs[" ++ (decimal item.number ++ codes "]")
-place_text (places.BoundMetric run metric) = bound_metric_text run metric
-place_text (places.Condition run metric field) =
-    bound_metric_text run metric ++ (codes ", " ++ condition_field_name field)
+place_text (places.BoundMetric run metric field) = bound_metric_text run metric field
 place_text (places.Entry number) = entry_place_text number
 place_text (places.EntryMember number part) = entry_place_text number ++ (codes "." ++ entry_part_name part)
 
@@ -102,6 +124,12 @@ pointer_character character =
 abbrev pub pointer_token : (name : Text) → Text
 pointer_token name = flat_map pointer_character (chars name)
 
+abbrev pub template_pointer : TemplateField → Text
+template_pointer template_field.Version = codes "/manifest/apiVersion"
+template_pointer template_field.Kind = codes "/manifest/kind"
+template_pointer template_field.Name = codes "/manifest/metadata/name"
+template_pointer template_field.Metrics = codes "/manifest/spec/metrics"
+
 abbrev pub spec_pointer : SpecPart → Text
 spec_pointer spec.Spec = codes "/manifest/spec"
 spec_pointer spec.Args = codes "/manifest/spec/args"
@@ -112,8 +140,15 @@ abbrev pub shape_pointer : (name : Option Text) → Text
 shape_pointer None = codes "/shapes"
 shape_pointer (Some name) = codes "/shapes/" ++ pointer_token name
 
-abbrev pub metric_pointer : (number : ℕ) → Text
-metric_pointer number = codes "/manifest/spec/metrics/" ++ decimal number
+-- the name of a metric in an item of `dryRun`
+abbrev pub dry_run_pointer : (number : ℕ) → Text
+dry_run_pointer number = codes "/manifest/spec/dryRun/" ++ (decimal number ++ codes "/metricName")
+
+-- a metric, or a field of it
+abbrev pub metric_pointer : (number : ℕ) → Option MetricField → Text
+metric_pointer number None = codes "/manifest/spec/metrics/" ++ decimal number
+metric_pointer number (Some field) =
+    codes "/manifest/spec/metrics/" ++ (decimal number ++ (codes "/" ++ metric_field_name field))
 
 -- what has no place in the document has none
 abbrev pub pointer : Place → Option Text
@@ -121,16 +156,16 @@ pointer (places.CommandLine flag) = None
 pointer places.CommandNumber = None
 pointer places.Document = Some []
 pointer (places.Member member) = Some (codes "/" ++ member_name member)
+pointer (places.Template field) = Some (template_pointer field)
 pointer (places.Spec part) = Some (spec_pointer part)
 pointer (places.Argument item) = Some (codes "/manifest/spec/args/" ++ decimal item.number)
-pointer (places.DryRunName number) = Some (codes "/manifest/spec/dryRun/" ++ (decimal number ++ codes "/metricName"))
-pointer (places.Metric within.Template item) = Some (metric_pointer item.number)
-pointer (places.Metric within.Manifest item) = Some (metric_pointer item.number)
+pointer (places.UnnamedDryRun number) = Some (dry_run_pointer number)
+pointer (places.DryRunName number) = Some (dry_run_pointer number)
+pointer (places.Metric within.Template item) = Some (metric_pointer item.number None)
+pointer (places.Metric (within.Manifest field) item) = Some (metric_pointer item.number field)
 pointer (places.Metric within.Shapes item) = Some (shape_pointer item.name)
 pointer (places.Run item) = Some (codes "/runs/" ++ decimal item.number)
-pointer (places.BoundMetric run metric) = Some (metric_pointer metric.number)
-pointer (places.Condition run metric field) =
-    Some (metric_pointer metric.number ++ (codes "/" ++ condition_field_name field))
+pointer (places.BoundMetric run metric field) = Some (metric_pointer metric.number field)
 pointer (places.Entry number) = Some (codes "/measurements/" ++ decimal number)
 pointer (places.EntryMember number part) =
     Some (codes "/measurements/" ++ (decimal number ++ (codes "/" ++ entry_part_name part)))

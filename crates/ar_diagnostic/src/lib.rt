@@ -21,4 +21,6 @@ pub use data::{refusal_json, warnings_json};
 pub use diagnostic::{Diagnostic, Expected, Position, Spot, copy_of, rule, thing, with_quoted};
 pub use line::{refusal_line, warning_line};
 pub use listing::{first_listed, those_listed};
-pub use place::{ConditionField, EntryPart, Flag, Item, Member, Place, SpecPart, Within};
+pub use place::{
+    EntryPart, Flag, Item, Member, MetricField, Place, SpecPart, TemplateField, Within,
+};

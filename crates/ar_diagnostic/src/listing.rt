@@ -53,7 +53,7 @@ fn push_others(out: &mut String, count: usize) -> Result<(), AllocError>
     Ok(())
 }
 
-/// Things of a kind: the names among the first, and how many more there are of a number in all.
+/// Of `count` things of a kind: the names of the first ones, and how many things there are past those that are listed.
 pub fn those_listed(
     alloc: Global,
     kinds: &str,

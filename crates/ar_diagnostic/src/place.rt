@@ -1,8 +1,8 @@
 //! Where something is.
 
 ghost use Rattle.std.specs.Prelude.{◌≡◌, option_map};
-ghost use Rattle.ar_diagnostic.specs.DiagnosticData.{place_argument, place_entry, place_field, place_metric, metric_part, place_part, place_run, spec_field};
-ghost use Rattle.ar_diagnostic.specs.Place.{condition_field_name, entry_part_name, flag_name, member_name};
+ghost use Rattle.ar_diagnostic.specs.DiagnosticData.{place_argument, place_entry, place_field, place_metric, place_part, place_run, spec_field};
+ghost use Rattle.ar_diagnostic.specs.Place.{entry_part_name, flag_name, member_name, metric_field_name, template_field_name};
 
 use ar_value::Text;
 
@@ -23,19 +23,21 @@ pub enum Place {
     Document,
     /// A member of the document.
     Member(Member),
+    /// A field of the template.
+    Template(TemplateField),
     /// A part of the template's `spec`.
     Spec(SpecPart),
     /// An argument of the template.
     Argument(Item),
+    /// An item of `dryRun`, with this number, that names no metric.
+    UnnamedDryRun(usize),
     /// The name of a metric in `dryRun`, of the item with this number.
     DryRunName(usize),
     /// A metric of the template, or its shape.
     Metric(Within, Item),
     Run(Item),
-    /// A metric, with the arguments of a run.
-    BoundMetric(Item, Item),
-    /// A condition of a metric, with the arguments of a run.
-    Condition(Item, Item, ConditionField),
+    /// A metric, with the arguments of a run, or a field of it.
+    BoundMetric(Item, Item, Option<MetricField>),
     /// An item of `measurements`.
     Entry(usize),
     EntryMember(usize, EntryPart),
@@ -93,6 +95,28 @@ impl Member {
     }
 }
 
+/// A field that each template has.
+#[derive(Clone, Copy)]
+pub enum TemplateField {
+    Version,
+    Kind,
+    Name,
+    Metrics,
+}
+
+impl TemplateField {
+    pub(crate) fn name(self) -> &'static str
+        ensures { result.now ≡ template_field_name self }
+    {
+        match self {
+            TemplateField::Version => "apiVersion",
+            TemplateField::Kind => "kind",
+            TemplateField::Name => "name",
+            TemplateField::Metrics => "metrics",
+        }
+    }
+}
+
 /// The template's `spec`, or a list of it.
 #[derive(Clone, Copy)]
 pub enum SpecPart {
@@ -106,26 +130,40 @@ pub enum SpecPart {
 pub enum Within {
     /// Itself, in a template that isn't refused.
     Template,
-    /// Itself, in a template that is refused.
-    Manifest,
+    /// Itself, or a field of it, in a template that is refused.
+    Manifest(Option<MetricField>),
     /// Its shape.
     Shapes,
 }
 
-/// A condition of a metric.
+/// A field of a metric.
 #[derive(Clone, Copy)]
-pub enum ConditionField {
-    Success,
-    Failure,
+pub enum MetricField {
+    Name,
+    SuccessCondition,
+    FailureCondition,
+    Interval,
+    Count,
+    FailureLimit,
+    InconclusiveLimit,
+    ConsecutiveErrorLimit,
+    ConsecutiveSuccessLimit,
 }
 
-impl ConditionField {
-    pub(crate) fn name(self) -> &'static str
-        ensures { result.now ≡ condition_field_name self }
+impl MetricField {
+    pub fn name(self) -> &'static str
+        ensures { result.now ≡ metric_field_name self }
     {
         match self {
-            ConditionField::Success => "successCondition",
-            ConditionField::Failure => "failureCondition",
+            MetricField::Name => "name",
+            MetricField::SuccessCondition => "successCondition",
+            MetricField::FailureCondition => "failureCondition",
+            MetricField::Interval => "interval",
+            MetricField::Count => "count",
+            MetricField::FailureLimit => "failureLimit",
+            MetricField::InconclusiveLimit => "inconclusiveLimit",
+            MetricField::ConsecutiveErrorLimit => "consecutiveErrorLimit",
+            MetricField::ConsecutiveSuccessLimit => "consecutiveSuccessLimit",
         }
     }
 }
@@ -162,6 +200,12 @@ fn spec_field(part: SpecPart) -> Option<&'static str>
     }
 }
 
+fn metric_field(field: Option<MetricField>) -> Option<&'static str>
+    ensures { option_map (λ name. name.now) result ≡ option_map metric_field_name field }
+{
+    Some(field?.name())
+}
+
 impl Place {
     /// The part of the input.
     pub(crate) fn part(&self) -> &'static str
@@ -175,12 +219,13 @@ impl Place {
             Place::Metric(Within::Shapes, _) => "shapes",
             Place::Run(_) => "runs",
             Place::Entry(_) | Place::EntryMember(..) => "measurements",
-            Place::Spec(_)
+            Place::Template(_)
+            | Place::Spec(_)
             | Place::Argument(_)
+            | Place::UnnamedDryRun(_)
             | Place::DryRunName(_)
-            | Place::Metric(Within::Template | Within::Manifest, _)
-            | Place::BoundMetric(..)
-            | Place::Condition(..) => "manifest",
+            | Place::Metric(Within::Template | Within::Manifest(_), _)
+            | Place::BoundMetric(..) => "manifest",
         }
     }
 
@@ -188,7 +233,7 @@ impl Place {
         ensures { option_map (λ item. item.now) result ≡ place_run self.now }
     {
         match self {
-            Place::Run(run) | Place::BoundMetric(run, _) | Place::Condition(run, _, _) => Some(run),
+            Place::Run(run) | Place::BoundMetric(run, _, _) => Some(run),
             _ => None,
         }
     }
@@ -197,9 +242,7 @@ impl Place {
         ensures { option_map (λ item. item.now) result ≡ place_metric self.now }
     {
         match self {
-            Place::Metric(_, metric)
-            | Place::BoundMetric(_, metric)
-            | Place::Condition(_, metric, _) => Some(metric),
+            Place::Metric(_, metric) | Place::BoundMetric(_, metric, _) => Some(metric),
             _ => None,
         }
     }
@@ -228,9 +271,12 @@ impl Place {
     {
         match self {
             Place::CommandLine(Some(flag)) => Some(flag.name()),
+            Place::Template(field) => Some(field.name()),
             Place::Spec(part) => spec_field(*part),
-            Place::DryRunName(_) => Some("metricName"),
-            Place::Condition(_, _, field) => Some(field.name()),
+            Place::UnnamedDryRun(_) | Place::DryRunName(_) => Some("metricName"),
+            Place::Metric(Within::Manifest(field), _) | Place::BoundMetric(_, _, field) => {
+                metric_field(*field)
+            }
             Place::EntryMember(_, part) => Some(part.name()),
             _ => None,
         }
