@@ -80,6 +80,20 @@ impl Diagnostic {
         it.expected = Some(Expected::Thing(Text::of(alloc, expected)?));
         Ok(it)
     }
+
+    /// The same, with what was found.
+    pub fn with_found(self, found: Option<Text>) -> Diagnostic
+        ensures { result ≡ record self { found = found } }
+    {
+        Diagnostic { found, ..self }
+    }
+
+    /// The same, with what helps.
+    pub fn with_hint(self, hint: Option<Text>) -> Diagnostic
+        ensures { result ≡ record self { hint = hint } }
+    {
+        Diagnostic { hint, ..self }
+    }
 }
 
 // ---- parts
