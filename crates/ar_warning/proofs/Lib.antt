@@ -1,2 +1,2 @@
 pub mod Warned
-pub mod Faults
+pub mod FirstMisfit

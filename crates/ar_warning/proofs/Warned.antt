@@ -8,7 +8,7 @@ use Rattle.ar_warning.specs.Each.{each_from}
 pub two : {X : Type 0} (before first after a b : List X) → first ≡ before ++ a → after ≡ first ++ b → after ≡ before ++ (a ++ b)
 two before first after a b one other = other ∙ (ap (λ found. found ++ b) one ∙ append_assoc before a b)
 
-left_at : {A : Type 0} (xs : List A) (offset : ℕ) (x : A) → offset < length xs → x ≡ slice_index_or xs offset x → drop offset xs ≡ x ∷ drop (suc offset) xs
+pub left_at : {A : Type 0} (xs : List A) (offset : ℕ) (x : A) → offset < length xs → x ≡ slice_index_or xs offset x → drop offset xs ≡ x ∷ drop (suc offset) xs
 left_at xs offset x within is = drop-cons xs offset x within ∙ ap (λ first. first ∷ drop (suc offset) xs) (sym is)
 
 -- one name more

@@ -1,4 +1,5 @@
 pub mod Private
 pub mod Each
 pub mod Templates
+pub mod Misfits
 pub mod Measurements

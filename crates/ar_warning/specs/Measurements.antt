@@ -1,6 +1,6 @@
 -- Warnings of measurements: of each metric, the first whose value is refused for its kind.
-use Rattle.std.specs.Prelude.{ℕ, suc, ◌==◌, if◌then◌else◌, List, [], ◌∷◌, ◌++◌, codes, decimal, Option, Some, None, option_map}
-use Rattle.std.specs.Option.{option_map_or, option_or}
+use Rattle.std.specs.Prelude.{ℕ, ◌==◌, if◌then◌else◌, List, [], ◌∷◌, ◌++◌, codes, decimal, take, Option, Some, None}
+use Rattle.std.specs.Option.{option_map_or}
 use Rattle.ar_value.specs.Terms.{Text}
 use Rattle.ar_bundle.specs.Bundle.{Bundle}
 use Rattle.ar_bundle.specs.declared.bundle.EventPart.{EventPart}
@@ -18,38 +18,37 @@ use Rattle.ar_judge.specs.declared.sample.Sample.{Sample}
 use Rattle.ar_judge.specs.declared.sample.Sample.TheVariants.{Misfit}
 use Rattle.ar_quote.specs.Shown.{quoted}
 use Rattle.ar_warning.specs.Each.{each_from}
+use Rattle.ar_warning.specs.Misfits.{misfit_expected}
 
--- a number that isn't taken, or a value of another kind than its shape
-abbrev pub fault_of_kind : Sample → Option ShapeFault
-fault_of_kind (Misfit FloatNumber) = Some FloatNumber
-fault_of_kind (Misfit WrongKind) = Some WrongKind
-fault_of_kind sample = None
+-- the faults that are warned of: a number that isn't taken, and a value of another kind than its shape
+abbrev pub warned_fault : Sample → Option ShapeFault
+warned_fault (Misfit FloatNumber) = Some FloatNumber
+warned_fault (Misfit WrongKind) = Some WrongKind
+warned_fault sample = None
 
--- that of an event, where it measures the metric with this number
-abbrev pub kind_fault_of : (metric : ℕ) → What → Option ShapeFault
-kind_fault_of metric (Measure measured sample) = if measured == metric then fault_of_kind sample else None
-kind_fault_of metric Stop = None
+-- that of an event, if it measures the metric with this number
+abbrev pub fault_of_metric : (metric : ℕ) → What → Option ShapeFault
+fault_of_metric metric (Measure measured sample) = if measured == metric then warned_fault sample else None
+fault_of_metric metric Stop = None
 
-abbrev pub kind_expected : ShapeFault → Text
-kind_expected FloatNumber = codes "a whole JSON number, or a decimal as a text, as \"0.95\""
-kind_expected fault = codes "a value of the declared shape"
+abbrev pub misfit_found : (metric : Text) → ShapeFault → Text
+misfit_found metric fault = shape_fault_name fault ++ (codes ", the first such error of metric " ++ quoted metric)
 
 abbrev pub misfit_warning : (metric : Text) → (number : ℕ) → ShapeFault → Diagnostic
 misfit_warning metric number fault =
-    record (expecting (places.EntryMember number entry.Value) (shape_fault_name fault) (kind_expected fault)) {
-      found = Some (shape_fault_name fault ++ (codes ", the first such error of metric " ++ quoted metric));
+    record (expecting (places.EntryMember number entry.Value) (shape_fault_name fault) (misfit_expected fault)) {
+      found = Some (misfit_found metric fault);
       hint = Some (codes "`explain --event " ++ (decimal number ++ codes "` shows where"));
     }
 
--- of the first event with such a fault, of events the first of which has a number
-abbrev pub first_warning : (metric : ℕ) → (name : Text) → (number : ℕ) → List EventPart → Option Diagnostic
-first_warning metric name number [] = None
-first_warning metric name number (event ∷ events) =
-    option_or (option_map (misfit_warning name number) (kind_fault_of metric event.what))
-    (first_warning metric name (suc number) events)
+-- the warning of the event with this number, if it has such a fault of a metric
+abbrev pub event_misfit : (metric : ℕ) → (name : Text) → (number : ℕ) → EventPart → List Diagnostic
+event_misfit metric name number event =
+    option_map_or (λ fault. misfit_warning name number fault ∷ []) (fault_of_metric metric event.what) []
 
+-- of each metric, the first
 abbrev pub metric_misfits : List EventPart → (metric : ℕ) → MetricPart → List Diagnostic
-metric_misfits events number metric = option_map_or (λ it. it ∷ []) (first_warning number metric.name 0 events) []
+metric_misfits events number metric = take 1 (each_from (event_misfit number metric.name) 0 events)
 
 -- of the metrics in their order
 abbrev pub misfit_warnings : Bundle → List Diagnostic

@@ -7,7 +7,6 @@ use Rattle.serde_json.specs.Data.{Data}
 use Rattle.ar_json.specs.Members.{list_of, member, member_of_member, text_member}
 use Rattle.ar_diagnostic.specs.Diagnostic.{plain_diagnostic}
 use Rattle.ar_diagnostic.specs.declared.diagnostic.Diagnostic.{Diagnostic}
-use Rattle.ar_diagnostic.specs.declared.place.Item.{Item}
 use Rattle.ar_diagnostic.specs.declared.place.Place.{Place}
 use Rattle.ar_diagnostic.specs.declared.place.Place.TheVariants as places
 use Rattle.ar_diagnostic.specs.declared.place.SpecPart.TheVariants as spec_part

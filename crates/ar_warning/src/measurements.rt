@@ -1,18 +1,20 @@
 //! Warnings of measurements: of each metric, the first whose value is refused for its kind.
 
-ghost use Rattle.std.specs.Prelude.{◌≡◌, ◌++◌, IfOk, OnOk, Some};
-ghost use Rattle.ar_warning.specs.Measurements.{kind_fault_of, fault_of_kind, first_warning, kind_expected, metric_misfits, misfit_warning, misfit_warnings};
+ghost use Rattle.std.specs.Prelude.{◌≡◌, ◌++◌, IfOk, OnOk};
+ghost use Rattle.ar_warning.specs.Measurements.{fault_of_metric, metric_misfits, misfit_found, misfit_warning, misfit_warnings, warned_fault};
 
+use crate::misfits::misfit_expected;
 use ar_bundle::{Bundle, EventPart, MetricPart, What};
-use ar_diagnostic::{Diagnostic, EntryPart, Place, with_quoted};
+use ar_diagnostic::{Diagnostic, EntryPart, Place};
 use ar_json::ShapeFault;
 use ar_judge::Sample;
+use ar_quote::push_quoted;
 use ar_value::Text;
 use std::alloc::{AllocError, Global};
 
-/// What a value is refused for, where it is a number that isn't taken, or of another kind than its shape.
-fn fault_of_kind(sample: &Sample) -> Option<ShapeFault>
-    ensures { result ≡ fault_of_kind sample.now }
+/// The fault of a value that is warned of: a number that isn't taken, or another kind than its shape.
+fn warned_fault(sample: &Sample) -> Option<ShapeFault>
+    ensures { result ≡ warned_fault sample.now }
 {
     match sample {
         Sample::Misfit(ShapeFault::FloatNumber) => Some(ShapeFault::FloatNumber),
@@ -21,23 +23,22 @@ fn fault_of_kind(sample: &Sample) -> Option<ShapeFault>
     }
 }
 
-/// The same of an event, where it measures the metric with this number.
-fn kind_fault_of(metric: usize, what: &What) -> Option<ShapeFault>
-    ensures { result ≡ kind_fault_of metric what.now }
+/// The fault that an event is warned of, if it measures the metric with this number.
+fn fault_of_metric(metric: usize, what: &What) -> Option<ShapeFault>
+    ensures { result ≡ fault_of_metric metric what.now }
 {
     match what {
-        What::Measure(measured, sample) if *measured == metric => fault_of_kind(sample),
+        What::Measure(measured, sample) if *measured == metric => warned_fault(sample),
         What::Measure(..) | What::Stop => None,
     }
 }
 
-fn kind_expected(fault: ShapeFault) -> &'static str
-    ensures { result.now ≡ kind_expected fault }
+fn misfit_found(alloc: Global, metric: &str, fault: ShapeFault) -> Result<Text, AllocError>
+    ensures { IfOk result (λ text. text ≡ misfit_found metric.now fault) }
 {
-    match fault {
-        ShapeFault::FloatNumber => "a whole JSON number, or a decimal as a text, as \"0.95\"",
-        _ => "a value of the declared shape",
-    }
+    let mut text = format!(in alloc; "{}, the first such error of metric ", fault.name())?;
+    push_quoted(&mut text, metric)?;
+    Ok(Text::from(text))
 }
 
 /// A measurement of a metric counts as an error for the kind of its value.
@@ -49,32 +50,15 @@ fn misfit_warning(
 ) -> Result<Diagnostic, AllocError>
     ensures { IfOk result (λ it. it ≡ misfit_warning metric.now number fault) }
 {
+    let found = misfit_found(alloc, metric, fault)?;
+    let hint = Text::from(format!(in alloc; "`explain --event {number}` shows where")?);
     let place = Place::EntryMember(number, EntryPart::Value);
-    let mut it = Diagnostic::expecting(alloc, place, fault.name(), kind_expected(fault))?;
-    let before = format!(in alloc; "{}, the first such error of metric ", fault.name())?;
-    it.found = Some(with_quoted(alloc, before.as_str(), metric, "")?);
-    it.hint = Some(Text::from(format!(in alloc; "`explain --event {number}` shows where")?));
-    Ok(it)
+    let it = Diagnostic::expecting(alloc, place, fault.name(), misfit_expected(fault))?;
+    Ok(it.with_found(Some(found)).with_hint(Some(hint)))
 }
 
-/// The warning of a metric's first event whose value is refused for its kind.
-#[tactic(auto, using(crate::proofs::Faults::here, crate::proofs::Faults::later, crate::proofs::Faults::nowhere))]
-fn first_warning(
-    alloc: Global,
-    metric: usize,
-    name: &str,
-    events: &[EventPart],
-) -> Result<Option<Diagnostic>, AllocError>
-    ensures { IfOk result (λ it. it ≡ first_warning metric name.now 0 events.now) }
-{
-    for (number, event) in events.iter().enumerate() {
-        if let Some(fault) = kind_fault_of(metric, &event.what) {
-            return Ok(Some(misfit_warning(alloc, name, number, fault)?));
-        }
-    }
-    Ok(None)
-}
-
+/// Puts the warning of a metric's first event that has one after others.
+#[tactic(auto, using(crate::proofs::FirstMisfit::first_misfit, crate::proofs::FirstMisfit::later_misfit, crate::proofs::FirstMisfit::no_misfit))]
 fn push_metric(
     alloc: Global,
     out: &mut Vec<Diagnostic>,
@@ -84,10 +68,13 @@ fn push_metric(
 ) -> Result<(), AllocError>
     ensures { OnOk result (out.new.items ≡ out.old.items ++ metric_misfits events.now number metric.now) }
 {
-    match first_warning(alloc, number, metric.name.as_str(), events)? {
-        Some(it) => Ok(out.push(it)?),
-        None => Ok(()),
+    for (event_number, event) in events.iter().enumerate() {
+        if let Some(fault) = fault_of_metric(number, &event.what) {
+            let it = misfit_warning(alloc, metric.name.as_str(), event_number, fault)?;
+            return Ok(out.push(it)?);
+        }
     }
+    Ok(())
 }
 
 /// Puts the warnings of a bundle's measurements after others.

@@ -87,10 +87,10 @@ fn place_at(alloc: Global, site: Site<'_>) -> Result<Place, AllocError>
 fn ignored(alloc: Global, place: Place, name: &str, meant: &str) -> Result<Diagnostic, AllocError>
     ensures { IfOk result (λ it. it ≡ ignored place (close name.now meant.now)) }
 {
-    let mut it = Diagnostic::named(alloc, place, "IgnoredField")?;
-    it.found = Some(Text::from(format!(in alloc; "\"{name}\" is not read")?));
-    it.hint = Some(Text::from(format!(in alloc; "did you mean \"{meant}\"?")?));
-    Ok(it)
+    let found = Text::from(format!(in alloc; "\"{name}\" is not read")?);
+    let hint = Text::from(format!(in alloc; "did you mean \"{meant}\"?")?);
+    let it = Diagnostic::named(alloc, place, "IgnoredField")?;
+    Ok(it.with_found(Some(found)).with_hint(Some(hint)))
 }
 
 /// A warning of a name that an object has.
@@ -152,10 +152,8 @@ fn has_no_condition(metric: &Json) -> bool
 fn unconditional(alloc: Global, place: Place) -> Result<Diagnostic, AllocError>
     ensures { IfOk result (λ it. it ≡ unconditional place) }
 {
-    let mut it = Diagnostic::named(alloc, place, "NoCondition")?;
-    let found = "no condition, so each measured value is Successful";
-    it.found = Some(Text::of(alloc, found)?);
-    Ok(it)
+    let found = Text::of(alloc, "no condition, so each measured value is Successful")?;
+    Ok(Diagnostic::named(alloc, place, "NoCondition")?.with_found(Some(found)))
 }
 
 /// A warning of a metric that has no condition.

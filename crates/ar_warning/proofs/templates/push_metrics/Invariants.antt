@@ -1,4 +1,4 @@
-use Rattle.std.proofs.Common.{◌≡◌, ◌++◌, drop, map}
+use Rattle.std.proofs.Common.{◌≡◌, ◌++◌, drop}
 use Rattle.serde_json.specs.View.{view}
 use Rattle.ar_warning.specs.Each.{each_from}
 use Rattle.ar_warning.specs.Templates.{metric_warnings}
