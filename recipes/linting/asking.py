@@ -116,4 +116,6 @@ def refusal_of_template(engine, template, names, args):
     if start.returncode != REFUSED:
         return None
     refusal = refusal_in(start.stderr)
-    return None if refusal.field in CONDITIONS else without(refusal, OF_RUN, OF_MANIFEST)
+    # A field that is no text is refused before what it says is looked at.
+    is_of_condition = refusal.field in CONDITIONS and refusal.name != "BadField"
+    return None if is_of_condition else without(refusal, OF_RUN, OF_MANIFEST)

@@ -33,7 +33,7 @@ pub enum Place {
     UnnamedDryRun(usize),
     /// The name of a metric in `dryRun`, of the item with this number.
     DryRunName(usize),
-    /// A metric of the template, or its shape.
+    /// A metric of the template, a field of it, or its shape.
     Metric(Within, Item),
     Run(Item),
     /// A metric, with the arguments of a run, or a field of it.
@@ -177,7 +177,7 @@ pub enum EntryPart {
 }
 
 impl EntryPart {
-    pub(crate) fn name(self) -> &'static str
+    pub fn name(self) -> &'static str
         ensures { result.now ≡ entry_part_name self }
     {
         match self {

@@ -1,18 +1,19 @@
 -- Refusals of documents: of those that have runs, and of that which `eval` reads. A document is as it was written, and
 -- may be any JSON value: what isn't there isn't named.
-use Rattle.std.specs.Prelude.{ℕ, Bool, true, false, if◌then◌else◌, List, [], ◌++◌, codes, is_some, Option, Some, None}
+use Rattle.std.specs.Prelude.{ℕ, Bool, false, if◌then◌else◌, List, ◌++◌, codes, is_some, Option, Some, None}
 use Rattle.serde_json.specs.Data.{Data}
 use Rattle.serde_json.specs.Find.{get}
 use Rattle.ar_value.specs.Terms.{Text}
 use Rattle.ar_diagnostic.specs.Diagnostic.{expecting, plain_diagnostic}
+use Rattle.ar_diagnostic.specs.Place.{entry_part_name}
 use Rattle.ar_diagnostic.specs.declared.diagnostic.Diagnostic.{Diagnostic}
 use Rattle.ar_diagnostic.specs.declared.diagnostic.Expected.{Expected}
 use Rattle.ar_diagnostic.specs.declared.diagnostic.Expected.TheVariants.{Thing, Rule}
-use Rattle.ar_diagnostic.specs.declared.place.ConditionField.{ConditionField}
-use Rattle.ar_diagnostic.specs.declared.place.ConditionField.TheVariants as condition
+use Rattle.ar_diagnostic.specs.declared.place.EntryPart.{EntryPart}
 use Rattle.ar_diagnostic.specs.declared.place.EntryPart.TheVariants as entries
 use Rattle.ar_diagnostic.specs.declared.place.Item.{Item}
 use Rattle.ar_diagnostic.specs.declared.place.Member.TheVariants as members
+use Rattle.ar_diagnostic.specs.declared.place.MetricField.TheVariants as fields
 use Rattle.ar_diagnostic.specs.declared.place.Place.{Place}
 use Rattle.ar_diagnostic.specs.declared.place.Place.TheVariants as places
 use Rattle.ar_diagnostic.specs.declared.place.Within.TheVariants as within
@@ -25,8 +26,6 @@ use Rattle.ar_json.specs.Members.{text_member}
 use Rattle.ar_json.specs.Refusals.{shape_error_name, shape_fault_name}
 use Rattle.ar_json.specs.declared.shape_reading.ShapeError.{ShapeError}
 use Rattle.ar_json.specs.declared.shape_reading.ShapeError.TheVariants as shapes
-use Rattle.ar_json.specs.declared.value_reading.ShapeFault.{ShapeFault}
-use Rattle.ar_json.specs.declared.value_reading.ShapeFault.TheVariants as faults
 use Rattle.ar_judge.specs.declared.error.BuildCause.TheVariants as causes
 use Rattle.ar_judge.specs.declared.error.BuildError.{BuildError}
 use Rattle.ar_judge.specs.declared.error.BuildError.TheVariants as build
@@ -34,13 +33,14 @@ use Rattle.ar_manifest.specs.Cut.{cut_at}
 use Rattle.ar_quote.specs.Shown.{quoted}
 use Rattle.ar_syntax.specs.declared.error.SyntaxError.{SyntaxError}
 use Rattle.ar_syntax.specs.declared.error.SyntaxError.TheVariants.{Unexpected}
-use Rattle.ar_words.specs.Bindings.{condition_bound_for}
+use Rattle.ar_warning.specs.Misfits.{misfit_expected}
 use Rattle.ar_condition_words.specs.Conditions.{code_diagnostic, condition_diagnostic, length_diagnostic}
+use Rattle.ar_words.specs.Bindings.{condition_bound_for}
 use Rattle.ar_words.specs.Items.{metric_item, run_item}
-use Rattle.ar_words.specs.Lists.{entry_text, metrics, runs, text_at}
+use Rattle.ar_words.specs.Lists.{entry_text, metrics, runs}
 use Rattle.ar_words.specs.Names.{nothing_named, those_there}
 use Rattle.ar_words.specs.Shapes.{close_shape, declaration_in, declared_shape}
-use Rattle.ar_words.specs.Templates.{binding_diagnostic, template_diagnostic}
+use Rattle.ar_words.specs.Templates.{binding_diagnostic, bound_place, template_diagnostic}
 
 -- ---- shapes
 
@@ -62,41 +62,39 @@ shape_diagnostic place error =
 
 -- ---- conditions of metrics
 
-abbrev pub built_place : Data → (run metric : ℕ) → ConditionField → Place
-built_place document run metric field = places.Condition (run_item document run) (metric_item document metric) field
-
 -- a condition that can't be run, bound to the arguments of a run
 unfoldable pub built_diagnostic : Data → (run metric : ℕ) → BuildError → Diagnostic
 built_diagnostic document run metric (build.Success cause) =
-    condition_diagnostic (built_place document run metric condition.Success)
+    condition_diagnostic (bound_place document run metric (Some fields.SuccessCondition))
     (declared_shape (declaration_in document metric))
     (condition_bound_for document run metric (build.Success cause)) cause
 built_diagnostic document run metric (build.Failure cause) =
-    condition_diagnostic (built_place document run metric condition.Failure)
+    condition_diagnostic (bound_place document run metric (Some fields.FailureCondition))
     (declared_shape (declaration_in document metric))
     (condition_bound_for document run metric (build.Failure cause)) cause
 built_diagnostic document run metric build.OutOfMemory = plain_diagnostic places.Document (codes "OutOfMemory")
 
 -- ---- entries
 
-abbrev pub unknown_name_diagnostic : Place → (error kind : Text) → (name : Option Text) → Option (List Data)
-    → Diagnostic
-unknown_name_diagnostic place error kind (Some name) (Some items) =
-    record (plain_diagnostic place error) {
-      found = Some (nothing_named kind name);
-      hint = Some (those_there (kind ++ codes "s") items);
+-- a part of an entry names none of the items
+abbrev pub unknown_name_diagnostic : (entry : ℕ) → EntryPart → (error : Text) → (name : Option Text)
+    → Option (List Data) → Diagnostic
+unknown_name_diagnostic entry part error (Some name) (Some items) =
+    record (plain_diagnostic (places.EntryMember entry part) error) {
+      found = Some (nothing_named (entry_part_name part) name);
+      hint = Some (those_there (entry_part_name part ++ codes "s") items);
     }
-unknown_name_diagnostic place error kind name items = plain_diagnostic place error
+unknown_name_diagnostic entry part error name items = plain_diagnostic (places.EntryMember entry part) error
 
 abbrev pub unknown_run : Data → (entry : ℕ) → Diagnostic
 unknown_run document entry =
-    unknown_name_diagnostic (places.EntryMember entry entries.Run) (codes "UnknownRun") (codes "run")
-    (entry_text (codes "run") entry document) (runs document)
+    unknown_name_diagnostic entry entries.Run (codes "UnknownRun") (entry_text (codes "run") entry document)
+    (runs document)
 
 abbrev pub unknown_metric : Data → (entry : ℕ) → Diagnostic
 unknown_metric document entry =
-    unknown_name_diagnostic (places.EntryMember entry entries.Metric) (codes "UnknownMetric") (codes "metric")
-    (entry_text (codes "metric") entry document) (metrics document)
+    unknown_name_diagnostic entry entries.Metric (codes "UnknownMetric") (entry_text (codes "metric") entry document)
+    (metrics document)
 
 -- ---- documents that have runs
 
@@ -111,23 +109,24 @@ run_diagnostic run =
 abbrev pub shape_place : Data → (metric : ℕ) → Place
 shape_place document metric = places.Metric within.Shapes (metric_item document metric)
 
--- where no shape has a metric's name
-abbrev pub missing_hint : (close : Option Text) → Text
-missing_hint None = codes "recipes/shapes proposes shapes of results"
-missing_hint (Some key) =
+-- the key that is probably meant, if there is one
+abbrev pub missing_shape_hint : (close : Option Text) → Text
+missing_shape_hint None = codes "recipes/shapes proposes shapes of results"
+missing_shape_hint (Some key) =
     codes "shapes has " ++ (quoted key ++ codes "; recipes/shapes proposes shapes of results")
 
-abbrev pub missing_diagnostic : Data → (metric : ℕ) → Diagnostic
-missing_diagnostic document metric =
+-- no shape has a metric's name
+abbrev pub missing_shape : Data → (metric : ℕ) → Diagnostic
+missing_shape document metric =
     record (expecting (shape_place document metric) (codes "ShapeMissing")
     (codes "a shape in `shapes` for each metric, by its name")) {
-      hint = Some (missing_hint (close_shape document metric));
+      hint = Some (missing_shape_hint (close_shape document metric));
     }
 
 -- an input that is too large or no JSON is no document
 unfoldable pub bundle_diagnostic : Data → BundleError → Diagnostic
 bundle_diagnostic document (errors.Manifest cause) = template_diagnostic document cause
-bundle_diagnostic document (errors.ShapeMissing metric) = missing_diagnostic document metric
+bundle_diagnostic document (errors.ShapeMissing metric) = missing_shape document metric
 bundle_diagnostic document (errors.Shapes metric error) =
     shape_diagnostic (shape_place document metric) error
 bundle_diagnostic document errors.Runs =
@@ -148,31 +147,29 @@ bundle_diagnostic document error = plain_diagnostic places.Document (bundle_erro
 
 -- ---- the document that `eval` reads
 
-abbrev pub misfit_expected : ShapeFault → Text
-misfit_expected faults.WrongKind = codes "a value of the declared shape"
-misfit_expected faults.FloatNumber = codes "a whole JSON number, or a decimal as a text, as \"0.95\""
-misfit_expected faults.NotFinite = codes "a finite number"
-misfit_expected faults.BadDecimal =
-    codes "digits with at most one point and an exponent or none, as \"0.95\" or \"9.5e-1\""
-misfit_expected faults.OutOfRange = codes "a whole of 64 bits, or a decimal whose millionths fit them"
-misfit_expected faults.ListTooLong = codes "a list of at most its shape's \"max\" items"
-misfit_expected faults.MissingField = codes "each field of the record's shape that isn't optional"
-misfit_expected faults.OutOfMemory = []
-
 abbrev pub has_braces : (condition : Option Text) → Bool
 has_braces None = false
 has_braces (Some text) = is_some (cut_at (codes "{{") text)
 
 -- arguments in braces are bound in templates alone
-abbrev pub with_braces : SyntaxError → (condition : Option Text) → Diagnostic → Diagnostic
-with_braces (Unexpected at) condition it =
+abbrev pub braces_hint : SyntaxError → (condition : Option Text) → Option Text
+braces_hint (Unexpected at) condition =
     if has_braces condition
-    then record it { hint = Some (codes "arguments as {{args.NAME}} are bound in a template, by check, list and run") }
-    else it
-with_braces error condition it = it
+    then Some (codes "arguments as {{args.NAME}} are bound in a template, by check, list and run")
+    else None
+braces_hint error condition = None
+
+abbrev pub with_hint_of_braces : (hint : Option Text) → Diagnostic → Diagnostic
+with_hint_of_braces None it = it
+with_hint_of_braces (Some hint) it = record it { hint = Some hint }
 
 abbrev pub condition_place : Place
 condition_place = places.Member members.Condition
+
+abbrev pub grammar_diagnostic : SyntaxError → (condition : Option Text) → Diagnostic
+grammar_diagnostic error condition =
+    with_hint_of_braces (braces_hint error condition)
+    (condition_diagnostic condition_place None condition (causes.Grammar error))
 
 unfoldable pub eval_diagnostic : Data → EvalError → Diagnostic
 eval_diagnostic document eval.TooLarge = plain_diagnostic places.Document (codes "TooLarge")
@@ -182,8 +179,7 @@ eval_diagnostic document eval.BadDocument =
     (codes "an object with a text `condition`, a `shape` and a `value`")
 eval_diagnostic document (eval.Shape error) = shape_diagnostic (places.Member members.Shape) error
 eval_diagnostic document (eval.Grammar error) =
-    with_braces error (text_member (codes "condition") document)
-    (condition_diagnostic condition_place None (text_member (codes "condition") document) (causes.Grammar error))
+    grammar_diagnostic error (text_member (codes "condition") document)
 eval_diagnostic document (eval.Kinds error) =
     condition_diagnostic condition_place (declared_shape (get (codes "shape") document))
     (text_member (codes "condition") document) (causes.Kinds error)

@@ -8,15 +8,21 @@ use Rattle.ar_diagnostic.specs.Diagnostic.{expecting, plain_diagnostic}
 use Rattle.ar_diagnostic.specs.declared.diagnostic.Diagnostic.{Diagnostic}
 use Rattle.ar_diagnostic.specs.declared.place.Item.{Item}
 use Rattle.ar_diagnostic.specs.declared.place.Member.TheVariants as members
+use Rattle.ar_diagnostic.specs.declared.place.MetricField.{MetricField}
+use Rattle.ar_diagnostic.specs.declared.place.MetricField.TheVariants as fields
 use Rattle.ar_diagnostic.specs.declared.place.Place.{Place}
 use Rattle.ar_diagnostic.specs.declared.place.Place.TheVariants as places
 use Rattle.ar_diagnostic.specs.declared.place.SpecPart.TheVariants as spec
+use Rattle.ar_diagnostic.specs.declared.place.TemplateField.{TemplateField}
+use Rattle.ar_diagnostic.specs.declared.place.TemplateField.TheVariants as template
 use Rattle.ar_diagnostic.specs.declared.place.Within.TheVariants as within
 use Rattle.ar_json.specs.Members.{text_member}
 use Rattle.ar_manifest.specs.Found.{field_name}
 use Rattle.ar_manifest.specs.Refusals.{manifest_error_name}
 use Rattle.ar_manifest.specs.declared.error.ManifestError.{ManifestError}
 use Rattle.ar_manifest.specs.declared.error.ManifestError.TheVariants as errors
+use Rattle.ar_manifest.specs.declared.found.LimitField.{LimitField}
+use Rattle.ar_manifest.specs.declared.found.LimitField.TheVariants as limits
 use Rattle.ar_manifest.specs.declared.found.LimitValue.{LimitValue}
 use Rattle.ar_manifest.specs.declared.found.LimitValue.TheVariants as values
 use Rattle.ar_manifest.specs.declared.found.RefusedLimit.{RefusedLimit}
@@ -51,16 +57,20 @@ abbrev pub manifest_hint : (manifest : Option Data) → Option Text
 manifest_hint None = Some (codes "the document has no member `manifest`, which takes the template")
 manifest_hint (Some manifest) = None
 
--- the version or the kind is another one, as that of a list of templates is
-abbrev pub head_diagnostic : Data → (name expected : Text) → (kind : Option Text) → Diagnostic
-head_diagnostic document name expected None =
-    record (expecting (places.Member members.Manifest) name expected) {
-      hint = manifest_hint (get (codes "manifest") document);
-    }
-head_diagnostic document name expected (Some kind) =
+-- a list of templates is in place of a template
+abbrev pub list_diagnostic : (name kind : Text) → Diagnostic
+list_diagnostic name kind =
     record (plain_diagnostic (places.Member members.Manifest) name) {
       found = Some (quoted kind ++ codes " is a list of templates");
       hint = Some (codes "`manifest` takes one of its `items`");
+    }
+
+-- the version or the kind is another one, as that of a list of templates is
+abbrev pub head_diagnostic : Data → TemplateField → (name expected : Text) → (kind : Option Text) → Diagnostic
+head_diagnostic document field name expected (Some kind) = list_diagnostic name kind
+head_diagnostic document field name expected None =
+    record (expecting (places.Template field) name expected) {
+      hint = manifest_hint (get (codes "manifest") document);
     }
 
 -- ---- the template
@@ -76,16 +86,28 @@ arguments_diagnostic number arguments =
     (codes "a list, and of argument "
     ++ (decimal number ++ codes " a text `name` of its own and no `value` but a text"))
 
--- where the field is known, what it holds is said
-abbrev pub field_diagnostic : Place → Option FieldMisfit → Diagnostic
-field_diagnostic place None =
-    expecting place (codes "BadField") (codes "texts for conditions and `interval`, numbers or texts for limits")
-field_diagnostic place (Some misfit) =
-    record (expecting place (codes "BadField") misfit.expected) { found = Some misfit.found }
+-- a metric of a template, or a field of it
+abbrev pub metric_place : Data → (metric : ℕ) → Option MetricField → Place
+metric_place document metric field = places.Metric (within.Manifest field) (metric_item document metric)
 
-abbrev pub dry_run_item : (number : ℕ) → Diagnostic
-dry_run_item number =
-    expecting (places.Spec spec.DryRun) (codes "BadDryRun")
+-- where the field is known, what it holds is said
+abbrev pub field_diagnostic : Data → (metric : ℕ) → Option FieldMisfit → Diagnostic
+field_diagnostic document metric None =
+    expecting (metric_place document metric None) (codes "BadField")
+    (codes "texts for conditions and `interval`, numbers or texts for limits")
+field_diagnostic document metric (Some misfit) =
+    record (expecting (metric_place document metric (Some misfit.field)) (codes "BadField") misfit.expected) {
+      found = Some misfit.found;
+    }
+
+-- an item of `dryRun`, if there is one of the number, or all of them
+abbrev pub unnamed_place : (number : ℕ) → (item : Option Data) → Place
+unnamed_place number None = places.Spec spec.DryRun
+unnamed_place number (Some item) = places.UnnamedDryRun number
+
+abbrev pub unnamed_dry_run : (number : ℕ) → Option (List Data) → Diagnostic
+unnamed_dry_run number items =
+    expecting (unnamed_place number (list_item number items)) (codes "BadDryRun")
     (codes "a list, and of item " ++ (decimal number ++ codes " a text `metricName` that isn't empty"))
 
 -- no metric has the name, and those that there are
@@ -102,48 +124,56 @@ dry_run_diagnostic document number =
           (metrics document);
     }
 
-abbrev pub template_place : Place
-template_place = places.Member members.Manifest
+-- a field of a metric has to be another one, or away
+abbrev pub expecting_field : Data → (metric : ℕ) → MetricField → (name expected : Text) → Diagnostic
+expecting_field document metric field name expected =
+    expecting (metric_place document metric (Some field)) name expected
 
-abbrev pub metric_place : Data → (metric : ℕ) → Place
-metric_place document metric = places.Metric within.Manifest (metric_item document metric)
+-- the refusal of a metric
+unfoldable pub metric_diagnostic : Data → ManifestError → Diagnostic
+metric_diagnostic document (errors.MetricNameMissing metric) =
+    expecting_field document metric fields.Name (codes "MetricNameMissing") (codes "a text `name`")
+metric_diagnostic document (errors.DoubleMetric metric) =
+    expecting_field document metric fields.Name (codes "DoubleMetric") (codes "a name that no earlier metric has")
+metric_diagnostic document (errors.BadField metric) =
+    field_diagnostic document metric (option_and_then metric_misfit (list_item metric (metrics document)))
+metric_diagnostic document (errors.Unsupported metric) =
+    expecting_field document metric fields.ConsecutiveSuccessLimit (codes "Unsupported")
+    (codes "no `consecutiveSuccessLimit`")
+metric_diagnostic document error = plain_diagnostic (places.Member members.Manifest) (manifest_error_name error)
 
 unfoldable pub template_diagnostic : Data → ManifestError → Diagnostic
 template_diagnostic document errors.WrongVersion =
-    head_diagnostic document (codes "WrongVersion") (codes "`apiVersion` \"argoproj.io/v1alpha1\"")
+    head_diagnostic document template.Version (codes "WrongVersion") (codes "`apiVersion` \"argoproj.io/v1alpha1\"")
     (given_kind document)
 template_diagnostic document errors.WrongKind =
-    head_diagnostic document (codes "WrongKind")
+    head_diagnostic document template.Kind (codes "WrongKind")
     (codes "`kind` \"AnalysisTemplate\" or \"ClusterAnalysisTemplate\"") (given_kind document)
 template_diagnostic document errors.NameMissing =
-    expecting template_place (codes "NameMissing") (codes "a text `metadata.name` that isn't empty")
+    expecting (places.Template template.Name) (codes "NameMissing") (codes "a text `metadata.name` that isn't empty")
 template_diagnostic document (errors.BadArgs number) =
     arguments_diagnostic number (template_list (codes "args") document)
 template_diagnostic document errors.NoMetrics =
-    expecting template_place (codes "NoMetrics") (codes "a list `spec.metrics` of at least one metric")
+    expecting (places.Template template.Metrics) (codes "NoMetrics")
+    (codes "a list `spec.metrics` of at least one metric")
 template_diagnostic document errors.TooManyMetrics =
-    expecting template_place (codes "TooManyMetrics") (codes "at most 64 metrics")
-template_diagnostic document (errors.MetricNameMissing metric) =
-    expecting (metric_place document metric) (codes "MetricNameMissing") (codes "a text `name`")
-template_diagnostic document (errors.DoubleMetric metric) =
-    expecting (metric_place document metric) (codes "DoubleMetric") (codes "a name that no earlier metric has")
-template_diagnostic document (errors.BadField metric) =
-    field_diagnostic (metric_place document metric)
-    (option_and_then metric_misfit (list_item metric (metrics document)))
-template_diagnostic document (errors.Unsupported metric) =
-    expecting (metric_place document metric) (codes "Unsupported") (codes "no `consecutiveSuccessLimit`")
-template_diagnostic document (errors.BadDryRun number) = dry_run_item number
+    expecting (places.Template template.Metrics) (codes "TooManyMetrics") (codes "at most 64 metrics")
+template_diagnostic document (errors.BadDryRun number) =
+    unnamed_dry_run number (template_list (codes "dryRun") document)
 template_diagnostic document (errors.UnknownDryRun number) = dry_run_diagnostic document number
-template_diagnostic document error = plain_diagnostic template_place (manifest_error_name error)
+template_diagnostic document error = metric_diagnostic document error
 
 -- ---- its binding
 
-abbrev pub bound_place : Data → (run metric : ℕ) → Place
-bound_place document run metric = places.BoundMetric (run_item document run) (metric_item document metric)
+-- a metric, or a field of it, with the arguments of a run
+abbrev pub bound_place : Data → (run metric : ℕ) → Option MetricField → Place
+bound_place document run metric field =
+    places.BoundMetric (run_item document run) (metric_item document metric) field
 
--- a reference in braces, with words after it
-abbrev pub reference_said : (words : Text) → (reference : Option Text) → Option Text
-reference_said words reference = option_map (λ reference. quoted reference ++ words) reference
+-- the first reference of a metric that has no value, in braces, with words after it
+abbrev pub reference_said : Data → (run metric : ℕ) → (words : Text) → Option Text
+reference_said document run metric words =
+    option_map (λ reference. quoted reference ++ words) (unbound_of_run document run metric)
 
 abbrev pub value_said : LimitValue → Text
 value_said (values.Whole n) = decimal n
@@ -154,28 +184,51 @@ value_said values.LongText = codes "a text of more than 256 bytes"
 abbrev pub limit_said : RefusedLimit → Text
 limit_said limit = codes "`" ++ (field_name limit.field ++ (codes "` is " ++ value_said limit.value))
 
+abbrev pub field_of : LimitField → MetricField
+field_of limits.Count = fields.Count
+field_of limits.Failure = fields.FailureLimit
+field_of limits.Inconclusive = fields.InconclusiveLimit
+field_of limits.ConsecutiveError = fields.ConsecutiveErrorLimit
+
+abbrev pub limit_field : RefusedLimit → MetricField
+limit_field limit = field_of limit.field
+
+-- a limit that is refused, if it is known
+abbrev pub limit_diagnostic : Data → (run metric : ℕ) → Option RefusedLimit → Diagnostic
+limit_diagnostic document run metric limit =
+    record (expecting (bound_place document run metric (option_map limit_field limit)) (codes "BadLimit")
+    (codes "0 to 1000000000 in one to ten digits")) {
+      found = option_map limit_said limit;
+    }
+
 abbrev pub arguments_there : Data → Text
 arguments_there document = those_there (codes "arguments") (unwrap_or (template_list (codes "args") document) [])
 
-unfoldable pub binding_diagnostic : Data → (run : ℕ) → ManifestError → Diagnostic
-binding_diagnostic document run (errors.OpenBraces metric) =
-    expecting (bound_place document run metric) (codes "OpenBraces") (codes "}} after {{")
-binding_diagnostic document run (errors.UnknownArg metric) =
-    record (expecting (bound_place document run metric) (codes "UnknownArg")
+-- a text of a metric names no argument of the template
+abbrev pub unknown_argument : Data → (run metric : ℕ) → Diagnostic
+unknown_argument document run metric =
+    record (expecting (bound_place document run metric None) (codes "UnknownArg")
     (codes "args.NAME with a name of `spec.args`")) {
-      found = reference_said (codes " in braces") (unbound_of_run document run metric);
+      found = reference_said document run metric (codes " in braces");
       hint = Some (arguments_there document);
     }
-binding_diagnostic document run (errors.NoValue metric) =
-    record (expecting (bound_place document run metric) (codes "NoValue") (codes "one from the run or the template")) {
-      found = reference_said (codes " in braces has no value") (unbound_of_run document run metric);
+
+-- a text of a metric names an argument that has no value
+abbrev pub unvalued_argument : Data → (run metric : ℕ) → Diagnostic
+unvalued_argument document run metric =
+    record (expecting (bound_place document run metric None) (codes "NoValue")
+    (codes "one from the run or the template")) {
+      found = reference_said document run metric (codes " in braces has no value");
     }
+
+unfoldable pub binding_diagnostic : Data → (run : ℕ) → ManifestError → Diagnostic
+binding_diagnostic document run (errors.OpenBraces metric) =
+    expecting (bound_place document run metric None) (codes "OpenBraces") (codes "}} after {{")
+binding_diagnostic document run (errors.UnknownArg metric) = unknown_argument document run metric
+binding_diagnostic document run (errors.NoValue metric) = unvalued_argument document run metric
 binding_diagnostic document run (errors.BadLimit metric) =
-    record (expecting (bound_place document run metric) (codes "BadLimit")
-    (codes "0 to 1000000000 in one to ten digits")) {
-      found = option_map limit_said (limit_in document run metric);
-    }
+    limit_diagnostic document run metric (limit_in document run metric)
 binding_diagnostic document run (errors.IntervalMissing metric) =
-    expecting (bound_place document run metric) (codes "IntervalMissing")
+    expecting (bound_place document run metric (Some fields.Interval)) (codes "IntervalMissing")
     (codes "an `interval` with a `count` above 1")
 binding_diagnostic document run error = template_diagnostic document error

@@ -3,12 +3,13 @@
 ghost use Rattle.std.specs.Prelude.{◌≡◌, ◌≤◌, IfOk, length};
 ghost use Rattle.std.specs.List.{find};
 ghost use Rattle.serde_json.specs.View.{members_view, view};
-ghost use Rattle.ar_words.specs.Close.{are_close, as_one_word, close_key, common_bytes, common_end, common_front, is_between_words, is_nearly, is_slip, keys_of};
+ghost use Rattle.ar_words.specs.Close.{are_close, as_one_word, close_key, common_bytes, common_end, common_front, is_between_words, is_mostly_common, is_slip, keys_of};
 
 use ar_value::Text;
 use serde_json::{Map, Value as Json};
 use std::alloc::{AllocError, Global};
 
+/// A hyphen, an underscore, a point or a blank, as between the words of a name.
 fn is_between_words(byte: u8) -> bool
     ensures { result ≡ is_between_words byte }
 {
@@ -24,7 +25,7 @@ fn as_one_word(alloc: Global, name: &str) -> Result<Vec<u8>, AllocError>
     Ok(word)
 }
 
-/// With how many bytes both begin.
+/// How many bytes both begin with.
 fn common_front(one: &[u8], other: &[u8]) -> usize
     ensures count { result ≡ common_front one.now other.now }
     ensures inside { (result ≤ length one.now) × (result ≤ length other.now) }
@@ -36,7 +37,7 @@ fn common_front(one: &[u8], other: &[u8]) -> usize
     count
 }
 
-/// With how many bytes both end.
+/// How many bytes both end with.
 fn common_end(one: &[u8], other: &[u8]) -> usize
     ensures count { result ≡ common_end one.now other.now }
     ensures inside { result ≤ length one.now }
@@ -57,9 +58,9 @@ fn common_bytes(one: &[u8], other: &[u8]) -> usize
     front + common_end(&one[front..], &other[front..])
 }
 
-/// Whether at most two bytes aren't common, and fewer than those that are.
-fn is_nearly(common: usize, name: &[u8]) -> bool
-    ensures { result ≡ is_nearly common name.now }
+/// Whether at most two bytes of a name aren't common, and fewer than those that are.
+fn is_mostly_common(common: usize, name: &[u8]) -> bool
+    ensures { result ≡ is_mostly_common common name.now }
 {
     let left = name.len().saturating_sub(common);
     left <= 2 && left < common
@@ -70,7 +71,7 @@ fn is_slip(one: &[u8], other: &[u8]) -> bool
     ensures { result ≡ is_slip one.now other.now }
 {
     let common = common_bytes(one, other);
-    is_nearly(common, one) && is_nearly(common, other)
+    is_mostly_common(common, one) && is_mostly_common(common, other)
 }
 
 /// Whether a name, which is given as one word, too, and another are close.
@@ -100,7 +101,7 @@ fn key_among(
     Ok(None)
 }
 
-/// The first key of an object that is close to a name.
+/// The first key of an object, in byte order, that is close to a name.
 pub(crate) fn close_key(alloc: Global, name: &str, json: &Json) -> Result<Option<Text>, AllocError>
     ensures { IfOk result (λ key. key ≡ close_key name.now (view json.now)) }
 {

@@ -2,27 +2,27 @@
 
 ghost use Rattle.std.specs.Prelude.{◌≡◌, IfOk, map, option_map};
 ghost use Rattle.serde_json.specs.View.{view};
-ghost use Rattle.ar_words.specs.Documents.{built_diagnostic, built_place, bundle_diagnostic, double_run, eval_diagnostic, has_braces, misfit_expected, missing_diagnostic, missing_hint, run_diagnostic, shape_diagnostic, shape_expected, shape_place, unknown_name_diagnostic, unknown_metric, unknown_run, with_braces};
+ghost use Rattle.ar_words.specs.Documents.{braces_hint, built_diagnostic, bundle_diagnostic, double_run, eval_diagnostic, grammar_diagnostic, has_braces, missing_shape, missing_shape_hint, run_diagnostic, shape_diagnostic, shape_expected, shape_place, unknown_name_diagnostic, unknown_metric, unknown_run};
 
 use crate::bindings::{bound_of, refused_condition};
 use crate::items::{metric_item, run_item};
 use crate::lists::{entry_text, metrics, runs};
 use crate::names::{nothing_named, those_there};
 use crate::shapes::{close_shape, declaration_in, declared_shape};
-use crate::templates::{binding_diagnostic, template_diagnostic};
+use crate::templates::{binding_diagnostic, bound_place, template_diagnostic};
 use ar_condition_words::{code_diagnostic, condition_diagnostic, length_diagnostic};
 use ar_diagnostic::{
-    ConditionField, Diagnostic, EntryPart, Expected, Item, Member, Place, Within, rule, thing,
+    Diagnostic, EntryPart, Expected, Item, Member, MetricField, Place, Within, rule, thing,
     with_quoted,
 };
 use ar_document::BundleError;
 use ar_eval::EvalError;
-use ar_json::ShapeFault;
 use ar_json::members::text_member;
 use ar_json::shape_reading::ShapeError;
 use ar_judge::{BuildCause, BuildError};
 use ar_syntax::SyntaxError;
 use ar_value::Text;
+use ar_warning::misfit_expected;
 use serde_json::Value as Json;
 use std::alloc::{AllocError, Global};
 
@@ -64,20 +64,6 @@ fn shape_diagnostic(
 
 // ---- conditions of metrics
 
-fn built_place(
-    alloc: Global,
-    document: &Json,
-    run: usize,
-    metric: usize,
-    field: ConditionField,
-) -> Result<Place, AllocError>
-    ensures { IfOk result (λ place. place ≡ built_place (view document.now) run metric field) }
-{
-    let run = run_item(alloc, document, run)?;
-    let metric = metric_item(alloc, document, metric)?;
-    Ok(Place::Condition(run, metric, field))
-}
-
 /// The refusal of a condition of a metric, bound to the arguments of a run.
 #[tactic(auto, unfolding(crate::specs::Bindings::condition_bound_for, crate::specs::Documents::built_diagnostic))]
 fn built_diagnostic(
@@ -90,56 +76,63 @@ fn built_diagnostic(
     ensures { IfOk result (λ it. it ≡ built_diagnostic (view document.now) run metric error) }
 {
     let (field, cause) = match error {
-        BuildError::Success(cause) => (ConditionField::Success, cause),
-        BuildError::Failure(cause) => (ConditionField::Failure, cause),
+        BuildError::Success(cause) => (MetricField::SuccessCondition, cause),
+        BuildError::Failure(cause) => (MetricField::FailureCondition, cause),
         BuildError::OutOfMemory => return Diagnostic::named(alloc, Place::Document, "OutOfMemory"),
     };
     let bound = bound_of(alloc, document, run)?;
     let condition = refused_condition(&bound, metric, error);
     let shape = declared_shape(alloc, declaration_in(document, metric))?;
-    let place = built_place(alloc, document, run, metric, field)?;
+    let place = bound_place(alloc, document, run, metric, Some(field))?;
     condition_diagnostic(alloc, place, &shape, condition, cause)
 }
 
 // ---- entries
 
-/// An entry names an item of a kind that isn't there.
+/// A part of an entry names none of the items.
 fn unknown_name_diagnostic(
     alloc: Global,
-    place: Place,
+    entry: usize,
+    part: EntryPart,
     error: &str,
-    kind: &str,
     name: Option<&str>,
     items: Option<&[Json]>,
 ) -> Result<Diagnostic, AllocError>
-    ensures { IfOk result (λ it. it ≡ unknown_name_diagnostic place error.now kind.now
+    ensures { IfOk result (λ it. it ≡ unknown_name_diagnostic entry part error.now
         (option_map (λ name. name.now) name.entry)
         (option_map (λ list. map (λ item. view item) list.now) items.entry)) }
 {
-    let mut it = Diagnostic::named(alloc, place, error)?;
     let (Some(name), Some(items)) = (name, items) else {
-        return Ok(it);
+        return Diagnostic::named(alloc, Place::EntryMember(entry, part), error);
     };
-    let kinds = format!(in alloc; "{kind}s")?;
-    it.found = Some(nothing_named(alloc, kind, name)?);
-    it.hint = Some(those_there(alloc, kinds.as_str(), items)?);
-    Ok(it)
+    let found = nothing_named(alloc, part.name(), name)?;
+    let kinds = format!(in alloc; "{}s", part.name())?;
+    let hint = those_there(alloc, kinds.as_str(), items)?;
+    let it = Diagnostic::named(alloc, Place::EntryMember(entry, part), error)?;
+    Ok(it.with_found(Some(found)).with_hint(Some(hint)))
 }
 
 fn unknown_run(alloc: Global, document: &Json, entry: usize) -> Result<Diagnostic, AllocError>
     ensures { IfOk result (λ it. it ≡ unknown_run (view document.now) entry) }
 {
-    let place = Place::EntryMember(entry, EntryPart::Run);
     let name = entry_text(document, entry, "run");
-    unknown_name_diagnostic(alloc, place, "UnknownRun", "run", name, runs(document))
+    let found = runs(document);
+    unknown_name_diagnostic(alloc, entry, EntryPart::Run, "UnknownRun", name, found)
 }
 
 fn unknown_metric(alloc: Global, document: &Json, entry: usize) -> Result<Diagnostic, AllocError>
     ensures { IfOk result (λ it. it ≡ unknown_metric (view document.now) entry) }
 {
-    let place = Place::EntryMember(entry, EntryPart::Metric);
-    let (name, found) = (entry_text(document, entry, "metric"), metrics(document));
-    unknown_name_diagnostic(alloc, place, "UnknownMetric", "metric", name, found)
+    let name = entry_text(document, entry, "metric");
+    let found = metrics(document);
+    unknown_name_diagnostic(
+        alloc,
+        entry,
+        EntryPart::Metric,
+        "UnknownMetric",
+        name,
+        found,
+    )
 }
 
 // ---- documents that have runs
@@ -163,9 +156,8 @@ fn run_diagnostic(alloc: Global, run: Item) -> Result<Diagnostic, AllocError>
     ensures { IfOk result (λ it. it ≡ run_diagnostic run) }
 {
     let found = double_run(alloc, &run.name)?;
-    let mut it = Diagnostic::named(alloc, Place::Run(run), "DoubleRun")?;
-    it.found = Some(found);
-    Ok(it)
+    let it = Diagnostic::named(alloc, Place::Run(run), "DoubleRun")?;
+    Ok(it.with_found(Some(found)))
 }
 
 fn shape_place(alloc: Global, document: &Json, metric: usize) -> Result<Place, AllocError>
@@ -174,9 +166,9 @@ fn shape_place(alloc: Global, document: &Json, metric: usize) -> Result<Place, A
     Ok(Place::Metric(Within::Shapes, metric_item(alloc, document, metric)?))
 }
 
-/// What helps where no shape has a metric's name.
-fn missing_hint(alloc: Global, close: Option<Text>) -> Result<Text, AllocError>
-    ensures { IfOk result (λ hint. hint ≡ missing_hint close) }
+/// What helps where no shape has a metric's name: the key that is probably meant, if there is one.
+fn missing_shape_hint(alloc: Global, close: Option<Text>) -> Result<Text, AllocError>
+    ensures { IfOk result (λ hint. hint ≡ missing_shape_hint close) }
 {
     match close {
         Some(key) => {
@@ -188,18 +180,14 @@ fn missing_hint(alloc: Global, close: Option<Text>) -> Result<Text, AllocError>
 }
 
 /// No shape has a metric's name.
-fn missing_diagnostic(
-    alloc: Global,
-    document: &Json,
-    metric: usize,
-) -> Result<Diagnostic, AllocError>
-    ensures { IfOk result (λ it. it ≡ missing_diagnostic (view document.now) metric) }
+fn missing_shape(alloc: Global, document: &Json, metric: usize) -> Result<Diagnostic, AllocError>
+    ensures { IfOk result (λ it. it ≡ missing_shape (view document.now) metric) }
 {
+    let hint = missing_shape_hint(alloc, close_shape(alloc, document, metric)?)?;
     let place = shape_place(alloc, document, metric)?;
     let expected = "a shape in `shapes` for each metric, by its name";
-    let mut it = Diagnostic::expecting(alloc, place, "ShapeMissing", expected)?;
-    it.hint = Some(missing_hint(alloc, close_shape(alloc, document, metric)?)?);
-    Ok(it)
+    let it = Diagnostic::expecting(alloc, place, "ShapeMissing", expected)?;
+    Ok(it.with_hint(Some(hint)))
 }
 
 /// The refusal of a document that has runs.
@@ -217,7 +205,7 @@ pub fn bundle_diagnostic(
 {
     match error {
         BundleError::Manifest(cause) => template_diagnostic(alloc, document, cause),
-        BundleError::ShapeMissing(metric) => missing_diagnostic(alloc, document, metric),
+        BundleError::ShapeMissing(metric) => missing_shape(alloc, document, metric),
         BundleError::Shapes(metric, cause) => {
             let place = shape_place(alloc, document, metric)?;
             shape_diagnostic(alloc, place, cause)
@@ -251,22 +239,6 @@ pub fn bundle_diagnostic(
 
 // ---- the document that `eval` reads
 
-fn misfit_expected(fault: ShapeFault) -> &'static str
-    ensures { result.now ≡ misfit_expected fault }
-{
-    match fault {
-        ShapeFault::WrongKind => "a value of the declared shape",
-        ShapeFault::FloatNumber => "a whole JSON number, or a decimal as a text, as \"0.95\"",
-        ShapeFault::NotFinite => "a finite number",
-        ShapeFault::BadDecimal =>
-            "digits with at most one point and an exponent or none, as \"0.95\" or \"9.5e-1\"",
-        ShapeFault::OutOfRange => "a whole of 64 bits, or a decimal whose millionths fit them",
-        ShapeFault::ListTooLong => "a list of at most its shape's \"max\" items",
-        ShapeFault::MissingField => "each field of the record's shape that isn't optional",
-        ShapeFault::OutOfMemory => "",
-    }
-}
-
 /// Whether a condition has braces, as references to arguments have in a template.
 fn has_braces(condition: Option<&str>) -> bool
     ensures { result ≡ has_braces (option_map (λ text. text.now) condition.entry) }
@@ -278,22 +250,37 @@ fn has_braces(condition: Option<&str>) -> bool
 }
 
 /// Arguments in braces are bound in templates alone.
-fn with_braces(
+fn braces_hint(
     alloc: Global,
     error: SyntaxError,
     condition: Option<&str>,
-    mut it: Diagnostic,
-) -> Result<Diagnostic, AllocError>
+) -> Result<Option<Text>, AllocError>
     ensures { IfOk result
-        (λ after. after ≡ with_braces error (option_map (λ text. text.now) condition.entry) it) }
+        (λ hint. hint ≡ braces_hint error (option_map (λ text. text.now) condition.entry)) }
 {
     match error {
         SyntaxError::Unexpected(_) if has_braces(condition) => {
             let hint = "arguments as {{args.NAME}} are bound in a template, by check, list and run";
-            it.hint = Some(Text::of(alloc, hint)?);
-            Ok(it)
+            Ok(Some(Text::of(alloc, hint)?))
         }
-        _ => Ok(it),
+        _ => Ok(None),
+    }
+}
+
+fn grammar_diagnostic(
+    alloc: Global,
+    error: SyntaxError,
+    condition: Option<&str>,
+) -> Result<Diagnostic, AllocError>
+    ensures { IfOk result
+        (λ it. it ≡ grammar_diagnostic error (option_map (λ text. text.now) condition.entry)) }
+{
+    let hint = braces_hint(alloc, error, condition)?;
+    let (place, cause) = (Place::Member(Member::Condition), BuildCause::Grammar(error));
+    let it = condition_diagnostic(alloc, place, &None, condition, cause)?;
+    match hint {
+        Some(hint) => Ok(it.with_hint(Some(hint))),
+        None => Ok(it),
     }
 }
 
@@ -310,7 +297,6 @@ pub fn eval_diagnostic(
 ) -> Result<Diagnostic, AllocError>
     ensures { IfOk result (λ it. it ≡ eval_diagnostic (view document.now) error) }
 {
-    let place = Place::Member(Member::Condition);
     let condition = text_member(document, "condition");
     match error {
         EvalError::BadDocument => {
@@ -318,18 +304,16 @@ pub fn eval_diagnostic(
             Diagnostic::expecting(alloc, Place::Document, "BadDocument", expected)
         }
         EvalError::Shape(error) => { shape_diagnostic(alloc, Place::Member(Member::Shape), error) }
-        EvalError::Grammar(error) => {
-            let cause = BuildCause::Grammar(error);
-            let it = condition_diagnostic(alloc, place, &None, condition, cause)?;
-            with_braces(alloc, error, condition, it)
-        }
+        EvalError::Grammar(error) => grammar_diagnostic(alloc, error, condition),
         EvalError::Kinds(error) => {
             let shape = declared_shape(alloc, document.get("shape"))?;
-            let cause = BuildCause::Kinds(error);
+            let (place, cause) = (Place::Member(Member::Condition), BuildCause::Kinds(error));
             condition_diagnostic(alloc, place, &shape, condition, cause)
         }
-        EvalError::Compiler(_) => length_diagnostic(alloc, place),
-        EvalError::Verifier(_, reason) => code_diagnostic(alloc, place, reason),
+        EvalError::Compiler(_) => length_diagnostic(alloc, Place::Member(Member::Condition)),
+        EvalError::Verifier(_, reason) => {
+            code_diagnostic(alloc, Place::Member(Member::Condition), reason)
+        }
         EvalError::Misfit(fault) => {
             let place = Place::Member(Member::Value);
             Diagnostic::expecting(alloc, place, fault.name(), misfit_expected(fault))

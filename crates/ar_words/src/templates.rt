@@ -1,31 +1,30 @@
 //! Refusals of templates, and of their binding to the arguments of a run.
 
-ghost use Rattle.std.specs.Prelude.{◌≡◌, ◌++◌, IfOk, OnOk, map, option_and_then, option_map, string_bytes};
+ghost use Rattle.std.specs.Prelude.{◌≡◌, ◌++◌, IfOk, OnOk, Some, map, option_and_then, option_map, string_bytes};
 ghost use Rattle.serde_json.specs.View.{view};
-ghost use Rattle.ar_diagnostic.specs.Diagnostic.{expecting};
 ghost use Rattle.ar_words.specs.Fields.{metric_misfit, misfit_of};
+ghost use Rattle.ar_diagnostic.specs.Diagnostic.{expecting};
+ghost use Rattle.ar_diagnostic.specs.declared.place.Place.TheVariants as places;
+ghost use Rattle.ar_words.specs.Bindings.{limit_in};
 ghost use Rattle.ar_words.specs.Lists.{list_item, metrics};
-ghost use Rattle.ar_words.specs.Templates.{argument_place, arguments_there, arguments_diagnostic, binding_diagnostic, bound_place, dry_run_diagnostic, dry_run_hint, dry_run_item, field_diagnostic, given_kind, head_diagnostic, kind_of_list, limit_said, list_kind, manifest_hint, metric_place, reference_said, template_diagnostic, template_place, value_said};
+ghost use Rattle.ar_words.specs.Templates.{argument_place, arguments_there, arguments_diagnostic, binding_diagnostic, bound_place, dry_run_diagnostic, dry_run_hint, expecting_field, field_diagnostic, field_of, given_kind, head_diagnostic, kind_of_list, limit_diagnostic, limit_field, limit_said, list_diagnostic, list_kind, manifest_hint, metric_diagnostic, metric_place, reference_said, template_diagnostic, unknown_argument, unnamed_dry_run, unnamed_place, unvalued_argument, value_said};
 
 use crate::bindings::{limit_in, unbound_in};
 use crate::fields::{FieldMisfit, field_said, metric_misfit};
 use crate::items::{metric_item, named_item, run_item};
 use crate::lists::{item_at, list_in, metrics, template_list, text_at};
 use crate::names::{no_metric_named, those_there};
-use ar_diagnostic::{Diagnostic, Item, Member, Place, SpecPart, Within, copy_of, with_quoted};
+use ar_diagnostic::{
+    Diagnostic, Item, Member, MetricField, Place, SpecPart, TemplateField, Within, copy_of,
+    with_quoted,
+};
 use ar_json::members::text_member;
-use ar_manifest::{LimitValue, ManifestError, RefusedLimit};
+use ar_manifest::{LimitField, LimitValue, ManifestError, RefusedLimit};
 use ar_quote::push_quoted;
 use ar_value::Text;
 use serde_json::Value as Json;
 use std::alloc::{AllocError, Global};
 use std::fmt::Write;
-
-fn template_place() -> Place
-    ensures { result ≡ template_place }
-{
-    Place::Member(Member::Manifest)
-}
 
 // ---- the head of a template
 
@@ -69,26 +68,33 @@ fn manifest_hint(manifest: Option<&Json>) -> Option<&'static str>
     }
 }
 
+/// A list of templates is in place of a template.
+fn list_diagnostic(alloc: Global, name: &str, kind: &str) -> Result<Diagnostic, AllocError>
+    ensures { IfOk result (λ it. it ≡ list_diagnostic name.now kind.now) }
+{
+    let found = with_quoted(alloc, "", kind, " is a list of templates")?;
+    let hint = Text::of(alloc, "`manifest` takes one of its `items`")?;
+    let it = Diagnostic::named(alloc, Place::Member(Member::Manifest), name)?;
+    Ok(it.with_found(Some(found)).with_hint(Some(hint)))
+}
+
 /// The version or the kind is another one, as that of a list of templates is.
 fn head_diagnostic(
     alloc: Global,
     document: &Json,
+    field: TemplateField,
     name: &str,
     expected: &str,
-    kind: Option<&str>,
 ) -> Result<Diagnostic, AllocError>
-    ensures { IfOk result (λ it. it ≡ head_diagnostic (view document.now) name.now expected.now
-        (option_map (λ kind. kind.now) kind.entry)) }
+    ensures { IfOk result (λ it. it
+        ≡ head_diagnostic (view document.now) field name.now expected.now (given_kind (view document.now))) }
 {
-    let Some(kind) = kind else {
-        let mut it = Diagnostic::expecting(alloc, template_place(), name, expected)?;
-        it.hint = copy_of(alloc, manifest_hint(document.get("manifest")))?;
-        return Ok(it);
-    };
-    let mut it = Diagnostic::named(alloc, template_place(), name)?;
-    it.found = Some(with_quoted(alloc, "", kind, " is a list of templates")?);
-    it.hint = Some(Text::of(alloc, "`manifest` takes one of its `items`")?);
-    Ok(it)
+    if let Some(kind) = given_kind(document) {
+        return list_diagnostic(alloc, name, kind);
+    }
+    let hint = copy_of(alloc, manifest_hint(document.get("manifest")))?;
+    let it = Diagnostic::expecting(alloc, Place::Template(field), name, expected)?;
+    Ok(it.with_hint(hint))
 }
 
 // ---- the template
@@ -111,30 +117,100 @@ fn arguments_diagnostic(
     ensures { IfOk result (λ it. it ≡ arguments_diagnostic number
         (option_map (λ list. map (λ item. view item) list.now) arguments.entry)) }
 {
-    let item = named_item(alloc, number, arguments)?;
-    let place = argument_place(item, item_at(arguments, number));
     let expected = format!(in alloc;
         "a list, and of argument {number} a text `name` of its own and no `value` but a text"
     )?;
+    let item = named_item(alloc, number, arguments)?;
+    let place = argument_place(item, item_at(arguments, number));
     Diagnostic::expecting(alloc, place, "BadArgs", expected.as_str())
 }
 
-/// A field holds a value of another kind than it takes.
-fn field_diagnostic(
+/// A metric of a template, or a field of it.
+fn metric_place(
     alloc: Global,
-    place: Place,
-    misfit: Option<FieldMisfit<'_>>,
-) -> Result<Diagnostic, AllocError>
-    ensures { IfOk result (λ it. it ≡ field_diagnostic place
-        (option_map (λ found. misfit_of found.field.now (view found.value.now) found.expected.now) misfit.entry)) }
+    document: &Json,
+    metric: usize,
+    field: Option<MetricField>,
+) -> Result<Place, AllocError>
+    ensures { IfOk result (λ place. place ≡ metric_place (view document.now) metric field) }
 {
-    let Some(misfit) = misfit else {
-        let expected = "texts for conditions and `interval`, numbers or texts for limits";
-        return Diagnostic::expecting(alloc, place, "BadField", expected);
-    };
-    let mut it = Diagnostic::expecting(alloc, place, "BadField", misfit.expected)?;
-    it.found = Some(field_said(alloc, misfit)?);
-    Ok(it)
+    Ok(Place::Metric(
+        Within::Manifest(field),
+        metric_item(alloc, document, metric)?,
+    ))
+}
+
+/// A field of a metric has to be another one, or away.
+fn expecting_field(
+    alloc: Global,
+    document: &Json,
+    metric: usize,
+    field: MetricField,
+    name: &str,
+    expected: &str,
+) -> Result<Diagnostic, AllocError>
+    ensures { IfOk result
+        (λ it. it ≡ expecting_field (view document.now) metric field name.now expected.now) }
+{
+    let place = metric_place(alloc, document, metric, Some(field))?;
+    Diagnostic::expecting(alloc, place, name, expected)
+}
+
+/// A field holds a value of another kind than it takes.
+fn misfit_diagnostic(
+    alloc: Global,
+    document: &Json,
+    metric: usize,
+    misfit: FieldMisfit<'_>,
+) -> Result<Diagnostic, AllocError>
+    ensures { IfOk result (λ it. it ≡ field_diagnostic (view document.now) metric
+        (Some (misfit_of misfit.entry.field (view misfit.entry.value.now) misfit.entry.expected.now))) }
+{
+    let found = field_said(alloc, misfit)?;
+    let place = metric_place(alloc, document, metric, Some(misfit.field))?;
+    let it = Diagnostic::expecting(alloc, place, "BadField", misfit.expected)?;
+    Ok(it.with_found(Some(found)))
+}
+
+/// A field of a metric holds a value of another kind than it takes.
+fn field_diagnostic(alloc: Global, document: &Json, metric: usize) -> Result<Diagnostic, AllocError>
+    ensures { IfOk result (λ it. it ≡ field_diagnostic (view document.now) metric
+        (option_and_then metric_misfit (list_item metric (metrics (view document.now))))) }
+{
+    match metric_misfit(item_at(metrics(document), metric)) {
+        Some(misfit) => misfit_diagnostic(alloc, document, metric, misfit),
+        None => {
+            let place = metric_place(alloc, document, metric, None)?;
+            let expected = "texts for conditions and `interval`, numbers or texts for limits";
+            Diagnostic::expecting(alloc, place, "BadField", expected)
+        }
+    }
+}
+
+/// An item of `dryRun`, if there is one of the number, or all of them.
+fn unnamed_place(number: usize, item: Option<&Json>) -> Place
+    ensures { result ≡ unnamed_place number (option_map (λ json. view json.now) item.entry) }
+{
+    match item {
+        Some(_) => Place::UnnamedDryRun(number),
+        None => Place::Spec(SpecPart::DryRun),
+    }
+}
+
+/// `dryRun` is no list, or an item of it has no name.
+fn unnamed_dry_run(
+    alloc: Global,
+    number: usize,
+    items: Option<&[Json]>,
+) -> Result<Diagnostic, AllocError>
+    ensures { IfOk result (λ it. it ≡ unnamed_dry_run number
+        (option_map (λ list. map (λ item. view item) list.now) items.entry)) }
+{
+    let expected = format!(in alloc;
+        "a list, and of item {number} a text `metricName` that isn't empty"
+    )?;
+    let place = unnamed_place(number, item_at(items, number));
+    Diagnostic::expecting(alloc, place, "BadDryRun", expected.as_str())
 }
 
 fn dry_run_hint(
@@ -160,56 +236,57 @@ fn dry_run_diagnostic(
     ensures { IfOk result (λ it. it ≡ dry_run_diagnostic (view document.now) number) }
 {
     let name = text_at(template_list(document, "dryRun"), number, "metricName");
-    let place = Place::DryRunName(number);
+    let hint = dry_run_hint(alloc, name, metrics(document))?;
     let expected = "a metric's whole name, or `.*` alone";
-    let mut it = Diagnostic::expecting(alloc, place, "UnknownDryRun", expected)?;
-    it.hint = dry_run_hint(alloc, name, metrics(document))?;
-    Ok(it)
+    let it = Diagnostic::expecting(alloc, Place::DryRunName(number), "UnknownDryRun", expected)?;
+    Ok(it.with_hint(hint))
 }
 
-fn metric_place(alloc: Global, document: &Json, metric: usize) -> Result<Place, AllocError>
-    ensures { IfOk result (λ place. place ≡ metric_place (view document.now) metric) }
-{
-    Ok(Place::Metric(Within::Manifest, metric_item(alloc, document, metric)?))
-}
-
-/// Something else is expected of a metric.
-fn expecting_of_metric(
+/// The refusal of a metric of a template.
+#[tactic(auto, unfolding(crate::specs::Templates::metric_diagnostic))]
+fn metric_diagnostic(
     alloc: Global,
     document: &Json,
-    metric: usize,
+    error: ManifestError,
+) -> Result<Diagnostic, AllocError>
+    ensures { IfOk result (λ it. it ≡ metric_diagnostic (view document.now) error) }
+{
+    match error {
+        ManifestError::MetricNameMissing(metric) => {
+            let (field, expected) = (MetricField::Name, "a text `name`");
+            expecting_field(
+                alloc,
+                document,
+                metric,
+                field,
+                "MetricNameMissing",
+                expected,
+            )
+        }
+        ManifestError::DoubleMetric(metric) => {
+            let (field, expected) = (MetricField::Name, "a name that no earlier metric has");
+            expecting_field(alloc, document, metric, field, "DoubleMetric", expected)
+        }
+        ManifestError::BadField(metric) => field_diagnostic(alloc, document, metric),
+        ManifestError::Unsupported(metric) => {
+            let field = MetricField::ConsecutiveSuccessLimit;
+            let expected = "no `consecutiveSuccessLimit`";
+            expecting_field(alloc, document, metric, field, "Unsupported", expected)
+        }
+        _ => Diagnostic::named(alloc, Place::Member(Member::Manifest), error.name()),
+    }
+}
+
+/// A field that each template has is another one, or missing.
+fn expecting_template(
+    alloc: Global,
+    field: TemplateField,
     name: &str,
     expected: &str,
 ) -> Result<Diagnostic, AllocError>
-    ensures { IfOk result
-        (λ it. it ≡ expecting (metric_place (view document.now) metric) name.now expected.now) }
+    ensures { IfOk result (λ it. it ≡ expecting (places.Template field) name.now expected.now) }
 {
-    let place = metric_place(alloc, document, metric)?;
-    Diagnostic::expecting(alloc, place, name, expected)
-}
-
-/// A field of a metric holds a value of another kind than it takes.
-fn field_of_metric(alloc: Global, document: &Json, metric: usize) -> Result<Diagnostic, AllocError>
-    ensures { IfOk result (λ it. it ≡ field_diagnostic (metric_place (view document.now) metric)
-        (option_and_then metric_misfit (list_item metric (metrics (view document.now))))) }
-{
-    let place = metric_place(alloc, document, metric)?;
-    field_diagnostic(
-        alloc,
-        place,
-        metric_misfit(item_at(metrics(document), metric)),
-    )
-}
-
-/// `dryRun` is no list, or an item of it has no name.
-fn dry_run_item(alloc: Global, number: usize) -> Result<Diagnostic, AllocError>
-    ensures { IfOk result (λ it. it ≡ dry_run_item number) }
-{
-    let expected = format!(in alloc;
-        "a list, and of item {number} a text `metricName` that isn't empty"
-    )?;
-    let place = Place::Spec(SpecPart::DryRun);
-    Diagnostic::expecting(alloc, place, "BadDryRun", expected.as_str())
+    Diagnostic::expecting(alloc, Place::Template(field), name, expected)
 }
 
 /// The refusal of a template.
@@ -221,83 +298,71 @@ pub(crate) fn template_diagnostic(
 ) -> Result<Diagnostic, AllocError>
     ensures { IfOk result (λ it. it ≡ template_diagnostic (view document.now) error) }
 {
-    let place = template_place();
     match error {
         ManifestError::WrongVersion => {
             let expected = "`apiVersion` \"argoproj.io/v1alpha1\"";
             head_diagnostic(
                 alloc,
                 document,
-                error.name(),
+                TemplateField::Version,
+                "WrongVersion",
                 expected,
-                given_kind(document),
             )
         }
         ManifestError::WrongKind => {
             let expected = "`kind` \"AnalysisTemplate\" or \"ClusterAnalysisTemplate\"";
-            head_diagnostic(
-                alloc,
-                document,
-                error.name(),
-                expected,
-                given_kind(document),
-            )
+            head_diagnostic(alloc, document, TemplateField::Kind, "WrongKind", expected)
         }
         ManifestError::NameMissing => {
             let expected = "a text `metadata.name` that isn't empty";
-            Diagnostic::expecting(alloc, place, error.name(), expected)
+            expecting_template(alloc, TemplateField::Name, "NameMissing", expected)
         }
         ManifestError::BadArgs(number) => {
             arguments_diagnostic(alloc, number, template_list(document, "args"))
         }
         ManifestError::NoMetrics => {
             let expected = "a list `spec.metrics` of at least one metric";
-            Diagnostic::expecting(alloc, place, error.name(), expected)
+            expecting_template(alloc, TemplateField::Metrics, "NoMetrics", expected)
         }
         ManifestError::TooManyMetrics => {
-            Diagnostic::expecting(alloc, place, error.name(), "at most 64 metrics")
+            let expected = "at most 64 metrics";
+            expecting_template(alloc, TemplateField::Metrics, "TooManyMetrics", expected)
         }
-        ManifestError::MetricNameMissing(metric) => {
-            expecting_of_metric(alloc, document, metric, error.name(), "a text `name`")
+        ManifestError::BadDryRun(number) => {
+            unnamed_dry_run(alloc, number, template_list(document, "dryRun"))
         }
-        ManifestError::DoubleMetric(metric) => {
-            let expected = "a name that no earlier metric has";
-            expecting_of_metric(alloc, document, metric, error.name(), expected)
-        }
-        ManifestError::BadField(metric) => field_of_metric(alloc, document, metric),
-        ManifestError::Unsupported(metric) => {
-            let expected = "no `consecutiveSuccessLimit`";
-            expecting_of_metric(alloc, document, metric, error.name(), expected)
-        }
-        ManifestError::BadDryRun(number) => dry_run_item(alloc, number),
         ManifestError::UnknownDryRun(number) => dry_run_diagnostic(alloc, document, number),
-        _ => Diagnostic::named(alloc, place, error.name()),
+        _ => metric_diagnostic(alloc, document, error),
     }
 }
 
 // ---- its binding
 
-fn bound_place(
+/// A metric, or a field of it, with the arguments of a run.
+pub(crate) fn bound_place(
     alloc: Global,
     document: &Json,
     run: usize,
     metric: usize,
+    field: Option<MetricField>,
 ) -> Result<Place, AllocError>
-    ensures { IfOk result (λ place. place ≡ bound_place (view document.now) run metric) }
+    ensures { IfOk result (λ place. place ≡ bound_place (view document.now) run metric field) }
 {
     let run = run_item(alloc, document, run)?;
-    Ok(Place::BoundMetric(run, metric_item(alloc, document, metric)?))
+    Ok(Place::BoundMetric(run, metric_item(alloc, document, metric)?, field))
 }
 
-/// A reference in braces, with words after it.
+/// The first reference of a metric that has no value, in braces, with words after it.
 fn reference_said(
     alloc: Global,
-    reference: Option<Text>,
+    document: &Json,
+    run: usize,
+    metric: usize,
     words: &str,
 ) -> Result<Option<Text>, AllocError>
-    ensures { IfOk result (λ said. said ≡ reference_said words.now reference) }
+    ensures { IfOk result (λ said. said ≡ reference_said (view document.now) run metric words.now) }
 {
-    match reference {
+    match unbound_in(alloc, document, run, metric)? {
         Some(reference) => Ok(Some(with_quoted(alloc, "", reference.as_str(), words)?)),
         None => Ok(None),
     }
@@ -326,12 +391,83 @@ fn limit_said(alloc: Global, limit: Option<RefusedLimit>) -> Result<Option<Text>
     Ok(Some(Text::from(said)))
 }
 
+fn field_of(field: LimitField) -> MetricField
+    ensures { result ≡ field_of field }
+{
+    match field {
+        LimitField::Count => MetricField::Count,
+        LimitField::Failure => MetricField::FailureLimit,
+        LimitField::Inconclusive => MetricField::InconclusiveLimit,
+        LimitField::ConsecutiveError => MetricField::ConsecutiveErrorLimit,
+    }
+}
+
+fn limit_field(limit: &Option<RefusedLimit>) -> Option<MetricField>
+    ensures { result ≡ option_map limit_field limit.now }
+{
+    match limit {
+        Some(limit) => Some(field_of(limit.field)),
+        None => None,
+    }
+}
+
 /// The arguments of the template.
 fn arguments_there(alloc: Global, document: &Json) -> Result<Text, AllocError>
     ensures { IfOk result (λ text. text ≡ arguments_there (view document.now)) }
 {
     let arguments = template_list(document, "args").unwrap_or(&[]);
     those_there(alloc, "arguments", arguments)
+}
+
+/// A text of a metric names no argument of the template.
+fn unknown_argument(
+    alloc: Global,
+    document: &Json,
+    run: usize,
+    metric: usize,
+) -> Result<Diagnostic, AllocError>
+    ensures { IfOk result (λ it. it ≡ unknown_argument (view document.now) run metric) }
+{
+    let found = reference_said(alloc, document, run, metric, " in braces")?;
+    let hint = arguments_there(alloc, document)?;
+    let place = bound_place(alloc, document, run, metric, None)?;
+    let expected = "args.NAME with a name of `spec.args`";
+    let it = Diagnostic::expecting(alloc, place, "UnknownArg", expected)?;
+    Ok(it.with_found(found).with_hint(Some(hint)))
+}
+
+/// A text of a metric names an argument that has no value.
+fn unvalued_argument(
+    alloc: Global,
+    document: &Json,
+    run: usize,
+    metric: usize,
+) -> Result<Diagnostic, AllocError>
+    ensures { IfOk result (λ it. it ≡ unvalued_argument (view document.now) run metric) }
+{
+    let found = reference_said(alloc, document, run, metric, " in braces has no value")?;
+    let place = bound_place(alloc, document, run, metric, None)?;
+    let it = Diagnostic::expecting(alloc, place, "NoValue", "one from the run or the template")?;
+    Ok(it.with_found(found))
+}
+
+/// A limit of a metric isn't one.
+fn limit_diagnostic(
+    alloc: Global,
+    document: &Json,
+    run: usize,
+    metric: usize,
+) -> Result<Diagnostic, AllocError>
+    ensures { IfOk result (λ it. it ≡ limit_diagnostic (view document.now) run metric
+        (limit_in (view document.now) run metric)) }
+{
+    let limit = limit_in(alloc, document, run, metric)?;
+    let field = limit_field(&limit);
+    let found = limit_said(alloc, limit)?;
+    let place = bound_place(alloc, document, run, metric, field)?;
+    let expected = "0 to 1000000000 in one to ten digits";
+    let it = Diagnostic::expecting(alloc, place, "BadLimit", expected)?;
+    Ok(it.with_found(found))
 }
 
 /// The refusal of a template's binding to the arguments of the run with a number.
@@ -346,37 +482,16 @@ pub(crate) fn binding_diagnostic(
 {
     match error {
         ManifestError::OpenBraces(metric) => {
-            let place = bound_place(alloc, document, run, metric)?;
-            Diagnostic::expecting(alloc, place, error.name(), "}} after {{")
+            let place = bound_place(alloc, document, run, metric, None)?;
+            Diagnostic::expecting(alloc, place, "OpenBraces", "}} after {{")
         }
-        ManifestError::UnknownArg(metric) => {
-            let place = bound_place(alloc, document, run, metric)?;
-            let reference = unbound_in(alloc, document, run, metric)?;
-            let expected = "args.NAME with a name of `spec.args`";
-            let mut it = Diagnostic::expecting(alloc, place, error.name(), expected)?;
-            it.found = reference_said(alloc, reference, " in braces")?;
-            it.hint = Some(arguments_there(alloc, document)?);
-            Ok(it)
-        }
-        ManifestError::NoValue(metric) => {
-            let place = bound_place(alloc, document, run, metric)?;
-            let reference = unbound_in(alloc, document, run, metric)?;
-            let expected = "one from the run or the template";
-            let mut it = Diagnostic::expecting(alloc, place, error.name(), expected)?;
-            it.found = reference_said(alloc, reference, " in braces has no value")?;
-            Ok(it)
-        }
-        ManifestError::BadLimit(metric) => {
-            let place = bound_place(alloc, document, run, metric)?;
-            let expected = "0 to 1000000000 in one to ten digits";
-            let mut it = Diagnostic::expecting(alloc, place, error.name(), expected)?;
-            it.found = limit_said(alloc, limit_in(alloc, document, run, metric)?)?;
-            Ok(it)
-        }
+        ManifestError::UnknownArg(metric) => unknown_argument(alloc, document, run, metric),
+        ManifestError::NoValue(metric) => unvalued_argument(alloc, document, run, metric),
+        ManifestError::BadLimit(metric) => limit_diagnostic(alloc, document, run, metric),
         ManifestError::IntervalMissing(metric) => {
-            let place = bound_place(alloc, document, run, metric)?;
+            let place = bound_place(alloc, document, run, metric, Some(MetricField::Interval))?;
             let expected = "an `interval` with a `count` above 1";
-            Diagnostic::expecting(alloc, place, error.name(), expected)
+            Diagnostic::expecting(alloc, place, "IntervalMissing", expected)
         }
         _ => template_diagnostic(alloc, document, error),
     }
