@@ -177,10 +177,8 @@ impl<'b, M: BundleName, L: LockNames> Board<'b, M, L> {
     pub fn finish(self, seats: Vec<Seat<M, L>>) -> Result<Finished, Lost>
         requires all { length seats.items ≡ M.workers }
         requires parts { L.parts ≡ M.workers }
-        ensures closed { IfOk result
-            (λ finished. IsClosed M.bundle (receipts_of seats.items) finished.histories) }
-        ensures states { IfOk result
-            (λ finished. AreStatesOf M.bundle finished.histories finished.states.items) }
+        ensures closed { IfOk result (λ it. IsClosed M.bundle (receipts_of seats.items) it.histories) }
+        ensures states { IfOk result (λ it. AreStatesOf M.bundle it.histories it.states.items) }
         ensures lost { IfErr result (IsLost M.bundle (receipts_of seats.items)) }
     {
         let mut room = self.room;

@@ -42,7 +42,9 @@ pub mod seat;
 mod shares;
 mod under;
 
-pub use ar_bundle::{Bundle, Entry, EventPart, Finding, Finished, Histories, MetricPart, RunPart, What};
+pub use ar_bundle::{
+    Bundle, Entry, EventPart, Finding, Finished, Histories, MetricPart, RunPart, What,
+};
 pub use ar_value::limits::MOST_WORKERS;
 pub use board::Board;
 pub use cell::RunCell;

@@ -1,6 +1,6 @@
 -- What was read of an input says as much as all of it.
 use Rattle.std.proofs.Common.{◌≡◌, ℕ, ◌≤◌, Bool, true, false, List, [], ◌++◌, length, Option, Some, None, Result, Ok, Err, refl, sym, subst, ◌∙◌, ap, arith, length-append, append-nil}
-use Rattle.std.specs.Prelude.{IfOk, IfSome, OnErr, OnOk, nat_lt}
+use Rattle.std.specs.Prelude.{IfOk, IfSome, nat_lt}
 use Rattle.std.proofs.lemmas.Bool.Decides.{nat_tests}
 use Rattle.ar_value.specs.Answer.{◌>>=◌}
 use Rattle.ar_value.specs.declared.fault.Fault.{Fault}
@@ -9,22 +9,21 @@ use Rattle.ar_judge.specs.Saying.{refused_as}
 use Rattle.ar_document.specs.Document as bundles
 use Rattle.ar_json.specs.Document.{json_in, most_bytes}
 use Rattle.ar_document.specs.declared.error.BundleError.{BundleError}
-use Rattle.ar_command_line.specs.Input.{ReadsUpToLimit}
+use Rattle.ar_command_line.specs.Input.{ReadsUpToLimit, most_reads}
+use Rattle.std.specs.Io.KnownBytes.{Appends}
 use Rattle.ar_eval.specs.Evaluation.{Evaluates, Follows, eval_json_error, prepared, prepared_input}
 use Rattle.ar_command_line.specs.Selection.{Selected, selected}
-use Rattle.ar_command.specs.Serving.{Explains, LacksSelected, RefusesInput, Reports, Says, WritesFront}
-use Rattle.ar_command_line.specs.Output.{AppendsFront, Call}
+use Rattle.ar_command.specs.Served.{Served, ServedInput}
+use Rattle.ar_command.specs.Serving.{Explains, IsCarriedOut, LacksSelected, RefusesInput, Reports, Says, WritesFront}
+use Rattle.ar_command_line.specs.History.{GrowsAtMost}
+use Rattle.ar_command_line.specs.Output.{AppendsAll, Call}
 use Rattle.ar_eval.specs.declared.eval.EvalError.{EvalError}
 use Rattle.ar_command.specs.declared.serving.Closing.{Closing}
 use Rattle.ar_command_line.specs.declared.command_line.Command.{Command}
 use Rattle.ar_command_line.specs.declared.command_line.Command.TheVariants as commands
 use Rattle.ar_command_line.specs.declared.command_line.Format.{Format}
 use Rattle.ar_command.specs.declared.serving.Refusal.{Refusal}
-use Rattle.ar_value.specs.Answer.{IfRefused}
-use Rattle.ar_command.specs.Private.Refusing.{Names, is_serve_memory}
 use Rattle.ar_command.specs.declared.serving.ServeError.{ServeError}
-use Rattle.ar_command.specs.declared.serving.ServeError.TheVariants.{OutOfMemory, Read, Refused, Work, Write}
-use Rattle.ar_workers.specs.declared.error.WorkError.{WorkError}
 use Rattle.ar_command.specs.declared.serving.Refusal.TheVariants as refusals
 
 -- one input begins with the bytes that were read, all of them or too many
@@ -105,31 +104,40 @@ said_of_whole known after bytes command text closing reads says = of_known (λ i
 refused_of_whole : (known after : Option (List ℕ)) (bytes : List ℕ) (command : Command) (refusal : Refusal) → ReadsUpToLimit known after bytes → RefusesInput command bytes refusal → IfSome known (λ input. RefusesInput command input refusal)
 refused_of_whole known after bytes command refusal reads refuses = of_known (λ input. RefusesInput command input refusal) bytes known (same_json known after bytes reads) (λ input same. refuses_too input bytes same command refusal refuses)
 
-pub refused_by : (known after : Option (List ℕ)) (bytes : List ℕ) (command : Command) (Q : WorkError → Type 0) (error : ServeError) (refusal : Refusal) → ReadsUpToLimit known after bytes → IfRefused {X = Bool} is_serve_memory (Err error) (Names (RefusesInput command bytes) Q) → error ≡ Refused refusal → IfSome known (λ input. RefusesInput command input refusal)
-refused_by known after bytes command Q (Refused own) refusal reads refuses same = let is : own ≡ refusal = cc in refused_of_whole known after bytes command refusal reads (subst (RefusesInput command bytes) is refuses)
-refused_by known after bytes command Q (Work own) refusal reads refuses same = absurd cc
-refused_by known after bytes command Q OutOfMemory refusal reads refuses same = absurd cc
-refused_by known after bytes command Q Read refusal reads refuses same = absurd refuses
-refused_by known after bytes command Q Write refusal reads refuses same = absurd refuses
-
 with_text : (known : Option (List ℕ)) (command : Command) (text : List ℕ) (closing : Closing) (P : List ℕ → Type 0) → IfSome known (λ input. Says command input text closing) → P text → IfSome known (λ input. (text : List ℕ) × Says command input text closing × P text)
 with_text None command text closing P says proceeds = tt
 with_text (Some input) command text closing P says proceeds = (text, says, proceeds)
 
-pub written_of_whole : (known after : Option (List ℕ)) (bytes : List ℕ) (command : Command) (text : List ℕ) (own : Closing) (IsWritten : List ℕ → Type 0) (result : Result Closing ServeError) → ReadsUpToLimit known after bytes → Says command bytes text own
-    → IfOk result (λ closing. closing ≡ own) → OnOk result (IsWritten text) → IfOk result (λ closing. IfSome known (λ input. (text : List ℕ) × Says command input text closing × IsWritten text))
-written_of_whole known after bytes command text own IsWritten (Ok closing) reads says same proceeds =
-    with_text known command text closing IsWritten (said_of_whole known after bytes command text closing reads (subst (Says command bytes text) (sym same) says)) proceeds
-written_of_whole known after bytes command text own IsWritten (Err error) reads says same proceeds = tt
+-- what is done with an input that was read is done with what was taken
+module _ {R W : Type 0} (command : Command) (taken remaining : R → Option (List ℕ)) (reads : R → Option ℕ) (read_failed : R → Bool) (reader later_reader : R)
+    (contents : W → Option (List ℕ)) (calls : W → Option (List Call)) (write_failed : W → Bool) (writer later_writer : W) (input : List ℕ)
+    (took : Appends (taken reader) (taken later_reader) input) (whole : ReadsUpToLimit (remaining reader) (remaining later_reader) input) (counts : GrowsAtMost (reads reader) (reads later_reader) most_reads) (works : read_failed later_reader ≡ true → ⊥)
+  where
+    written : (result : Result Closing ServeError) → ServedInput command input contents calls write_failed writer later_writer result → IfOk result (IsCarriedOut command (taken reader) (taken later_reader) contents calls writer later_writer)
+    written (Ok closing) served = record { input = input; text = served.written.0; took = took; says = served.written.1; wrote = served.written.2 }
+    written (Err error) served = tt
 
-module _ {W : Type 0} (contents : W → Option (List ℕ)) (calls : W → Option (List Call)) (writer later : W) where
-  front_of : (known : Option (List ℕ)) (command : Command) (text : List ℕ) (closing : Closing) → IfSome known (λ input. Says command input text closing) → AppendsFront contents calls writer later text
-      → IfSome known (WritesFront command contents calls writer later)
-  front_of None command text closing says proceeds = tt
-  front_of (Some input) command text closing says proceeds = record { text = text; closing = closing; says = says; wrote = proceeds }
+    written_of_known : (result : Result Closing ServeError) → ServedInput command input contents calls write_failed writer later_writer result → IfOk result (λ closing. IfSome (remaining reader) (λ input. (text : List ℕ) × Says command input text closing × AppendsAll contents calls writer later_writer text))
+    written_of_known (Ok closing) served =
+        with_text (remaining reader) command served.written.0 closing (AppendsAll contents calls writer later_writer) (said_of_whole (remaining reader) (remaining later_reader) input command served.written.0 closing whole served.written.1) served.written.2
+    written_of_known (Err error) served = tt
 
-  pub cut_of_whole : (known after : Option (List ℕ)) (bytes : List ℕ) (command : Command) (text : List ℕ) (own : Closing) (result : Result Closing ServeError) → ReadsUpToLimit known after bytes → Says command bytes text own
-      → OnErr result (AppendsFront contents calls writer later text) → result ≡ Err Write → IfSome known (WritesFront command contents calls writer later)
-  cut_of_whole known after bytes command text own (Ok closing) reads says proceeds is = absurd cc
-  cut_of_whole known after bytes command text own (Err error) reads says proceeds is =
-      front_of known command text own (said_of_whole known after bytes command text own reads says) proceeds
+    cut_of_known : WritesFront command contents calls writer later_writer input → IfSome (remaining reader) (WritesFront command contents calls writer later_writer)
+    cut_of_known cut = of_known (WritesFront command contents calls writer later_writer) input (remaining reader) (same_json (remaining reader) (remaining later_reader) input whole)
+        (λ known same. record { text = cut.text; closing = cut.closing; says = says_too known input same command cut.text cut.closing cut.says; wrote = cut.wrote })
+
+    pub served_taken : (result : Result Closing ServeError) → ServedInput command input contents calls write_failed writer later_writer result → Served command taken remaining reads read_failed reader later_reader contents calls write_failed writer later_writer result
+    served_taken result served = record {
+      written = written result served;
+      written_of_known = written_of_known result served;
+      refused = λ refusal is. record { input = input; took = took; refuses = served.refused refusal is };
+      refused_of_known = λ refusal is. refused_of_whole (remaining reader) (remaining later_reader) input command refusal whole (served.refused refusal is);
+      counts = counts;
+      read = λ is. absurd (served.no_read is);
+      read_reported = λ failed. absurd (works failed);
+      write = served.write;
+      write_reported = served.write_reported;
+      cut = λ is. (let cut = served.cut is in record { input = input; text = cut.text; closing = cut.closing; took = took; says = cut.says; wrote = cut.wrote });
+      cut_of_known = λ is. cut_of_known (served.cut is);
+      silent = served.silent;
+    }

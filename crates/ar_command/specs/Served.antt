@@ -1,14 +1,12 @@
 -- What carrying out a command on a reader and a writer returns.
 use Rattle.std.specs.Prelude.{◌≡◌, ◌≢◌, ℕ, Bool, true, List, Option, Result, Err, IfOk, IfErr, IfSome}
-use Rattle.ar_value.specs.Terms.{Text}
-use Rattle.ar_diagnostic.specs.declared.diagnostic.Diagnostic.{Diagnostic}
+use Rattle.ar_value.specs.Terms.{Bytes, Text}
 use Rattle.ar_command_line.specs.History.{GrowsAtMost}
 use Rattle.ar_command_line.specs.Input.{most_reads}
 use Rattle.ar_command_line.specs.Output.{AppendsAll, Call}
 use Rattle.ar_command_line.specs.declared.command_line.Command.{Command}
 use Rattle.ar_workers.specs.declared.error.WorkError.{WorkError}
 use Rattle.ar_command.specs.Serving.{IsCarriedOut, IsCut, RefusesTaken, RefusesInput, Says, WritesFront}
-use Rattle.ar_command.specs.Warned.{HandsOn, WarnsOfTaken}
 use Rattle.ar_command.specs.declared.serving.Closing.{Closing}
 use Rattle.ar_command.specs.declared.serving.Refusal.{Refusal}
 use Rattle.ar_command.specs.declared.serving.ServeError.{ServeError}
@@ -53,15 +51,25 @@ pub record Served {R W : Type 0} (command : Command) (taken remaining : R → Op
   -- of all errors, only `Write` leaves anything written
   pub silent : IfErr result (λ error. error ≢ Write → later_writer ≡ writer)
 
--- A command was served so, and its warnings were handed on: those of the bytes that were taken.
-pub record ServedWarning {R W : Type 0} (command : Command) (taken remaining : R → Option (List ℕ))
-    (reads : R → Option ℕ) (read_failed : R → Bool) (reader later_reader : R)
+-- A command was carried out on an input that was read before, and its answer written to one writer.
+pub record ServedInput {W : Type 0} (command : Command) (input : Bytes)
     (contents : W → Option (List ℕ)) (calls : W → Option (List Call)) (write_failed : W → Bool)
-    (writer later_writer : W) (warnings later_warnings : List Diagnostic) (result : Result Closing ServeError) : Type 0
-  where
-    pub served : Served command taken remaining reads read_failed reader later_reader contents calls write_failed writer
-        later_writer result
-    pub warns : HandsOn result warnings later_warnings (WarnsOfTaken command (taken reader) (taken later_reader))
+    (writer later_writer : W) (result : Result Closing ServeError) : Type 0 where
+  -- what is written, and then flushed, is what the command says of the input, and the closing is the one that belongs
+  -- to it
+  pub written : IfOk result (λ closing. (text : Text) × Says command input text closing
+      × AppendsAll contents calls writer later_writer text)
+  -- a refusal is the first fault of the input
+  pub refused : (refusal : Refusal) → result ≡ Err (Refused refusal) → RefusesInput command input refusal
+  -- nothing is read
+  pub no_read : result ≢ Err Read
+  -- `Write` is returned exactly where a write or the flush failed
+  pub write : result ≡ Err Write → write_failed later_writer ≡ true
+  pub write_reported : write_failed later_writer ≡ true → result ≡ Err Write
+  -- what a failed write leaves written is a front of what the command says, and where the flush failed all of it
+  pub cut : result ≡ Err Write → WritesFront command contents calls writer later_writer input
+  -- of all errors, only `Write` leaves anything written
+  pub silent : IfErr result (λ error. error ≢ Write → later_writer ≡ writer)
 
 -- this holds of each error of workers that is returned
 abbrev pub IfBroken : Result Closing ServeError → (WorkError → Type 0) → Type 0

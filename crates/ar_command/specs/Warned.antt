@@ -1,6 +1,5 @@
 -- What commands warn of: what an input that has an answer has that is probably not meant.
-use Rattle.std.specs.Prelude.{◌≡◌, ℕ, List, [], ◌++◌, Option, Result, Ok, Err}
-use Rattle.std.specs.Io.KnownBytes.{Appends}
+use Rattle.std.specs.Prelude.{◌≡◌, List, [], ◌++◌, Result, Ok, Err}
 use Rattle.ar_value.specs.Terms.{Bytes}
 use Rattle.serde_json.specs.Data.{Data}
 use Rattle.ar_bundle.specs.Bundle.{Bundle}
@@ -16,6 +15,7 @@ use Rattle.ar_warning.specs.Templates.{template_warnings}
 
 -- the warnings of an input: of its template, and then of its measurements
 pub record AreWarningsOf (input : Bytes) (warnings : List Diagnostic) : Type 0 where
+  -- the document that the input is, and its bundle
   pub document : Data
   pub is_document : json_in input ≡ Ok document
   pub bundle : Bundle
@@ -28,14 +28,8 @@ Warns (commands.Eval format) input warnings = warnings ≡ []
 Warns commands.List input warnings = warnings ≡ []
 Warns command input warnings = AreWarningsOf input warnings
 
--- warnings after a command, which are those that were there before it where it wasn't carried out
-abbrev pub HandsOn : Result Closing ServeError → (before after : List Diagnostic) → (List Diagnostic → Type 0) → Type 0
-HandsOn (Ok closing) before after P = P after
-HandsOn (Err error) before after P = after ≡ before
-
--- those of the bytes that were taken
-pub record WarnsOfTaken (command : Command) (taken_before taken_after : Option (List ℕ))
-    (warnings : List Diagnostic) : Type 0 where
-  pub input : List ℕ
-  pub took : Appends taken_before taken_after input
-  pub warns : Warns command input warnings
+-- the warnings after a command, which are those before it where it wasn't carried out
+abbrev pub WarnsOnce : Result Closing ServeError → (before after : List Diagnostic) → (List Diagnostic → Type 0)
+    → Type 0
+WarnsOnce (Ok closing) before after P = P after
+WarnsOnce (Err error) before after P = after ≡ before

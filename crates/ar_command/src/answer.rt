@@ -3,7 +3,8 @@
 ghost use Rattle.std.specs.Prelude.{◌≡◌, ◌≤◌, ℕ, Err, IfOk, List, [], Ok, map, string_bytes};
 ghost use Rattle.std.specs.List.{list_any};
 ghost use Rattle.ar_value.specs.Answer.{IfRefused};
-ghost use Rattle.ar_bundle.specs.Lawful.{AllRise, AreLawful, numbers_of};
+ghost use Rattle.ar_bundle.specs.Finished.{AreFinished};
+ghost use Rattle.ar_bundle.specs.Lawful.{AllRise, numbers_of};
 ghost use Rattle.ar_bundle.specs.declared.history.Entry.{Entry};
 ghost use Rattle.ar_limits.specs.Metric.{is_unsuccessful};
 ghost use Rattle.ar_document.specs.Document.{ReadsInput};
@@ -19,15 +20,15 @@ use crate::explained::explained;
 use crate::reading::{Reading, read};
 use crate::serving::{Closing, ServeError};
 use ar_board::MOST_WORKERS;
-use ar_bundle::{Bundle, Histories, run_plain};
+use ar_bundle::{Bundle, Finished, finish_plain};
 use ar_command_line::{Command, Format};
 use ar_diagnostic::Diagnostic;
 use ar_document::read_bundle;
 use ar_eval::evaluate;
-use ar_limits::Phase;
+use ar_limits::RunState;
 use ar_machine::Answer;
-use ar_report::{answer_json, check_json, check_text, list_text, report, report_json, run_phases};
-use ar_workers::{Gate, run_all, run_ordered};
+use ar_report::{answer_json, check_json, check_text, finished_report, list_text, report_json};
+use ar_workers::{Gate, finish_all, finish_ordered};
 use std::alloc::{AllocError, Global};
 use std::sync::Wait;
 use std::thread::Threads;
@@ -128,8 +129,8 @@ fn posted<G: Gate, R: Threads + Wait + Sync>(
     ensures ends { IfRefused is_serve_memory result
         (NamesWork (IsCauseOf (commands.Run workers format) bundle.now)) }
 {
-    let histories = run_all(rt, alloc, bundle, workers, gate)?;
-    Ok(report_of(alloc, format, bundle, &histories)?)
+    let finished = finish_all(rt, alloc, bundle, workers, gate)?;
+    Ok(report_of(alloc, format, bundle, &finished)?)
 }
 
 /// What a run says whose workers judge and whose numbers are applied in their order.
@@ -147,8 +148,8 @@ fn put_in_order<G: Gate, R: Threads + Wait + Sync>(
     ensures ends { IfRefused is_serve_memory result
         (NamesWork (IsCauseOf (commands.Ordered workers format) bundle.now)) }
 {
-    let histories = run_ordered(rt, alloc, bundle, workers, gate)?;
-    Ok(report_of(alloc, format, bundle, &histories)?)
+    let finished = finish_ordered(rt, alloc, bundle, workers, gate)?;
+    Ok(report_of(alloc, format, bundle, &finished)?)
 }
 
 /// The line of what a condition says.
@@ -253,65 +254,64 @@ fn plain_report(alloc: Global, format: Format, bundle: &Bundle) -> Result<Said, 
     ensures { IfOk result (λ said. (histories : List (List Entry)) × AllRise histories
         × IsReported format bundle.now histories (string_bytes said.text) said.closing) }
 {
-    let histories = run_plain(alloc, bundle)?;
-    report_of(alloc, format, bundle, &histories)
+    let finished = finish_plain(alloc, bundle)?;
+    report_of(alloc, format, bundle, &finished)
 }
 
-/// The report of lawful histories, as it is to be written.
-#[tactic(auto, using(crate::proofs::Reporting::lawful))]
+/// The report of finished runs, as it is to be written.
 fn report_text(
     alloc: Global,
     format: Format,
     bundle: &Bundle,
-    histories: &Histories,
+    finished: &Finished,
 ) -> Result<String, AllocError>
-    requires lawful { AreLawful bundle.now histories.now }
-    ensures { IfOk result
-        (λ text. IsReport format (report_facts bundle.now (map numbers_of histories.now)) (string_bytes text)) }
+    requires { AreFinished bundle.now finished.now }
+    ensures { IfOk result (λ text. IsReport format
+        (report_facts bundle.now (map numbers_of finished.now.histories)) (string_bytes text)) }
 {
     match format {
-        Format::Text => report(alloc, bundle, histories),
-        Format::Json => report_json(alloc, bundle, histories),
+        Format::Text => finished_report(alloc, bundle, finished),
+        Format::Json => report_json(alloc, bundle, finished),
     }
 }
 
-/// The report of lawful histories, and how it closes.
-#[tactic(auto, using(crate::proofs::Reporting::lawful))]
+/// The report of finished runs, and how it closes.
+#[tactic(auto, using(crate::proofs::Reporting::reported_of))]
 fn report_of(
     alloc: Global,
     format: Format,
     bundle: &Bundle,
-    histories: &Histories,
+    finished: &Finished,
 ) -> Result<Said, AllocError>
-    requires lawful { AreLawful bundle.now histories.now }
+    requires { AreFinished bundle.now finished.now }
     ensures { IfOk result
-        (λ said. IsReported format bundle.now histories.now (string_bytes said.text) said.closing) }
+        (λ said. IsReported format bundle.now finished.now.histories (string_bytes said.text) said.closing) }
 {
-    let text = report_text(alloc, format, bundle, histories)?;
-    let phases = run_phases(alloc, bundle, histories)?;
+    let text = report_text(alloc, format, bundle, finished)?;
     Ok(Said {
         text,
-        closing: closing_of(&phases),
+        closing: closing_of(&finished.states),
     })
 }
 
-/// Whether a phase is Failed, Error or Inconclusive.
-fn is_bad(phase: &Phase) -> bool
-    ensures { result ≡ is_unsuccessful phase.now }
+/// Whether a run is Failed, Error or Inconclusive.
+fn is_bad(state: &RunState) -> bool
+    ensures { result ≡ is_unsuccessful state.now.phase }
 {
-    phase.is_unsuccessful()
+    state.phase().is_unsuccessful()
 }
 
-fn any_bad(phases: &[Phase]) -> bool
-    ensures { result ≡ list_any is_unsuccessful phases.now }
+fn any_bad(states: &[RunState]) -> bool
+    ensures { result ≡ list_any (λ state. is_unsuccessful state.phase) states.now }
 {
-    phases.iter().any(is_bad)
+    states.iter().any(is_bad)
 }
 
-fn closing_of(phases: &[Phase]) -> Closing
-    ensures { result ≡ closing_of phases.now }
+#[tactic(auto, using(crate::proofs::Reporting::bad_phases))]
+fn closing_of(states: &[RunState]) -> Closing
+    ensures { result ≡ closing_of (map (λ state. state.phase) states.now) }
 {
-    if any_bad(phases) {
+    if any_bad(states) {
         Closing::Bad
     } else {
         Closing::Good

@@ -3,7 +3,7 @@
 ghost use Rattle.std.specs.Prelude.{◌≡◌, ℕ, Err, IfOk, List, Ok, string_bytes};
 ghost use Rattle.serde_json.specs.View.{view};
 ghost use Rattle.ar_value.specs.Answer.{IfRefused};
-ghost use Rattle.ar_bundle.specs.Lawful.{AllRise, AreLawful};
+ghost use Rattle.ar_bundle.specs.Finished.{AreFinished};
 ghost use Rattle.ar_document.specs.Document.{ReadsInput};
 ghost use Rattle.ar_document.specs.Opening.{index_of_name};
 ghost use Rattle.ar_json.specs.Document.{json_in};
@@ -20,7 +20,7 @@ ghost use Rattle.ar_command_line.specs.declared.command_line.Command.TheVariants
 use crate::answer::{Answered, well_said};
 use crate::reading::{Reading, read_kept};
 use crate::serving::{Refusal, ServeError};
-use ar_bundle::{Bundle, Histories, MetricPart, RunPart, run_plain};
+use ar_bundle::{Bundle, Finished, MetricPart, RunPart, finish_plain};
 use ar_command_line::{Format, Selection};
 use ar_reason::{Chosen, reasons_json, reasons_text};
 use serde_json::Value as Json;
@@ -66,23 +66,23 @@ fn chosen_of(bundle: &Bundle, selection: Selection<'_>) -> Option<Chosen>
 }
 
 /// What led to the events that are asked for, as it is to be written.
-#[tactic(auto, using(crate::proofs::Reporting::lawful))]
 fn reasons(
     alloc: Global,
     format: Format,
     document: &Json,
     bundle: &Bundle,
-    histories: &Histories,
+    finished: &Finished,
     chosen: Chosen,
 ) -> Result<String, AllocError>
-    requires lawful { AreLawful bundle.now histories.now }
+    requires { AreFinished bundle.now finished.now }
     ensures { IfOk result (λ text. IsPrinted format
-        (reasons_text (reasons_of (view document.now) bundle.now chosen histories.now))
-        (reasons_data (reasons_of (view document.now) bundle.now chosen histories.now)) (string_bytes text)) }
+        (reasons_text (reasons_of (view document.now) bundle.now chosen finished.now.histories))
+        (reasons_data (reasons_of (view document.now) bundle.now chosen finished.now.histories))
+        (string_bytes text)) }
 {
     match format {
-        Format::Text => reasons_text(alloc, document, bundle, histories, chosen),
-        Format::Json => reasons_json(alloc, document, bundle, histories, chosen),
+        Format::Text => reasons_text(alloc, document, bundle, finished, chosen),
+        Format::Json => reasons_json(alloc, document, bundle, finished, chosen),
     }
 }
 
@@ -102,8 +102,8 @@ fn said_of(
     let Some(chosen) = chosen_of(bundle, selection) else {
         return Err(ServeError::Refused(Refusal::NotThere));
     };
-    let histories = run_plain(alloc, bundle)?;
-    Ok(reasons(alloc, format, document, bundle, &histories, chosen)?)
+    let finished = finish_plain(alloc, bundle)?;
+    Ok(reasons(alloc, format, document, bundle, &finished, chosen)?)
 }
 
 pub(crate) fn explained(

@@ -1,10 +1,10 @@
 //! A command, carried out from the bytes read to the bytes written.
 
 ghost use Rattle.std.specs.Prelude.{◌≡◌, ◌≢◌, false, true, Err, IfErr, IfOk, OnErr, OnOk, string_bytes};
-ghost use Rattle.ar_command.specs.Serving.{IsBroken, RunsAlone, RunsWith};
+ghost use Rattle.ar_command.specs.Serving.{Breaks, IsBroken, RunsAlone, RunsWith};
 ghost use Rattle.ar_command_line.specs.Output.{AppendsAll, AppendsFront};
-ghost use Rattle.ar_command.specs.Served.{IfBroken, Served, ServedWarning};
-ghost use Rattle.ar_command.specs.Warned.{HandsOn};
+ghost use Rattle.ar_command.specs.Served.{IfBroken, Served, ServedInput};
+ghost use Rattle.ar_command.specs.Warned.{Warns, WarnsOnce};
 
 use crate::answer::{Answered, answer, judged};
 use ar_board::MOST_WORKERS;
@@ -121,7 +121,7 @@ impl From<AllocError> for ServeError {
 }
 
 /// Reads a document, runs it with workers, and writes the report. A refused document, workers that
-/// give no histories, or out of memory, have nothing written.
+/// give no report, or out of memory, have nothing written.
 ///
 /// # Errors
 ///
@@ -145,36 +145,36 @@ pub fn serve<S: Source, W: Sink, G: Gate, R: Threads + Wait + Sync>(
     // A lost number is shown, and an ordered run loses none.
     ensures work { IfBroken result (IsBroken command.entry (S.taken reader.old) (S.taken reader.new)) }
 {
+    let input = read_input(alloc, reader)?;
     let mut warnings = Vec::new(alloc);
-    serve_warning(rt, alloc, command, reader, writer, gate, &mut warnings)
+    serve_input(rt, alloc, command, &input, writer, gate, &mut warnings)
 }
 
-/// [`serve`], with what the command warns of.
+/// [`serve`] of an input that was read before, with what the command warns of.
 ///
 /// # Errors
 ///
-/// Those of [`serve`].
-pub fn serve_warning<S: Source, W: Sink, G: Gate, R: Threads + Wait + Sync>(
+/// Those of [`serve`], without `Read`.
+pub fn serve_input<W: Sink, G: Gate, R: Threads + Wait + Sync>(
     rt: &R,
     alloc: Global,
     command: Command<'_>,
-    reader: &mut S,
+    input: &[u8],
     writer: &mut W,
     gate: &G,
     warnings: &mut Vec<Diagnostic>,
 ) -> Result<Closing, ServeError>
     requires command { RunsWith command MOST_WORKERS }
-    requires reader_works { S.has_failed reader.old ≡ false }
     requires writer_works { W.has_failed writer.old ≡ false }
 
-    ensures served { ServedWarning command.entry S.taken S.remaining S.reads S.has_failed reader.old reader.new
-        W.contents W.calls W.has_failed writer.old writer.new warnings.old.items warnings.new.items result }
+    ensures served { ServedInput command.entry input.now
+        W.contents W.calls W.has_failed writer.old writer.new result }
+    ensures warns { WarnsOnce result warnings.old.items warnings.new.items (Warns command.entry input.now) }
 
     // A lost number is shown, and an ordered run loses none.
-    ensures work { IfBroken result (IsBroken command.entry (S.taken reader.old) (S.taken reader.new)) }
+    ensures work { IfBroken result (Breaks command.entry input.now) }
 {
-    let input = read_input(alloc, reader)?;
-    let answered = judged(rt, alloc, command, &input, gate)?;
+    let answered = judged(rt, alloc, command, input, gate)?;
     write(writer, answered, warnings)
 }
 
@@ -201,34 +201,34 @@ pub fn serve_plain<S: Source, W: Sink>(
     // There are no workers.
     ensures work { (error : WorkError) → result ≢ Err (ServeError.Work error) }
 {
+    let input = read_input(alloc, reader)?;
     let mut warnings = Vec::new(alloc);
-    serve_plain_warning(alloc, command, reader, writer, &mut warnings)
+    serve_plain_input(alloc, command, &input, writer, &mut warnings)
 }
 
-/// [`serve_plain`], with what the command warns of.
+/// [`serve_plain`] of an input that was read before, with what the command warns of.
 ///
 /// # Errors
 ///
-/// Those of [`serve_plain`].
-pub fn serve_plain_warning<S: Source, W: Sink>(
+/// Those of [`serve_plain`], without `Read`.
+pub fn serve_plain_input<W: Sink>(
     alloc: Global,
     command: Command<'_>,
-    reader: &mut S,
+    input: &[u8],
     writer: &mut W,
     warnings: &mut Vec<Diagnostic>,
 ) -> Result<Closing, ServeError>
     requires command { RunsAlone command }
-    requires reader_works { S.has_failed reader.old ≡ false }
     requires writer_works { W.has_failed writer.old ≡ false }
 
-    ensures served { ServedWarning command.entry S.taken S.remaining S.reads S.has_failed reader.old reader.new
-        W.contents W.calls W.has_failed writer.old writer.new warnings.old.items warnings.new.items result }
+    ensures served { ServedInput command.entry input.now
+        W.contents W.calls W.has_failed writer.old writer.new result }
+    ensures warns { WarnsOnce result warnings.old.items warnings.new.items (Warns command.entry input.now) }
 
     // There are no workers.
     ensures work { (error : WorkError) → result ≢ Err (ServeError.Work error) }
 {
-    let input = read_input(alloc, reader)?;
-    let answered = answer(alloc, command, &input)?;
+    let answered = answer(alloc, command, input)?;
     write(writer, answered, warnings)
 }
 
@@ -246,7 +246,7 @@ fn write<W: Sink>(
         (AppendsFront W.contents W.calls writer.old writer.new (string_bytes answered.said.text)) }
     ensures works { OnOk result (W.has_failed writer.new ≡ false) }
     ensures fails { IfErr result (λ e. (e ≡ ServeError.Write) × (W.has_failed writer.new ≡ true)) }
-    ensures warns { HandsOn result warnings.old.items warnings.new.items (λ found. found ≡ answered.warnings.items) }
+    ensures warns { WarnsOnce result warnings.old.items warnings.new.items (λ found. found ≡ answered.warnings.items) }
 {
     match write_output(writer, answered.said.text.as_bytes()) {
         Ok(()) => {

@@ -1,7 +1,6 @@
 pub mod History
 pub mod Retrying
 pub mod Device
-pub mod Kept
 pub mod Input
 pub mod Output
 pub mod Selection

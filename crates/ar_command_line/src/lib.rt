@@ -12,10 +12,9 @@
 //! which it borrows; contracts compare commands by their tasks (`specs/Task`), in which a name is its bytes.
 //!
 //! A [`Source`] and a [`Sink`] report what was read and written and whether that failed. A [`Device`] makes
-//! either of a reader or a writer of the standard library, and keeps the first fault; [`Kept`] is a source
-//! that keeps what was read, for the words of refusals; [`read_input`] reads all of an input, or more than
-//! a document may have; [`write_output`] writes all of an output, or a front of it where the writer fails.
-//! Only out of memory, and a read or a write that failed, can keep them from that.
+//! either of a reader or a writer of the standard library, and keeps the first fault; [`read_input`] reads all
+//! of an input, or more than a document may have; [`write_output`] writes all of an output, or a front of it
+//! where the writer fails. Only out of memory, and a read or a write that failed, can keep them from that.
 //!
 //! - `command_line`: the calls, and the command line as `clap` builds it; `selection`: which events are
 //!   explained
@@ -23,14 +22,13 @@
 //! - [`stream`]: what an input is read from and what an output is written to; [`input`]: reading a whole
 //!   document; [`output`]: writing a whole output
 //! - [`device`]: readers and writers of the standard library, over `retrying`, which makes interrupted calls again;
-//!   [`raw`]: one call of a reader or a writer; [`kept`]: a source that keeps what was read
+//!   [`raw`]: one call of a reader or a writer
 #![tactic(auto)]
 
 mod command_line;
 pub mod device;
 mod help;
 pub mod input;
-pub mod kept;
 pub mod output;
 pub mod raw;
 mod retrying;
@@ -40,7 +38,6 @@ pub mod stream;
 pub use command_line::{Command, DEFAULT_WORKERS, Format, UsageError, VERSION, command_of, shown};
 pub use device::Device;
 pub use input::{InputError, read_input};
-pub use kept::Kept;
 pub use output::write_output;
 pub use raw::{RawRead, RawWrite};
 pub use selection::Selection;

@@ -21,7 +21,7 @@ use std::alloc::{AllocError, Global};
 pub struct JsonText {
     /// What was written, unless memory was refused.
     pub written: Result<Writer, AllocError>,
-    // Nothing stands before it.
+    // Nothing comes before it.
     ghost alone: { ForOk written (λ writer. writer.before ≡ []) },
 }
 

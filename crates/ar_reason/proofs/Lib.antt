@@ -5,3 +5,4 @@ pub mod Lists
 pub mod Metrics
 pub mod Objects
 pub mod Runs
+pub mod Trees

@@ -1,21 +1,21 @@
 -- Runs, one after another.
 use Rattle.std.proofs.Common.{◌≡◌, ◌<◌, ◌≤◌, ℕ, suc, ◌+◌, Bool, true, false, List, [], ◌∷◌, ◌++◌, drop, flat_map, length, map, refl, sym, ◌∙◌, ap, subst, arith}
 use Rattle.std.specs.Prelude.{if◌then◌else◌, slice_index_or}
+use Rattle.std.specs.List.{AllByRecursion}
 use Rattle.serde_json.specs.Data.{Data}
 use Rattle.ar_limits.specs.Replay.{Replays, Standing}
 use Rattle.ar_limits.specs.declared.limits.Limits.{Limits}
 use Rattle.ar_bundle.specs.Bundle.{Bundle, events_of}
-use Rattle.ar_bundle.specs.Lawful.{numbers_of}
+use Rattle.ar_bundle.specs.Lawful.{IsFound, numbers_of}
 use Rattle.ar_bundle.specs.declared.bundle.RunPart.{RunPart}
 use Rattle.ar_bundle.specs.declared.history.Entry.{Entry}
 use Rattle.ar_facts.proofs.Lines.{no_more, none_left, one_more, read_at, three}
 use Rattle.ar_facts.specs.Facts.{facts_of_metrics}
-use Rattle.ar_facts.specs.Private.Entries.{AreFound}
 use Rattle.ar_facts.specs.Report.{run_line}
 use Rattle.ar_facts.specs.ReportData.{run_with}
 use Rattle.ar_object.proofs.Texts.{Remains, next_value, none_remains}
 use Rattle.ar_object.specs.Written.{AddsValue, AddsValues, Output}
-use Rattle.ar_reason.specs.Private.Found.{AreFoundSteps, IsFoundStep}
+use Rattle.ar_reason.specs.Private.Found.{AreFoundSteps}
 use Rattle.ar_reason.specs.Reason.{RunReasons, reason_of, reasons_from, run_reasons}
 use Rattle.ar_reason.specs.ReasonData.{reason_data, run_reasons_data, waiting_data}
 use Rattle.ar_reason.specs.ReasonText.{metric_lines, reason_text, run_reasons_text}
@@ -25,19 +25,19 @@ use Rattle.ar_reason.specs.declared.steps.Step.{Step}
 
 -- ---- what is known of the events that are chosen
 
-chosen_found : (bundle : Bundle) (chosen : Chosen) (step : Step) (later : List Step) → IsFoundStep bundle step → AreFoundSteps bundle later → AreFoundSteps bundle (if_chosen chosen step ++ later)
-chosen_found bundle chosen step later is all = by_case (is_chosen chosen step) where
-  by_case : (asked : Bool) → AreFoundSteps bundle ((if asked then step ∷ [] else []) ++ later)
+chosen_found : (bundle : Bundle) (run : ℕ) (chosen : Chosen) (step : Step) (later : List Step) → IsFound bundle run step.entry → AreFoundSteps bundle run later → AreFoundSteps bundle run (if_chosen chosen step ++ later)
+chosen_found bundle run chosen step later is all = by_case (is_chosen chosen step) where
+  by_case : (asked : Bool) → AreFoundSteps bundle run ((if asked then step ∷ [] else []) ++ later)
   by_case true = (is, all)
   by_case false = all
 
-found_after : (bundle : Bundle) (chosen : Chosen) (limits : List Limits) (earlier entries : List Entry) → AreFound bundle entries → AreFoundSteps bundle (flat_map (if_chosen chosen) (steps_after bundle limits earlier entries))
-found_after bundle chosen limits earlier [] all = tt
-found_after bundle chosen limits earlier (entry ∷ entries) all =
-    chosen_found bundle chosen (step_after bundle limits earlier entry) _ all.0 (found_after bundle chosen limits (earlier ++ entry ∷ []) entries all.1)
+found_after : (bundle : Bundle) (run : ℕ) (chosen : Chosen) (limits : List Limits) (earlier entries : List Entry) → AllByRecursion (IsFound bundle run) entries → AreFoundSteps bundle run (flat_map (if_chosen chosen) (steps_after bundle limits earlier entries))
+found_after bundle run chosen limits earlier [] all = tt
+found_after bundle run chosen limits earlier (entry ∷ entries) all =
+    chosen_found bundle run chosen (step_after bundle limits earlier entry) _ all.0 (found_after bundle run chosen limits (earlier ++ entry ∷ []) entries all.1)
 
-pub are_found : (bundle : Bundle) (chosen : Chosen) (limits : List Limits) (entries : List Entry) (steps : List Step) → AreFound bundle entries → steps ≡ chosen_steps bundle chosen limits entries → AreFoundSteps bundle steps
-are_found bundle chosen limits entries steps all is = subst (AreFoundSteps bundle) (sym is) (found_after bundle chosen limits [] entries all)
+pub are_found : (bundle : Bundle) (run : ℕ) (chosen : Chosen) (limits : List Limits) (entries : List Entry) (steps : List Step) → AllByRecursion (IsFound bundle run) entries → steps ≡ chosen_steps bundle chosen limits entries → AreFoundSteps bundle run steps
+are_found bundle run chosen limits entries steps all is = subst (AreFoundSteps bundle run) (sym is) (found_after bundle run chosen limits [] entries all)
 
 -- ---- a run
 

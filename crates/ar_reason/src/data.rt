@@ -1,19 +1,19 @@
 //! Reasons as one JSON object.
 
-ghost use Rattle.std.specs.Prelude.{◌≡◌, ◌≤◌, IfOk, OnOk, Some, codes, length, map, option_map, string_bytes};
-ghost use Rattle.std.specs.List.{list_any};
+ghost use Rattle.std.specs.Prelude.{◌≡◌, ◌≤◌, IfOk, OnOk, Some, codes, length, map, option_map, slice_get, string_bytes};
+ghost use Rattle.std.specs.List.{AllByRecursion, list_any};
 ghost use Rattle.std.specs.Option.{option_map_or};
 ghost use Rattle.serde_json.specs.Data.{null};
 ghost use Rattle.serde_json.specs.View.{view};
 ghost use Rattle.ar_value.specs.View.{value_view};
-ghost use Rattle.ar_limits.specs.Replay.{most_events};
-ghost use Rattle.ar_bundle.specs.Bundle.{finding_at};
-ghost use Rattle.ar_bundle.specs.Lawful.{AreHistoriesSoFar};
+ghost use Rattle.ar_limits.specs.Replay.{Replays, most_events};
+ghost use Rattle.ar_bundle.specs.Bundle.{events_of, finding_at};
+ghost use Rattle.ar_bundle.specs.Finished.{AreFinished};
+ghost use Rattle.ar_bundle.specs.Lawful.{IsFound, numbers_of};
 ghost use Rattle.ar_bundle.specs.Sound.{IsRun};
 ghost use Rattle.ar_judge.specs.Verdict.{sample_view};
 ghost use Rattle.ar_explain.specs.Views.{explanation_view, line_view, said_view};
 ghost use Rattle.ar_facts.specs.Facts.{event_facts, facts_of_metrics, metric_facts};
-ghost use Rattle.ar_facts.specs.Private.Entries.{AreFound};
 ghost use Rattle.ar_object.specs.Line.{IsJsonLine};
 ghost use Rattle.ar_object.specs.Object.{array_of, count_data, text_or_null};
 ghost use Rattle.ar_object.specs.Written.{AddsMember, AddsValue, AddsValues};
@@ -25,16 +25,17 @@ ghost use Rattle.ar_reason.specs.Views.{given_view};
 ghost use Rattle.ar_reason.specs.Waiting.{waits_for};
 ghost use Rattle.ar_reason.specs.Why.{why_of, why_words};
 ghost use Rattle.ar_reason.specs.Private.Found.{AreFoundSteps};
+ghost use Rattle.ar_reason.specs.Private.Trees.{condition_tree, trees_of, run_trees, judge_trees_view};
 
 use crate::chosen::Chosen;
-use crate::evaluated::{NamedTree, tree_of};
+use crate::evaluated::{JudgeTrees, NamedTree, trees_of};
 use crate::given::{Given, given_of};
 use crate::lines::judge_at;
 use crate::parts::{failure_name, is_failure};
 use crate::steps::{Change, Step, is_chosen_run, steps_of};
 use crate::waiting::push_waiting;
 use crate::why::{push_why, why_of};
-use ar_bundle::{Bundle, Entry, EventPart, Histories, MetricPart, RunPart, What};
+use ar_bundle::{Bundle, Entry, Finished, MetricPart, RunPart, What};
 use ar_explain::{Evaluation, Line, Said, tell};
 use ar_facts::{phase_name, write_counts, write_event, write_limits, write_metric};
 use ar_judge::{Judge, Sample, SharedCondition, Which};
@@ -169,33 +170,28 @@ fn write_tree(
     Ok(is_failure(&evaluation.answer))
 }
 
-/// Writes a condition on a value, where it is there, and returns whether it has failed.
+/// Writes a condition with its tree on a value, where it is there, and returns whether it has failed.
 fn write_condition(
     alloc: Global,
     json: &mut JsonText,
     which: &str,
     condition: Option<&SharedCondition>,
+    tree: &Option<Typed>,
     value: &Value,
 ) -> Result<bool, AllocError>
+    requires { option_map typed_view tree.now
+        ≡ condition_tree (option_map (λ condition. condition.now) condition.entry) }
     ensures json { OnOk result (AddsValues (map evaluated_data (evaluated_if_there which.now (value_view value.now)
         (option_map (λ condition. condition.now) condition.entry))) json.old.written json.new.written) }
     ensures fails { IfOk result (λ failed. failed ≡ list_any has_failed (evaluated_if_there which.now
         (value_view value.now) (option_map (λ condition. condition.now) condition.entry))) }
 {
-    let Some(condition) = condition else {
-        return Ok(false);
-    };
-    let condition = condition.get();
-    match tree_of(alloc, condition)? {
-        Some(tree) => {
-            let named = NamedTree {
-                which,
-                text: condition.text(),
-                tree: &tree,
-            };
-            write_tree(alloc, json, &named, value)
+    match (condition, tree) {
+        (Some(condition), Some(tree)) => {
+            let text = condition.get().text();
+            write_tree(alloc, json, &NamedTree { which, text, tree }, value)
         }
-        None => Ok(false),
+        (_, None) | (None, _) => Ok(false),
     }
 }
 
@@ -204,15 +200,17 @@ fn write_conditions(
     alloc: Global,
     json: &mut JsonText,
     judge: &Judge,
+    trees: &JudgeTrees,
     value: &Value,
 ) -> Result<(), AllocError>
+    requires { judge_trees_view trees.now ≡ trees_of judge.now }
     ensures { OnOk result (AddsValues (map evaluated_data (conditions_on judge.now (value_view value.now)))
         json.old.written json.new.written) }
 {
     let success = judge.condition(Which::Success);
-    if !write_condition(alloc, json, "success", success, value)? {
+    if !write_condition(alloc, json, "success", success, &trees.success, value)? {
         let failure = judge.condition(Which::Failure);
-        write_condition(alloc, json, "failure", failure, value)?;
+        write_condition(alloc, json, "failure", failure, &trees.failure, value)?;
     }
     Ok(())
 }
@@ -223,31 +221,40 @@ fn write_judged(
     alloc: Global,
     json: &mut JsonText,
     judge: Option<&Judge>,
+    trees: Option<&JudgeTrees>,
     sample: &Sample,
 ) -> Result<(), AllocError>
+    requires { option_map (λ trees. judge_trees_view trees.now) trees.entry
+        ≡ option_map (λ judge. trees_of judge.now) judge.entry }
     ensures { OnOk result (AddsValues (map evaluated_data
         (conditions_by (option_map (λ judge. judge.now) judge.entry) (sample_view sample.now)))
         json.old.written json.new.written) }
 {
-    match (judge, sample) {
-        (Some(judge), Sample::Measured(value)) => write_conditions(alloc, json, judge, value),
-        (_, Sample::Measured(_) | Sample::Misfit(_) | Sample::Provider) => Ok(()),
+    match (judge, trees, sample) {
+        (Some(judge), Some(trees), Sample::Measured(value)) => {
+            write_conditions(alloc, json, judge, trees, value)
+        }
+        (_, _, Sample::Measured(_) | Sample::Misfit(_) | Sample::Provider) => Ok(()),
     }
 }
 
+#[tactic(auto, using(crate::proofs::Trees::trees_at))]
 fn write_evaluated(
     alloc: Global,
     json: &mut JsonText,
     bundle: &Bundle,
     run: usize,
+    trees: &[JudgeTrees],
     what: &What,
 ) -> Result<(), AllocError>
+    requires { map judge_trees_view trees.now ≡ run_trees bundle.now run }
     ensures { OnOk result (AddsValues (map evaluated_data (conditions_of bundle.now run what.now))
         json.old.written json.new.written) }
 {
     match what {
         What::Measure(metric, sample) => {
-            write_judged(alloc, json, judge_at(bundle, run, *metric), sample)
+            let judge = judge_at(bundle, run, *metric);
+            write_judged(alloc, json, judge, trees.get(*metric), sample)
         }
         What::Stop => Ok(()),
     }
@@ -310,23 +317,26 @@ fn put_why(alloc: Global, json: &mut JsonText, step: Step) -> Result<(), AllocEr
     Ok(())
 }
 
-/// Writes what led to an event, for which the provider gave this.
+/// Writes what led to an event of a run, for which the provider gave this.
 fn write_reason_of(
     alloc: Global,
     json: &mut JsonText,
     bundle: &Bundle,
+    run: usize,
+    trees: &[JudgeTrees],
     step: Step,
-    part: &EventPart,
+    what: &What,
     given: &Given,
 ) -> Result<(), AllocError>
-    requires { finding_at bundle.now step.entry.number ≡ Some step.entry.finding }
+    requires found { finding_at bundle.now step.entry.number ≡ Some step.entry.finding }
+    requires trees { map judge_trees_view trees.now ≡ run_trees bundle.now run }
     ensures { OnOk result (AddsValue (reason_data (reason_with
         (event_facts bundle.now step.entry.number step.entry.effect) (given_view given.now)
-        (conditions_of bundle.now part.now.run part.now.what) step)) json.old.written json.new.written) }
+        (conditions_of bundle.now run what.now) step)) json.old.written json.new.written) }
 {
     json.begin_object();
     json.begin_list("conditions");
-    write_evaluated(alloc, json, bundle, part.run, &part.what)?;
+    write_evaluated(alloc, json, bundle, run, trees, what)?;
     json.end_list();
     put_change(json, step.change);
     json.put_key("event");
@@ -344,16 +354,19 @@ fn write_reason(
     json: &mut JsonText,
     document: &Json,
     bundle: &Bundle,
+    run: usize,
+    trees: &[JudgeTrees],
     step: Step,
 ) -> Result<(), AllocError>
-    requires { finding_at bundle.now step.entry.number ≡ Some step.entry.finding }
+    requires found { IsFound bundle.now run step.entry }
+    requires trees { map judge_trees_view trees.now ≡ run_trees bundle.now run }
     ensures { OnOk result (AddsValue (reason_data (reason_of (view document.now) bundle.now step))
         json.old.written json.new.written) }
 {
     let number = step.entry.number;
     let part = &bundle.entries()[number as usize];
     let given = given_of(alloc, document, bundle, number, &part.what)?;
-    write_reason_of(alloc, json, bundle, step, part, &given)
+    write_reason_of(alloc, json, bundle, run, trees, step, &part.what, &given)
 }
 
 /// Writes what led to each event that is asked for.
@@ -362,16 +375,19 @@ fn put_reasons(
     json: &mut JsonText,
     document: &Json,
     bundle: &Bundle,
+    run: usize,
+    trees: &[JudgeTrees],
     steps: &[Step],
 ) -> Result<(), AllocError>
-    requires { AreFoundSteps bundle.now steps.now }
+    requires found { AreFoundSteps bundle.now run steps.now }
+    requires trees { map judge_trees_view trees.now ≡ run_trees bundle.now run }
     ensures { OnOk result (AddsMember (codes "events")
         (array_of (map reason_data (map (reason_of (view document.now) bundle.now) steps.now)))
         json.old.written json.new.written) }
 {
     json.begin_list("events");
     for step in steps {
-        write_reason(alloc, json, document, bundle, *step)?;
+        write_reason(alloc, json, document, bundle, run, trees, *step)?;
     }
     json.end_list();
     Ok(())
@@ -444,59 +460,61 @@ fn put_metrics(
 
 // ---- runs
 
-#[tactic(auto, using(crate::proofs::Runs::are_found))]
+#[tactic(auto, using(crate::proofs::Runs::are_found, crate::proofs::Trees::trees_are, ar_facts::proofs::Runs::are_found))]
 fn write_run(
     alloc: Global,
     json: &mut JsonText,
     document: &Json,
     bundle: &Bundle,
     chosen: Chosen,
+    number: usize,
     run: &RunPart,
     entries: &[Entry],
+    state: &RunState,
 ) -> Result<(), AllocError>
     requires run { IsRun bundle.now.metrics run.now }
-    requires found { AreFound bundle.now entries.now }
+    requires there { slice_get bundle.now.runs number ≡ Some run.now }
+    requires found { AllByRecursion (IsFound bundle.now number) entries.now }
     requires few { length entries.now ≤ most_events }
+    requires state { Replays run.now.limits (events_of bundle.now (numbers_of entries.now)) state.now }
     ensures { OnOk result (AddsValue
         (run_reasons_data (run_reasons (view document.now) bundle.now chosen run.now entries.now))
         json.old.written json.new.written) }
 {
-    let found = steps_of(alloc, bundle, chosen, run, entries)?;
+    let trees = trees_of(alloc, run.judges.as_slice())?;
+    let steps = steps_of(alloc, bundle, chosen, run, entries)?;
     json.begin_object();
-    put_reasons(alloc, json, document, bundle, &found.steps)?;
-    put_metrics(
-        alloc,
-        json,
-        bundle.metrics(),
-        run.limits.as_slice(),
-        &found.state,
-    )?;
+    put_reasons(alloc, json, document, bundle, number, &trees, &steps)?;
+    put_metrics(alloc, json, bundle.metrics(), run.limits.as_slice(), state)?;
     json.put_text("name", run.name.as_str());
-    json.put_text("phase", phase_name(found.state.phase()));
+    json.put_text("phase", phase_name(state.phase()));
     json.end_object();
     Ok(())
 }
 
 /// Writes the runs that are asked for.
-#[tactic(auto, using(ar_facts::proofs::Runs::has_history, ar_facts::proofs::Runs::run_is_run))]
+#[tactic(auto, using(ar_facts::proofs::Runs::has_history, ar_facts::proofs::Runs::run_is_run, ar_facts::proofs::States::state_inside, ar_bundle::proofs::SoFar::lawful_are_so_far))]
 fn put_runs(
     alloc: Global,
     json: &mut JsonText,
     document: &Json,
     bundle: &Bundle,
-    histories: &Histories,
+    finished: &Finished,
     chosen: Chosen,
 ) -> Result<(), AllocError>
-    requires { AreHistoriesSoFar bundle.now histories.now }
+    requires { AreFinished bundle.now finished.now }
     ensures { OnOk result (AddsMember (codes "runs") (array_of (map run_reasons_data
-        (reasons_of (view document.now) bundle.now chosen histories.now))) json.old.written json.new.written) }
+        (reasons_of (view document.now) bundle.now chosen finished.now.histories)))
+        json.old.written json.new.written) }
 {
     json.begin_list("runs");
-    let histories = histories.runs();
+    let histories = finished.histories.runs();
     for (number, run) in bundle.runs().iter().enumerate() {
-        let entries = histories[number].entries();
+        let (entries, state) = (histories[number].entries(), &finished.states[number]);
         if is_chosen_run(bundle, chosen, number) {
-            write_run(alloc, json, document, bundle, chosen, run, entries)?;
+            write_run(
+                alloc, json, document, bundle, chosen, number, run, entries, state,
+            )?;
         }
     }
     json.end_list();
@@ -512,16 +530,17 @@ pub fn reasons_json(
     alloc: Global,
     document: &Json,
     bundle: &Bundle,
-    histories: &Histories,
+    finished: &Finished,
     chosen: Chosen,
 ) -> Result<String, AllocError>
-    requires { AreHistoriesSoFar bundle.now histories.now }
+    requires { AreFinished bundle.now finished.now }
     ensures { IfOk result (λ text. IsJsonLine
-        (reasons_data (reasons_of (view document.now) bundle.now chosen histories.now)) (string_bytes text)) }
+        (reasons_data (reasons_of (view document.now) bundle.now chosen finished.now.histories))
+        (string_bytes text)) }
 {
     let mut json = JsonText::new(alloc);
     json.begin_object();
-    put_runs(alloc, &mut json, document, bundle, histories, chosen)?;
+    put_runs(alloc, &mut json, document, bundle, finished, chosen)?;
     json.put_count("version", VERSION);
     json.end_object();
     json.finish()

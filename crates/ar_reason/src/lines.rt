@@ -1,29 +1,32 @@
 //! The lines of events, metrics and runs.
 
 ghost use Rattle.std.specs.Prelude.{◌≡◌, ◌≤◌, ◌++◌, IfOk, OnOk, Some, codes, flat_map, length, map, option_map, slice_get, string_bytes};
+ghost use Rattle.std.specs.List.{AllByRecursion};
 ghost use Rattle.serde_json.specs.View.{view};
-ghost use Rattle.ar_limits.specs.Replay.{most_events};
-ghost use Rattle.ar_bundle.specs.Bundle.{finding_at, judge_at};
-ghost use Rattle.ar_bundle.specs.Lawful.{AreHistoriesSoFar};
+ghost use Rattle.ar_limits.specs.Replay.{Replays, most_events};
+ghost use Rattle.ar_bundle.specs.Bundle.{events_of, judge_at};
+ghost use Rattle.ar_bundle.specs.Finished.{AreFinished};
+ghost use Rattle.ar_bundle.specs.Lawful.{IsFound, numbers_of};
 ghost use Rattle.ar_bundle.specs.Sound.{IsRun};
 ghost use Rattle.ar_judge.specs.Verdict.{sample_view};
 ghost use Rattle.ar_facts.specs.Facts.{facts_of_metrics, metric_facts};
-ghost use Rattle.ar_facts.specs.Private.Entries.{AreFound};
 ghost use Rattle.ar_reason.specs.Reason.{conditions_by, conditions_of, reason_of, reasons_of, run_reasons};
 ghost use Rattle.ar_reason.specs.ReasonText.{change_line, condition_text, given_line, metric_lines, outcome_lines, reason_text, reasons_text, run_reasons_text, waits_line, why_line};
 ghost use Rattle.ar_reason.specs.Views.{given_view};
 ghost use Rattle.ar_reason.specs.Waiting.{waits_for};
 ghost use Rattle.ar_reason.specs.Why.{why_of};
 ghost use Rattle.ar_reason.specs.Private.Found.{AreFoundSteps};
+ghost use Rattle.ar_reason.specs.Private.Trees.{trees_of, run_trees, judge_trees_view};
 
 use crate::chosen::Chosen;
 use crate::counts::push_counts;
+use crate::evaluated::{JudgeTrees, trees_of};
 use crate::given::{Given, given_of};
 use crate::parts::push_conditions;
 use crate::steps::{Change, Step, is_chosen_run, steps_of};
 use crate::waiting::push_waiting;
 use crate::why::{Why, push_why, why_of};
-use ar_bundle::{Bundle, Entry, Histories, MetricPart, RunPart, What};
+use ar_bundle::{Bundle, Entry, Finished, MetricPart, RunPart, What};
 use ar_facts::{phase_name, put_event, put_metric, put_run_line};
 use ar_judge::{Judge, Sample};
 use ar_limits::{Counts, Limits, Phase, RunState};
@@ -81,14 +84,19 @@ fn push_judged(
     alloc: Global,
     out: &mut String,
     judge: Option<&Judge>,
+    trees: Option<&JudgeTrees>,
     sample: &Sample,
 ) -> Result<(), AllocError>
+    requires { option_map (λ trees. judge_trees_view trees.now) trees.entry
+        ≡ option_map (λ judge. trees_of judge.now) judge.entry }
     ensures { OnOk result (string_bytes out.new ≡ string_bytes out.old ++ flat_map condition_text
         (conditions_by (option_map (λ judge. judge.now) judge.entry) (sample_view sample.now))) }
 {
-    match (judge, sample) {
-        (Some(judge), Sample::Measured(value)) => push_conditions(alloc, out, judge, value),
-        (_, Sample::Measured(_) | Sample::Misfit(_) | Sample::Provider) => Ok(()),
+    match (judge, trees, sample) {
+        (Some(judge), Some(trees), Sample::Measured(value)) => {
+            push_conditions(alloc, out, judge, trees, value)
+        }
+        (_, _, Sample::Measured(_) | Sample::Misfit(_) | Sample::Provider) => Ok(()),
     }
 }
 
@@ -99,19 +107,23 @@ pub(crate) fn judge_at(bundle: &Bundle, run: usize, metric: usize) -> Option<&Ju
     bundle.runs().get(run)?.judges.as_slice().get(metric)
 }
 
+#[tactic(auto, using(crate::proofs::Trees::trees_at))]
 fn push_evaluated(
     alloc: Global,
     out: &mut String,
     bundle: &Bundle,
     run: usize,
+    trees: &[JudgeTrees],
     what: &What,
 ) -> Result<(), AllocError>
+    requires { map judge_trees_view trees.now ≡ run_trees bundle.now run }
     ensures { OnOk result (string_bytes out.new ≡ string_bytes out.old
         ++ flat_map condition_text (conditions_of bundle.now run what.now)) }
 {
     match what {
         What::Measure(metric, sample) => {
-            push_judged(alloc, out, judge_at(bundle, run, *metric), sample)
+            let judge = judge_at(bundle, run, *metric);
+            push_judged(alloc, out, judge, trees.get(*metric), sample)
         }
         What::Stop => Ok(()),
     }
@@ -125,16 +137,19 @@ fn push_outcome(out: &mut String, step: Step) -> Result<(), AllocError>
     push_why_line(out, why_of(step))
 }
 
-/// The lines of an event.
+/// The lines of an event of a run.
 #[tactic(auto, using(ar_facts::proofs::Lines::found_inside))]
 fn push_reason(
     alloc: Global,
     out: &mut String,
     document: &Json,
     bundle: &Bundle,
+    run: usize,
+    trees: &[JudgeTrees],
     step: Step,
 ) -> Result<(), AllocError>
-    requires { finding_at bundle.now step.entry.number ≡ Some step.entry.finding }
+    requires found { IsFound bundle.now run step.entry }
+    requires trees { map judge_trees_view trees.now ≡ run_trees bundle.now run }
     ensures { OnOk result (string_bytes out.new ≡ string_bytes out.old
         ++ reason_text (reason_of (view document.now) bundle.now step)) }
 {
@@ -143,7 +158,7 @@ fn push_reason(
     let given = given_of(alloc, document, bundle, number, &part.what)?;
     put_event(out, bundle, step.entry)?;
     push_given(out, &given)?;
-    push_evaluated(alloc, out, bundle, part.run, &part.what)?;
+    push_evaluated(alloc, out, bundle, run, trees, &part.what)?;
     push_outcome(out, step)
 }
 
@@ -153,14 +168,17 @@ fn push_reasons(
     out: &mut String,
     document: &Json,
     bundle: &Bundle,
+    run: usize,
+    trees: &[JudgeTrees],
     steps: &[Step],
 ) -> Result<(), AllocError>
-    requires { AreFoundSteps bundle.now steps.now }
+    requires found { AreFoundSteps bundle.now run steps.now }
+    requires trees { map judge_trees_view trees.now ≡ run_trees bundle.now run }
     ensures { OnOk result (string_bytes out.new ≡ string_bytes out.old
         ++ flat_map reason_text (map (reason_of (view document.now) bundle.now) steps.now)) }
 {
     for step in steps {
-        push_reason(alloc, out, document, bundle, *step)?;
+        push_reason(alloc, out, document, bundle, run, trees, *step)?;
     }
     Ok(())
 }
@@ -222,27 +240,32 @@ fn push_metrics(
 
 // ---- runs
 
-/// The lines of a run.
-#[tactic(auto, using(crate::proofs::Runs::text_is, crate::proofs::Runs::are_found))]
+/// The lines of a run, by its number, its history and its state.
+#[tactic(auto, using(crate::proofs::Runs::text_is, crate::proofs::Runs::are_found, crate::proofs::Trees::trees_are, ar_facts::proofs::Runs::are_found))]
 fn push_run(
     alloc: Global,
     out: &mut String,
     document: &Json,
     bundle: &Bundle,
     chosen: Chosen,
+    number: usize,
     run: &RunPart,
     entries: &[Entry],
+    state: &RunState,
 ) -> Result<(), AllocError>
     requires run { IsRun bundle.now.metrics run.now }
-    requires found { AreFound bundle.now entries.now }
+    requires there { slice_get bundle.now.runs number ≡ Some run.now }
+    requires found { AllByRecursion (IsFound bundle.now number) entries.now }
     requires few { length entries.now ≤ most_events }
+    requires state { Replays run.now.limits (events_of bundle.now (numbers_of entries.now)) state.now }
     ensures { OnOk result (string_bytes out.new ≡ string_bytes out.old
         ++ run_reasons_text (run_reasons (view document.now) bundle.now chosen run.now entries.now)) }
 {
-    let found = steps_of(alloc, bundle, chosen, run, entries)?;
-    put_run_line(out, run, found.state.phase())?;
-    push_reasons(alloc, out, document, bundle, &found.steps)?;
-    push_metrics(out, bundle.metrics(), run.limits.as_slice(), &found.state)
+    let trees = trees_of(alloc, run.judges.as_slice())?;
+    let steps = steps_of(alloc, bundle, chosen, run, entries)?;
+    put_run_line(out, run, state.phase())?;
+    push_reasons(alloc, out, document, bundle, number, &trees, &steps)?;
+    push_metrics(out, bundle.metrics(), run.limits.as_slice(), state)
 }
 
 /// What led to the verdict and the effect of each event that is asked for, in lines.
@@ -250,24 +273,26 @@ fn push_run(
 /// # Errors
 ///
 /// Out of memory alone.
-#[tactic(auto, using(ar_facts::proofs::Runs::has_history, ar_facts::proofs::Runs::run_is_run, crate::proofs::Runs::next_run, crate::proofs::Runs::run_passed, crate::proofs::Runs::no_run_left))]
+#[tactic(auto, using(ar_facts::proofs::Runs::has_history, ar_facts::proofs::Runs::run_is_run, ar_facts::proofs::States::state_inside, ar_bundle::proofs::SoFar::lawful_are_so_far, crate::proofs::Runs::next_run, crate::proofs::Runs::run_passed, crate::proofs::Runs::no_run_left))]
 pub fn reasons_text(
     alloc: Global,
     document: &Json,
     bundle: &Bundle,
-    histories: &Histories,
+    finished: &Finished,
     chosen: Chosen,
 ) -> Result<String, AllocError>
-    requires { AreHistoriesSoFar bundle.now histories.now }
+    requires { AreFinished bundle.now finished.now }
     ensures { IfOk result (λ text. string_bytes text
-        ≡ reasons_text (reasons_of (view document.now) bundle.now chosen histories.now)) }
+        ≡ reasons_text (reasons_of (view document.now) bundle.now chosen finished.now.histories)) }
 {
     let mut out = String::new(alloc);
-    let histories = histories.runs();
+    let histories = finished.histories.runs();
     for (number, run) in bundle.runs().iter().enumerate() {
-        let entries = histories[number].entries();
+        let (entries, state) = (histories[number].entries(), &finished.states[number]);
         if is_chosen_run(bundle, chosen, number) {
-            push_run(alloc, &mut out, document, bundle, chosen, run, entries)?;
+            push_run(
+                alloc, &mut out, document, bundle, chosen, number, run, entries, state,
+            )?;
         }
     }
     Ok(out)

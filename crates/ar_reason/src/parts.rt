@@ -8,9 +8,10 @@ ghost use Rattle.ar_tree.specs.Views.{typed_view};
 ghost use Rattle.ar_explain.specs.Views.{explanation_view, line_view, said_view};
 ghost use Rattle.ar_show.specs.PartText.{shown_part};
 ghost use Rattle.ar_reason.specs.Reason.{conditions_on, evaluated_if_there, evaluated_with, has_failed, is_failure};
+ghost use Rattle.ar_reason.specs.Private.Trees.{condition_tree, trees_of, judge_trees_view};
 ghost use Rattle.ar_reason.specs.ReasonText.{condition_text, failure_name, item_text, left_out_line, operands_text, part_line, parts_text, said_text};
 
-use crate::evaluated::{NamedTree, tree_of};
+use crate::evaluated::{JudgeTrees, NamedTree};
 use ar_explain::{Explanation, Line, Said, tell};
 use ar_judge::{Judge, SharedCondition, Which};
 use ar_operand::operand::Failure;
@@ -158,34 +159,29 @@ fn push_tree(
     Ok(is_failure(&evaluation.answer))
 }
 
-/// A condition on a value, where it is there, and whether it has failed.
+/// A condition with its tree on a value, where it is there, and whether it has failed.
 fn push_condition(
     alloc: Global,
     out: &mut String,
     which: &str,
     condition: Option<&SharedCondition>,
+    tree: &Option<Typed>,
     value: &Value,
 ) -> Result<bool, AllocError>
+    requires { option_map typed_view tree.now
+        ≡ condition_tree (option_map (λ condition. condition.now) condition.entry) }
     ensures text { OnOk result (string_bytes out.new ≡ string_bytes out.old
         ++ flat_map condition_text (evaluated_if_there which.now (value_view value.now)
         (option_map (λ condition. condition.now) condition.entry))) }
     ensures fails { IfOk result (λ failed. failed ≡ list_any has_failed (evaluated_if_there which.now
         (value_view value.now) (option_map (λ condition. condition.now) condition.entry))) }
 {
-    let Some(condition) = condition else {
-        return Ok(false);
-    };
-    let condition = condition.get();
-    match tree_of(alloc, condition)? {
-        Some(tree) => {
-            let named = NamedTree {
-                which,
-                text: condition.text(),
-                tree: &tree,
-            };
-            push_tree(alloc, out, &named, value)
+    match (condition, tree) {
+        (Some(condition), Some(tree)) => {
+            let text = condition.get().text();
+            push_tree(alloc, out, &NamedTree { which, text, tree }, value)
         }
-        None => Ok(false),
+        (_, None) | (None, _) => Ok(false),
     }
 }
 
@@ -194,16 +190,18 @@ pub(crate) fn push_conditions(
     alloc: Global,
     out: &mut String,
     judge: &Judge,
+    trees: &JudgeTrees,
     value: &Value,
 ) -> Result<(), AllocError>
+    requires { judge_trees_view trees.now ≡ trees_of judge.now }
     ensures { OnOk result (string_bytes out.new ≡ string_bytes out.old
         ++ flat_map condition_text (conditions_on judge.now (value_view value.now))) }
 {
     let success = judge.condition(Which::Success);
-    if push_condition(alloc, out, "success", success, value)? {
+    if push_condition(alloc, out, "success", success, &trees.success, value)? {
         return Ok(());
     }
     let failure = judge.condition(Which::Failure);
-    push_condition(alloc, out, "failure", failure, value)?;
+    push_condition(alloc, out, "failure", failure, &trees.failure, value)?;
     Ok(())
 }

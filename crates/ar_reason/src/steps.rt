@@ -40,13 +40,6 @@ pub struct Step {
     pub closer: Option<u64>,
 }
 
-/// The events that are asked for, and the run after all of its events.
-#[derive(Drop)]
-pub struct Steps {
-    pub steps: Vec<Step>,
-    pub state: RunState,
-}
-
 fn state_of(state: &RunState, metric: usize) -> MetricState
     requires { metric < length state.now.limits }
     ensures { ForEachReplay state.now (λ limits events. metric_after limits events metric ≡ Some result) }
@@ -128,14 +121,12 @@ pub(crate) fn steps_of(
     chosen: Chosen,
     run: &RunPart,
     entries: &[Entry],
-) -> Result<Steps, AllocError>
+) -> Result<Vec<Step>, AllocError>
     requires run { IsRun bundle.now.metrics run.now }
     requires found { AreFound bundle.now entries.now }
     requires few { length entries.now ≤ most_events }
-    ensures state { IfOk result
-        (λ found. Replays run.now.limits (events_of bundle.now (numbers_of entries.now)) found.state) }
-    ensures steps { IfOk result
-        (λ found. found.steps.items ≡ chosen_steps bundle.now chosen run.now.limits entries.now) }
+    ensures { IfOk result
+        (λ steps. steps.items ≡ chosen_steps bundle.now chosen run.now.limits entries.now) }
 {
     let limits = run.limits.as_slice();
     let mut state = RunState::new(alloc, limits)?;
@@ -154,7 +145,7 @@ pub(crate) fn steps_of(
         }
         closer = closer_after(closer, *entry);
     }
-    Ok(Steps { steps, state })
+    Ok(steps)
 }
 
 /// Whether events of a run are asked for.

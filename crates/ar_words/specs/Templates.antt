@@ -184,14 +184,14 @@ value_said values.LongText = codes "a text of more than 256 bytes"
 abbrev pub limit_said : RefusedLimit → Text
 limit_said limit = codes "`" ++ (field_name limit.field ++ (codes "` is " ++ value_said limit.value))
 
-abbrev pub field_of : LimitField → MetricField
-field_of limits.Count = fields.Count
-field_of limits.Failure = fields.FailureLimit
-field_of limits.Inconclusive = fields.InconclusiveLimit
-field_of limits.ConsecutiveError = fields.ConsecutiveErrorLimit
+abbrev pub field_of_limit : LimitField → MetricField
+field_of_limit limits.Count = fields.Count
+field_of_limit limits.Failure = fields.FailureLimit
+field_of_limit limits.Inconclusive = fields.InconclusiveLimit
+field_of_limit limits.ConsecutiveError = fields.ConsecutiveErrorLimit
 
 abbrev pub limit_field : RefusedLimit → MetricField
-limit_field limit = field_of limit.field
+limit_field limit = field_of_limit limit.field
 
 -- a limit that is refused, if it is known
 abbrev pub limit_diagnostic : Data → (run metric : ℕ) → Option RefusedLimit → Diagnostic

@@ -7,7 +7,7 @@ ghost use Rattle.ar_diagnostic.specs.Diagnostic.{expecting};
 ghost use Rattle.ar_diagnostic.specs.declared.place.Place.TheVariants as places;
 ghost use Rattle.ar_words.specs.Bindings.{limit_in};
 ghost use Rattle.ar_words.specs.Lists.{list_item, metrics};
-ghost use Rattle.ar_words.specs.Templates.{argument_place, arguments_there, arguments_diagnostic, binding_diagnostic, bound_place, dry_run_diagnostic, dry_run_hint, expecting_field, field_diagnostic, field_of, given_kind, head_diagnostic, kind_of_list, limit_diagnostic, limit_field, limit_said, list_diagnostic, list_kind, manifest_hint, metric_diagnostic, metric_place, reference_said, template_diagnostic, unknown_argument, unnamed_dry_run, unnamed_place, unvalued_argument, value_said};
+ghost use Rattle.ar_words.specs.Templates.{argument_place, arguments_there, arguments_diagnostic, binding_diagnostic, bound_place, dry_run_diagnostic, dry_run_hint, expecting_field, field_diagnostic, field_of_limit, given_kind, head_diagnostic, kind_of_list, limit_diagnostic, limit_field, limit_said, list_diagnostic, list_kind, manifest_hint, metric_diagnostic, metric_place, reference_said, template_diagnostic, unknown_argument, unnamed_dry_run, unnamed_place, unvalued_argument, value_said};
 
 use crate::bindings::{limit_in, unbound_in};
 use crate::fields::{FieldMisfit, field_said, metric_misfit};
@@ -391,8 +391,8 @@ fn limit_said(alloc: Global, limit: Option<RefusedLimit>) -> Result<Option<Text>
     Ok(Some(Text::from(said)))
 }
 
-fn field_of(field: LimitField) -> MetricField
-    ensures { result ≡ field_of field }
+fn field_of_limit(field: LimitField) -> MetricField
+    ensures { result ≡ field_of_limit field }
 {
     match field {
         LimitField::Count => MetricField::Count,
@@ -406,7 +406,7 @@ fn limit_field(limit: &Option<RefusedLimit>) -> Option<MetricField>
     ensures { result ≡ option_map limit_field limit.now }
 {
     match limit {
-        Some(limit) => Some(field_of(limit.field)),
+        Some(limit) => Some(field_of_limit(limit.field)),
         None => None,
     }
 }

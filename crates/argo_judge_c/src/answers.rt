@@ -5,9 +5,9 @@ ghost use Rattle.ar_command.specs.Serving.{RefusesInput, RunsAlone};
 ghost use Rattle.ar_refusal.specs.Refused.{IsWrittenAs};
 ghost use Rattle.argo_judge_c.specs.Library.{IsAnswer, IsRefusedInput, IsSaidOrRefused, command_of, format_of_number, unknown_diagnostic};
 
-use crate::buffers::{Document, Written};
+use crate::buffers::Written;
 use crate::commands::{command_of, format_of_number};
-use ar_command::{Command, Refusal, ServeError, serve_plain, status};
+use ar_command::{Command, Refusal, ServeError, serve_plain_input, status};
 use ar_diagnostic::{Diagnostic, Place};
 use ar_refusal::{refusal_text, written_as};
 use ar_value::Text;
@@ -69,9 +69,9 @@ fn carried_out(alloc: Global, command: Command<'_>, input: &[u8]) -> Result<Answ
         IsSaidOrRefused command.entry input.now answer.text.items answer.status) }
     ensures status { IfOk result (λ answer. answer.status ≤ 2) }
 {
-    let mut reader = Document { rest: input };
     let mut writer = Written::new(alloc);
-    let outcome = serve_plain(alloc, command, &mut reader, &mut writer);
+    let mut warnings = Vec::new(alloc);
+    let outcome = serve_plain_input(alloc, command, input, &mut writer, &mut warnings);
     match &outcome {
         Ok(_) => Ok(Answer {
             text: writer.text,

@@ -1,38 +1,11 @@
-//! A document in memory as a source, what a command writes as a sink, and texts in a caller's buffer.
+//! What a command writes as a sink, and texts in a caller's buffer.
 
 ghost use Rattle.std.specs.Prelude.{◌≡◌};
 ghost use Rattle.argo_judge_c.specs.Buffers.{IsPutOrLeft};
 
-use ar_command::{Sink, Source};
+use ar_command::Sink;
 use ar_command_line::DeviceFault;
 use std::alloc::Global;
-
-/// A document in memory: what of it wasn't read yet.
-#[derive(Drop)]
-pub(crate) struct Document<'a> {
-    pub rest: &'a [u8],
-}
-
-impl Source for Document<'_> {
-    ghost use Rattle.std.specs.Prelude.{None, Some, false};
-
-    ghost remaining = { λ document. Some document.rest.now };
-
-    ghost taken = { λ _. None };
-
-    ghost has_failed = { λ _. false };
-
-    fn read(&mut self, buf: &mut [u8]) -> Result<usize, DeviceFault> {
-        let count = self.rest.len().min(buf.len());
-        buf[..count].copy_from_slice(&self.rest[..count]);
-        self.rest = &self.rest[count..];
-        Ok(count)
-    }
-
-    fn failed(&self) -> bool {
-        false
-    }
-}
 
 /// What a command writes, in memory.
 #[derive(Drop)]

@@ -8,7 +8,7 @@
 //!
 //! - `commands`: the commands of numbers
 //! - `answers`: what a command says of an input
-//! - `buffers`: the input as a source, the answer as a sink, and a text in a caller's buffer
+//! - `buffers`: the answer as a sink, and a text in a caller's buffer
 #![tactic(auto)]
 
 mod answers;

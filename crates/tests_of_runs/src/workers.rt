@@ -5,7 +5,7 @@ ghost use Rattle.ar_command.specs.Serving.{RunsWith};
 
 use crate::gates::{FAILING, Meeting, TWO_RUNS};
 use ar_bundle::{Bundle, Histories};
-use ar_command::{Closing, Command, Device, Format, Kept, serve};
+use ar_command::{Closing, Command, Device, Format, serve};
 use ar_document::read_bundle;
 use ar_workers::{WorkError, run_all, run_ordered};
 use std::alloc::Global;
@@ -215,7 +215,7 @@ fn is_served<R: Threads + Wait + Sync>(
 ) -> bool
     requires { RunsWith command 16 }
 {
-    let mut reader = Kept::new(alloc, Device::new(document.as_bytes()));
+    let mut reader = Device::new(document.as_bytes());
     let mut writer = Device::new(output);
     let outcome = serve(rt, alloc, command, &mut reader, &mut writer, gate);
     matches!(outcome, Ok(own) if own == closing) && gate.is_held()

@@ -1,5 +1,6 @@
 use Rattle.std.proofs.Common.{ap, arith, length}
 use Rattle.serde_json.specs.View.{view}
+use Rattle.ar_bundle.proofs.SoFar.{lawful_are_so_far}
 use Rattle.ar_facts.proofs.Runs.{has_history}
 use Rattle.ar_object.proofs.Texts.{all_remain, list_member}
 use Rattle.ar_reason.proofs.Runs.{next_object, no_object_left, object_passed}
@@ -9,7 +10,9 @@ pub loop-number-init : goal.loop-number-init
 loop-number-init c = all_remain _ _
 
 pub loop-number-preserved : goal.loop-number-preserved
-loop-number-preserved c = grind (arith, has_history, next_object, object_passed) steps 2000000
+loop-number-preserved c =
+    let has = has_history c.args.bundle.now c.run-item.result c.args.finished.now.histories c.loop-number.number c.runs-run-items.ensures.bundle (lawful_are_so_far c.args.bundle.now c.args.finished.now.histories c.requires.lawful) in
+    grind (arith, has, next_object, object_passed) steps 2000000
 
 pub returns : goal.returns
 returns c =

@@ -8,4 +8,4 @@ use Rattle.ar_reason.proofs.data.reasons_json.Goals as goal
 pub returns : goal.returns
 returns c =
     let object = object_is c.begin_object.ensures (then c.in_ok-put_runs.ensures (then c.put_count.ensures (last c.end_object.ensures))) refl in
-    c.finish.ensures _ (value_written c.new-json.ensures object) (reasons_flat (reasons_of (view c.args.document.now) c.args.bundle.now c.args.chosen c.args.histories.now))
+    c.finish.ensures _ (value_written c.new-json.ensures object) (reasons_flat (reasons_of (view c.args.document.now) c.args.bundle.now c.args.chosen c.args.finished.now.histories))

@@ -8,7 +8,7 @@ use Rattle.ar_reason.proofs.data.write_reason.Goals as goal
 pub returns : goal.returns
 returns c =
     let read = subst (λ entries. c.index-entries-number.result ≡ slice_index_or entries c.args.step.entry.number c.index-entries-number.result) c.entries.ensures c.index-entries-number.is in
-    rw (reason_is (view c.args.document.now) c.args.bundle.now c.args.step c.index-entries-number.result c.requires read, ← c.in_ok-given.ensures) c.write_reason_of.ensures
+    rw (reason_is (view c.args.document.now) c.args.bundle.now c.args.run c.args.step c.index-entries-number.result c.requires.found read, ← c.in_ok-given.ensures) c.write_reason_of.ensures
 
 pub offset_bounds-entries-number : goal.offset_bounds-entries-number
 offset_bounds-entries-number c = search (rules, found_inside)

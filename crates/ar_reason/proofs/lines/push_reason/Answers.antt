@@ -11,7 +11,7 @@ returns c =
     let read = subst (λ entries. c.index-entries-number.result ≡ slice_index_or entries c.args.step.entry.number c.index-entries-number.result) c.entries.ensures c.index-entries-number.is in
     let given = c.in_ok-push_given.ensures ∙ ap (λ given. string_bytes c.put_event.new.out ++ given_line given) c.in_ok-given.ensures in
     on_ok c.push_outcome.result
-    (reason_written (view c.args.document.now) c.args.bundle.now c.args.step c.index-entries-number.result (string_bytes c.args.out.now) (string_bytes c.put_event.new.out) (string_bytes c.push_given.new.out) (string_bytes c.push_evaluated.new.out) (string_bytes c.push_outcome.new.out) c.requires read c.in_ok-put_event.ensures given c.in_ok-push_evaluated.ensures)
+    (reason_written (view c.args.document.now) c.args.bundle.now c.args.run c.args.step c.index-entries-number.result (string_bytes c.args.out.now) (string_bytes c.put_event.new.out) (string_bytes c.push_given.new.out) (string_bytes c.push_evaluated.new.out) (string_bytes c.push_outcome.new.out) c.requires.found read c.in_ok-put_event.ensures given c.in_ok-push_evaluated.ensures)
     c.push_outcome.ensures
 
 pub offset_bounds-entries-number : goal.offset_bounds-entries-number
