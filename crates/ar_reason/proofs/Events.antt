@@ -1,7 +1,7 @@
 -- The events of a history that are asked for, one after another.
 use Rattle.std.proofs.Common.{◌≡◌, ◌<◌, ◌≤◌, ℕ, ◌+◌, List, ◌++◌, drop, flat_map, length, map, Some, refl, sym, ◌∙◌, ap}
 use Rattle.std.specs.Prelude.{option_map, slice_index_or}
-use Rattle.std.proofs.lemmas.Option.{slice_get_read}
+use Rattle.std.proofs.lemmas.Option.{slice_get-get_or, slice_get_read}
 use Rattle.serde_json.specs.Data.{Data}
 use Rattle.ar_bundle.proofs.Bundles.{of_each}
 use Rattle.ar_bundle.specs.Bundle.{Bundle}
@@ -19,6 +19,10 @@ use Rattle.ar_reason.specs.declared.steps.Step.{Step}
 
 pub is_found : (bundle : Bundle) (run : ℕ) (steps : List Step) (index : ℕ) (step : Step) → AreFoundSteps bundle run steps → index < length steps → step ≡ slice_index_or steps index step → IsFound bundle run step.entry
 is_found bundle run steps index step all inside read = of_each (λ (step : Step). IsFound bundle run step.entry) steps index step all (slice_get_read steps (length steps) index step refl inside read)
+
+-- the same of what was read in place of a default
+pub is_found_read : (bundle : Bundle) (run : ℕ) (steps : List Step) (index : ℕ) (default : Step) → AreFoundSteps bundle run steps → index < length steps → IsFound bundle run (slice_index_or steps index default).entry
+is_found_read bundle run steps index default all inside = of_each (λ (step : Step). IsFound bundle run step.entry) steps index (slice_index_or steps index default) all (slice_get-get_or steps index default inside)
 
 -- what led to an event that was read
 pub reason_is : (document : Data) (bundle : Bundle) (run : ℕ) (step : Step) (part : EventPart) → IsFound bundle run step.entry → part ≡ slice_index_or bundle.entries step.entry.number part

@@ -4,5 +4,6 @@ pub mod Joined
 pub mod Lists
 pub mod Metrics
 pub mod Objects
+pub mod Reading
 pub mod Runs
 pub mod Trees

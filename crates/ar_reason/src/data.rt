@@ -28,7 +28,7 @@ ghost use Rattle.ar_reason.specs.Private.Found.{AreFoundSteps};
 ghost use Rattle.ar_reason.specs.Private.Trees.{condition_tree, trees_of, run_trees, judge_trees_view};
 
 use crate::chosen::Chosen;
-use crate::evaluated::{JudgeTrees, NamedTree, trees_of};
+use crate::evaluated::{JudgeTrees, NamedTree, trees_at, trees_of};
 use crate::given::{Given, given_of};
 use crate::lines::judge_at;
 use crate::parts::{failure_name, is_failure};
@@ -180,7 +180,7 @@ fn write_condition(
     value: &Value,
 ) -> Result<bool, AllocError>
     requires { option_map typed_view tree.now
-        ≡ condition_tree (option_map (λ condition. condition.now) condition.entry) }
+        ≡ condition_tree (option_map (λ condition. condition.now) condition) }
     ensures json { OnOk result (AddsValues (map evaluated_data (evaluated_if_there which.now (value_view value.now)
         (option_map (λ condition. condition.now) condition.entry))) json.old.written json.new.written) }
     ensures fails { IfOk result (λ failed. failed ≡ list_any has_failed (evaluated_if_there which.now
@@ -224,8 +224,8 @@ fn write_judged(
     trees: Option<&JudgeTrees>,
     sample: &Sample,
 ) -> Result<(), AllocError>
-    requires { option_map (λ trees. judge_trees_view trees.now) trees.entry
-        ≡ option_map (λ judge. trees_of judge.now) judge.entry }
+    requires { option_map judge_trees_view (option_map (λ trees. trees.now) trees)
+        ≡ option_map trees_of (option_map (λ judge. judge.now) judge) }
     ensures { OnOk result (AddsValues (map evaluated_data
         (conditions_by (option_map (λ judge. judge.now) judge.entry) (sample_view sample.now)))
         json.old.written json.new.written) }
@@ -238,7 +238,6 @@ fn write_judged(
     }
 }
 
-#[tactic(auto, using(crate::proofs::Trees::trees_at))]
 fn write_evaluated(
     alloc: Global,
     json: &mut JsonText,
@@ -254,7 +253,7 @@ fn write_evaluated(
     match what {
         What::Measure(metric, sample) => {
             let judge = judge_at(bundle, run, *metric);
-            write_judged(alloc, json, judge, trees.get(*metric), sample)
+            write_judged(alloc, json, judge, trees_at(trees, *metric), sample)
         }
         What::Stop => Ok(()),
     }
@@ -493,7 +492,7 @@ fn write_run(
 }
 
 /// Writes the runs that are asked for.
-#[tactic(auto, using(ar_facts::proofs::Runs::has_history, ar_facts::proofs::Runs::run_is_run, ar_facts::proofs::States::state_inside, ar_bundle::proofs::SoFar::lawful_are_so_far))]
+#[tactic(auto, using(ar_facts::proofs::Runs::has_history, ar_facts::proofs::States::state_inside, ar_bundle::proofs::SoFar::lawful_are_so_far))]
 fn put_runs(
     alloc: Global,
     json: &mut JsonText,

@@ -1,6 +1,6 @@
 //! The trees of conditions, by which they are evaluated part by part.
 
-ghost use Rattle.std.specs.Prelude.{◌≡◌, IfOk, map, option_map};
+ghost use Rattle.std.specs.Prelude.{◌≡◌, IfOk, map, option_map, slice_get};
 ghost use Rattle.ar_judge.specs.Saying.{typed_text};
 ghost use Rattle.ar_tree.specs.Views.{typed_view};
 ghost use Rattle.ar_value.specs.View.{shape_view};
@@ -69,6 +69,13 @@ pub(crate) fn trees_of(alloc: Global, judges: &[Judge]) -> Result<Vec<JudgeTrees
         trees.push(judge_trees(alloc, judge)?)?;
     }
     Ok(trees)
+}
+
+/// The trees of the metric with a number.
+pub(crate) fn trees_at(trees: &[JudgeTrees], metric: usize) -> Option<&JudgeTrees>
+    ensures { option_map (λ trees. trees.now) result ≡ slice_get trees.now metric }
+{
+    trees.get(metric)
 }
 
 /// A condition's tree with its text, and which of a metric's two it is.

@@ -20,7 +20,7 @@ ghost use Rattle.ar_reason.specs.Private.Trees.{trees_of, run_trees, judge_trees
 
 use crate::chosen::Chosen;
 use crate::counts::push_counts;
-use crate::evaluated::{JudgeTrees, trees_of};
+use crate::evaluated::{JudgeTrees, trees_at, trees_of};
 use crate::given::{Given, given_of};
 use crate::parts::push_conditions;
 use crate::steps::{Change, Step, is_chosen_run, steps_of};
@@ -87,8 +87,8 @@ fn push_judged(
     trees: Option<&JudgeTrees>,
     sample: &Sample,
 ) -> Result<(), AllocError>
-    requires { option_map (λ trees. judge_trees_view trees.now) trees.entry
-        ≡ option_map (λ judge. trees_of judge.now) judge.entry }
+    requires { option_map judge_trees_view (option_map (λ trees. trees.now) trees)
+        ≡ option_map trees_of (option_map (λ judge. judge.now) judge) }
     ensures { OnOk result (string_bytes out.new ≡ string_bytes out.old ++ flat_map condition_text
         (conditions_by (option_map (λ judge. judge.now) judge.entry) (sample_view sample.now))) }
 {
@@ -107,7 +107,6 @@ pub(crate) fn judge_at(bundle: &Bundle, run: usize, metric: usize) -> Option<&Ju
     bundle.runs().get(run)?.judges.as_slice().get(metric)
 }
 
-#[tactic(auto, using(crate::proofs::Trees::trees_at))]
 fn push_evaluated(
     alloc: Global,
     out: &mut String,
@@ -123,7 +122,7 @@ fn push_evaluated(
     match what {
         What::Measure(metric, sample) => {
             let judge = judge_at(bundle, run, *metric);
-            push_judged(alloc, out, judge, trees.get(*metric), sample)
+            push_judged(alloc, out, judge, trees_at(trees, *metric), sample)
         }
         What::Stop => Ok(()),
     }
@@ -273,7 +272,7 @@ fn push_run(
 /// # Errors
 ///
 /// Out of memory alone.
-#[tactic(auto, using(ar_facts::proofs::Runs::has_history, ar_facts::proofs::Runs::run_is_run, ar_facts::proofs::States::state_inside, ar_bundle::proofs::SoFar::lawful_are_so_far, crate::proofs::Runs::next_run, crate::proofs::Runs::run_passed, crate::proofs::Runs::no_run_left))]
+#[tactic(auto, using(ar_facts::proofs::Runs::has_history, ar_facts::proofs::States::state_inside, ar_bundle::proofs::SoFar::lawful_are_so_far, crate::proofs::Runs::next_run, crate::proofs::Runs::run_passed, crate::proofs::Runs::no_run_left))]
 pub fn reasons_text(
     alloc: Global,
     document: &Json,

@@ -169,7 +169,7 @@ fn push_condition(
     value: &Value,
 ) -> Result<bool, AllocError>
     requires { option_map typed_view tree.now
-        ≡ condition_tree (option_map (λ condition. condition.now) condition.entry) }
+        ≡ condition_tree (option_map (λ condition. condition.now) condition) }
     ensures text { OnOk result (string_bytes out.new ≡ string_bytes out.old
         ++ flat_map condition_text (evaluated_if_there which.now (value_view value.now)
         (option_map (λ condition. condition.now) condition.entry))) }

@@ -10,4 +10,4 @@ returns c =
     let written = object_is c.begin_object.ensures (then c.in_ok-put_reasons.ensures (then c.in_ok-put_metrics.ensures (then c.put_text.ensures (then c.put_text-2.ensures (last c.end_object.ensures))))) refl in
     subst (λ run. AddsValue run c.args.json.now.written c.end_object.new.self.written)
     (data_is (view c.args.document.now) c.args.bundle.now c.args.chosen c.args.run.now c.args.entries.now c.args.state.now c.in_ok-steps.steps.items c.requires.state c.in_ok-steps.ensures)
-    (rw (c.deref.ensures.value, c.metrics.ensures, c.as_slice.ensures, c.as_str.ensures, c.phase_name.ensures, c.phase.ensures.shown) at written)
+    (rw (c.deref-2.ensures.value, c.metrics.ensures, c.as_slice-2.ensures, c.as_str.ensures, c.phase_name.ensures, c.phase.ensures.shown) at written)
