@@ -124,12 +124,11 @@ dry_run_diagnostic document number =
           (metrics document);
     }
 
--- a field of a metric has to be another one, or away
+-- something else is expected of a field of a metric
 abbrev pub expecting_field : Data → (metric : ℕ) → MetricField → (name expected : Text) → Diagnostic
 expecting_field document metric field name expected =
     expecting (metric_place document metric (Some field)) name expected
 
--- the refusal of a metric
 unfoldable pub metric_diagnostic : Data → ManifestError → Diagnostic
 metric_diagnostic document (errors.MetricNameMissing metric) =
     expecting_field document metric fields.Name (codes "MetricNameMissing") (codes "a text `name`")
@@ -170,7 +169,7 @@ abbrev pub bound_place : Data → (run metric : ℕ) → Option MetricField → 
 bound_place document run metric field =
     places.BoundMetric (run_item document run) (metric_item document metric) field
 
--- the first reference of a metric that has no value, in braces, with words after it
+-- words about the first reference in a metric's texts that has no value
 abbrev pub reference_said : Data → (run metric : ℕ) → (words : Text) → Option Text
 reference_said document run metric words =
     option_map (λ reference. quoted reference ++ words) (unbound_of_run document run metric)
@@ -193,7 +192,7 @@ field_of_limit limits.ConsecutiveError = fields.ConsecutiveErrorLimit
 abbrev pub limit_field : RefusedLimit → MetricField
 limit_field limit = field_of_limit limit.field
 
--- a limit that is refused, if it is known
+-- where the refused limit is known, its value is said
 abbrev pub limit_diagnostic : Data → (run metric : ℕ) → Option RefusedLimit → Diagnostic
 limit_diagnostic document run metric limit =
     record (expecting (bound_place document run metric (option_map limit_field limit)) (codes "BadLimit")

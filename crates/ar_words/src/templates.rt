@@ -140,7 +140,7 @@ fn metric_place(
     ))
 }
 
-/// A field of a metric has to be another one, or away.
+/// Something else is expected of a field of a metric.
 fn expecting_field(
     alloc: Global,
     document: &Json,
@@ -156,7 +156,7 @@ fn expecting_field(
     Diagnostic::expecting(alloc, place, name, expected)
 }
 
-/// A field holds a value of another kind than it takes.
+/// This field of a metric holds a value of another kind than it takes.
 fn misfit_diagnostic(
     alloc: Global,
     document: &Json,
@@ -172,7 +172,7 @@ fn misfit_diagnostic(
     Ok(it.with_found(Some(found)))
 }
 
-/// A field of a metric holds a value of another kind than it takes.
+/// A field of a metric holds a value of another kind than it takes: the first one, which is looked for.
 fn field_diagnostic(alloc: Global, document: &Json, metric: usize) -> Result<Diagnostic, AllocError>
     ensures { IfOk result (λ it. it ≡ field_diagnostic (view document.now) metric
         (option_and_then metric_misfit (list_item metric (metrics (view document.now))))) }
@@ -277,7 +277,7 @@ fn metric_diagnostic(
     }
 }
 
-/// A field that each template has is another one, or missing.
+/// Something else is expected of a field that each template has.
 fn expecting_template(
     alloc: Global,
     field: TemplateField,
@@ -352,7 +352,7 @@ pub(crate) fn bound_place(
     Ok(Place::BoundMetric(run, metric_item(alloc, document, metric)?, field))
 }
 
-/// The first reference of a metric that has no value, in braces, with words after it.
+/// Words about the first reference in a metric's texts that has no value.
 fn reference_said(
     alloc: Global,
     document: &Json,
@@ -451,7 +451,7 @@ fn unvalued_argument(
     Ok(it.with_found(found))
 }
 
-/// A limit of a metric isn't one.
+/// A limit of a metric is refused. Where it is known, its value is said.
 fn limit_diagnostic(
     alloc: Global,
     document: &Json,
