@@ -57,9 +57,9 @@ fn shape_diagnostic(
 ) -> Result<Diagnostic, AllocError>
     ensures { IfOk result (λ it. it ≡ shape_diagnostic place error) }
 {
-    let mut it = Diagnostic::named(alloc, place, error.name())?;
-    it.expected = shape_expected(alloc, error)?;
-    Ok(it)
+    let expected = shape_expected(alloc, error)?;
+    let it = Diagnostic::named(alloc, place, error.name())?;
+    Ok(Diagnostic { expected, ..it })
 }
 
 // ---- conditions of metrics
