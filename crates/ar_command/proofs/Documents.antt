@@ -108,6 +108,10 @@ with_text : (known : Option (List ℕ)) (command : Command) (text : List ℕ) (c
 with_text None command text closing P says proceeds = tt
 with_text (Some input) command text closing P says proceeds = (text, says, proceeds)
 
+-- an input that was read isn't one that can't be
+pub was_read : {A E : Type 0} (input : A) (error : E) → Ok input ≡ Err error → ⊥
+was_read input error is = absurd cc
+
 -- what is done with an input that was read is done with what was taken
 module _ {R W : Type 0} (command : Command) (taken remaining : R → Option (List ℕ)) (reads : R → Option ℕ) (read_failed : R → Bool) (reader later_reader : R)
     (contents : W → Option (List ℕ)) (calls : W → Option (List Call)) (write_failed : W → Bool) (writer later_writer : W) (input : List ℕ)
