@@ -98,7 +98,7 @@ abbrev pub is_yaml : (input : Bytes) → Bool
 is_yaml input =
     input_begins (codes "apiVersion:") input || input_begins (codes "kind:") input
     || input_begins (codes "metadata:") input || input_begins (codes "manifest:") input
-    || input_begins (codes "---") input || input_begins (codes "#") input
+    || input_begins (codes "---") input || input_begins (codes "# ") input
 
 abbrev pub input_hint : (input : Bytes) → Option Text
 input_hint input =

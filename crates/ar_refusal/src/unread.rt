@@ -45,7 +45,7 @@ fn is_yaml(input: &[u8]) -> bool
         || input_begins(input, b"metadata:")
         || input_begins(input, b"manifest:")
         || input_begins(input, b"---")
-        || input_begins(input, b"#")
+        || input_begins(input, b"# ")
 }
 
 fn input_hint(input: &[u8]) -> Option<&'static str>
