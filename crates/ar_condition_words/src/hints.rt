@@ -1,6 +1,8 @@
 //! What helps where a condition has something of another language.
 
 ghost use Rattle.std.specs.Prelude.{◌≡◌, IfOk, option_map};
+ghost use Rattle.std.specs.Char.{is_ascii_digit};
+ghost use Rattle.std.specs.List.{list_all};
 ghost use Rattle.ar_quote.specs.Tokens.{found};
 ghost use Rattle.ar_condition_words.specs.Hints.{token_begins, comes_after, exponent_hint, function_hint, is_conversion, is_exponent, is_float_test, pair_hint, question_hint, sign_hint, syntax_hint, token_hint};
 
@@ -87,13 +89,19 @@ fn question_hint(after: &str) -> Option<&'static str>
     }
 }
 
+fn are_digits(bytes: &[u8]) -> bool
+    ensures { result ≡ list_all is_ascii_digit bytes.now }
+{
+    bytes.iter().all(|byte| byte.is_ascii_digit())
+}
+
 /// Is it an exponent's letter, with its digits where they have no sign?
 fn is_exponent(token: &str) -> bool
     ensures { result ≡ is_exponent token.now }
 {
-    match token.as_bytes() {
-        [b'e' | b'E', digits @ ..] => digits.iter().all(|byte| byte.is_ascii_digit()),
-        _ => false,
+    match token.as_bytes().split_first() {
+        Some((letter, digits)) => matches!(letter, b'e' | b'E') && are_digits(digits),
+        None => false,
     }
 }
 
