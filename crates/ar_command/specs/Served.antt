@@ -1,8 +1,9 @@
 -- What carrying out a command on a reader and a writer returns.
-use Rattle.std.specs.Prelude.{◌≡◌, ◌≢◌, ℕ, Bool, true, List, Option, Result, Err, IfOk, IfErr, IfSome}
+use Rattle.std.specs.Prelude.{◌≡◌, ◌≢◌, ℕ, Bool, true, List, Option, Result, Ok, Err, IfOk, IfErr, IfSome}
+use Rattle.std.specs.Io.KnownBytes.{Appends}
 use Rattle.ar_value.specs.Terms.{Bytes, Text}
 use Rattle.ar_command_line.specs.History.{GrowsAtMost}
-use Rattle.ar_command_line.specs.Input.{most_reads}
+use Rattle.ar_command_line.specs.Input.{ReadsUpToLimit, most_reads}
 use Rattle.ar_command_line.specs.Output.{AppendsAll, Call}
 use Rattle.ar_command_line.specs.declared.command_line.Command.{Command}
 use Rattle.ar_workers.specs.declared.error.WorkError.{WorkError}
@@ -10,7 +11,7 @@ use Rattle.ar_command.specs.Serving.{IsCarriedOut, IsCut, RefusesTaken, RefusesI
 use Rattle.ar_command.specs.declared.serving.Closing.{Closing}
 use Rattle.ar_command.specs.declared.serving.Refusal.{Refusal}
 use Rattle.ar_command.specs.declared.serving.ServeError.{ServeError}
-use Rattle.ar_command.specs.declared.serving.ServeError.TheVariants.{Read, Refused, Work, Write}
+use Rattle.ar_command.specs.declared.serving.ServeError.TheVariants.{OutOfMemory, Read, Refused, Work, Write}
 
 -- A command was served, from one reader to one writer. Of the reader it is asked which bytes were taken, which are
 -- still to come if they are known, how many reads were made, and whether one failed; of the writer which bytes were
@@ -70,6 +71,26 @@ pub record ServedInput {W : Type 0} (command : Command) (input : Bytes)
   pub cut : result ≡ Err Write → WritesFront command contents calls writer later_writer input
   -- of all errors, only `Write` leaves anything written
   pub silent : IfErr result (λ error. error ≢ Write → later_writer ≡ writer)
+
+-- this holds where a command got past reading, and didn't run out of memory
+abbrev pub IfRead : Result Closing ServeError → Type 0 → Type 0
+IfRead (Ok closing) P = P
+IfRead (Err Read) P = Unit {0}
+IfRead (Err OutOfMemory) P = Unit {0}
+IfRead (Err (Refused refusal)) P = P
+IfRead (Err (Work error)) P = P
+IfRead (Err Write) P = P
+
+-- A command kept its input: it is what was taken of the reader, up to a limit all of it, and the command was carried
+-- out on it.
+pub record KeepsInput {R W : Type 0} (command : Command) (taken remaining : R → Option (List ℕ))
+    (reader later_reader : R)
+    (contents : W → Option (List ℕ)) (calls : W → Option (List Call)) (write_failed : W → Bool)
+    (writer later_writer : W) (input : Bytes) (result : Result Closing ServeError) : Type 0 where
+  pub took : IfRead result (Appends (taken reader) (taken later_reader) input)
+  pub whole : IfRead result (ReadsUpToLimit (remaining reader) (remaining later_reader) input)
+  pub served : IfRead result
+      (ServedInput command input contents calls write_failed writer later_writer result)
 
 -- this holds of each error of workers that is returned
 abbrev pub IfBroken : Result Closing ServeError → (WorkError → Type 0) → Type 0

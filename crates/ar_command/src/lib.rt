@@ -6,9 +6,9 @@
 //! in it and nothing is written. Only out of memory, a failed read or write, a thread that can't be
 //! started and a lost number can keep them from that; after a failed write a front of it is written. A command
 //! that has a [`Format`] says the facts of its lines of words as one JSON object, too.
-//! [`serve_input`] and [`serve_plain_input`] do so on an input that was read before, and hand out what the command
-//! warns of. What is left to the program are the words of refusals and the exit status. What `eval` returns is
-//! `ar_eval`'s.
+//! [`serve_keeping`] and [`serve_plain_keeping`] do so, too, and keep the input and what the command warns of;
+//! [`serve_input`] and [`serve_plain_input`] do so on an input that was read before. What is left to the program are
+//! the words of refusals and the exit status. What `eval` returns is `ar_eval`'s.
 //!
 //! - [`serving`]: a command, from the bytes read to the bytes written
 //! - `answer`: what each command says of an input; `explained`: what `explain` says; `reading`: documents with
@@ -31,5 +31,6 @@ pub use ar_command_line::{
 pub use ar_document::{BundleError, read_bundle};
 pub use ar_eval::{EvalError, eval};
 pub use serving::{
-    Closing, Refusal, ServeError, serve, serve_input, serve_plain, serve_plain_input,
+    Closing, Kept, Refusal, ServeError, serve, serve_input, serve_keeping, serve_plain,
+    serve_plain_input, serve_plain_keeping,
 };

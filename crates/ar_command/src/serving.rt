@@ -1,9 +1,9 @@
 //! A command, carried out from the bytes read to the bytes written.
 
-ghost use Rattle.std.specs.Prelude.{◌≡◌, ◌≢◌, false, true, Err, IfErr, IfOk, OnErr, OnOk, string_bytes};
+ghost use Rattle.std.specs.Prelude.{◌≡◌, ◌≢◌, [], false, true, Err, IfErr, IfOk, OnErr, OnOk, string_bytes};
 ghost use Rattle.ar_command.specs.Serving.{Breaks, IsBroken, RunsAlone, RunsWith};
 ghost use Rattle.ar_command_line.specs.Output.{AppendsAll, AppendsFront};
-ghost use Rattle.ar_command.specs.Served.{IfBroken, Served, ServedInput};
+ghost use Rattle.ar_command.specs.Served.{IfBroken, KeepsInput, Served, ServedInput};
 ghost use Rattle.ar_command.specs.Warned.{Warns, WarnsOnce};
 
 use crate::answer::{Answered, answer, judged};
@@ -17,6 +17,27 @@ use std::alloc::{AllocError, Global};
 use std::sync::Wait;
 use std::thread::Threads;
 use thiserror::Error;
+
+/// What is kept of a command besides its answer.
+#[derive(Drop)]
+pub struct Kept {
+    /// The input as it was read: it has the names that a refusal shows.
+    pub input: Vec<u8>,
+    pub warnings: Vec<Diagnostic>,
+}
+
+impl Kept {
+    /// Keeps nothing yet.
+    pub fn new(alloc: Global) -> Kept
+        ensures input { result.input.items ≡ [] }
+        ensures warnings { result.warnings.items ≡ [] }
+    {
+        Kept {
+            input: Vec::new(alloc),
+            warnings: Vec::new(alloc),
+        }
+    }
+}
 
 /// How a command ended.
 #[derive(Clone, Copy)]
@@ -150,6 +171,38 @@ pub fn serve<S: Source, W: Sink, G: Gate, R: Threads + Wait + Sync>(
     serve_input(rt, alloc, command, &input, writer, gate, &mut warnings)
 }
 
+/// [`serve`], of which the input and the warnings are kept.
+///
+/// # Errors
+///
+/// Those of [`serve`].
+pub fn serve_keeping<S: Source, W: Sink, G: Gate, R: Threads + Wait + Sync>(
+    rt: &R,
+    alloc: Global,
+    command: Command<'_>,
+    reader: &mut S,
+    writer: &mut W,
+    gate: &G,
+    kept: &mut Kept,
+) -> Result<Closing, ServeError>
+    requires command { RunsWith command MOST_WORKERS }
+    requires reader_works { S.has_failed reader.old ≡ false }
+    requires writer_works { W.has_failed writer.old ≡ false }
+
+    ensures served { Served command.entry S.taken S.remaining S.reads S.has_failed reader.old reader.new
+        W.contents W.calls W.has_failed writer.old writer.new result }
+    ensures keeps { KeepsInput command.entry S.taken S.remaining reader.old reader.new
+        W.contents W.calls W.has_failed writer.old writer.new kept.new.input.items result }
+    ensures warns { WarnsOnce result kept.old.warnings.items kept.new.warnings.items
+        (Warns command.entry kept.new.input.items) }
+    ensures work { IfBroken result (Breaks command.entry kept.new.input.items) }
+{
+    let input = read_input(alloc, reader)?;
+    let result = serve_input(rt, alloc, command, &input, writer, gate, &mut kept.warnings);
+    kept.input = input;
+    result
+}
+
 /// [`serve`] of an input that was read before, with what the command warns of.
 ///
 /// # Errors
@@ -204,6 +257,36 @@ pub fn serve_plain<S: Source, W: Sink>(
     let input = read_input(alloc, reader)?;
     let mut warnings = Vec::new(alloc);
     serve_plain_input(alloc, command, &input, writer, &mut warnings)
+}
+
+/// [`serve_plain`], of which the input and the warnings are kept.
+///
+/// # Errors
+///
+/// Those of [`serve_plain`].
+pub fn serve_plain_keeping<S: Source, W: Sink>(
+    alloc: Global,
+    command: Command<'_>,
+    reader: &mut S,
+    writer: &mut W,
+    kept: &mut Kept,
+) -> Result<Closing, ServeError>
+    requires command { RunsAlone command }
+    requires reader_works { S.has_failed reader.old ≡ false }
+    requires writer_works { W.has_failed writer.old ≡ false }
+
+    ensures served { Served command.entry S.taken S.remaining S.reads S.has_failed reader.old reader.new
+        W.contents W.calls W.has_failed writer.old writer.new result }
+    ensures keeps { KeepsInput command.entry S.taken S.remaining reader.old reader.new
+        W.contents W.calls W.has_failed writer.old writer.new kept.new.input.items result }
+    ensures warns { WarnsOnce result kept.old.warnings.items kept.new.warnings.items
+        (Warns command.entry kept.new.input.items) }
+    ensures work { (error : WorkError) → result ≢ Err (ServeError.Work error) }
+{
+    let input = read_input(alloc, reader)?;
+    let result = serve_plain_input(alloc, command, &input, writer, &mut kept.warnings);
+    kept.input = input;
+    result
 }
 
 /// [`serve_plain`] of an input that was read before, with what the command warns of.

@@ -1,16 +1,15 @@
 //! `argo_judge`: judges canary measurements by the conditions of Argo Rollouts' analysis;
 //! docs/use/language.md lists where it differs from Argo Rollouts' controller.
 //!
-//! The program reads one JSON document from standard input (`read_input` of `ar_command_line`), carries a command
-//! out on it, and writes the answer to standard output (`ar_command`: `serve_input` with workers,
-//! `serve_plain_input` without). `ar_command_line` says what the words of the command line ask for, and
-//! `ar_refusal` what is said of a refused input or command line. What is left to this crate are the standard
-//! streams and the exit status.
+//! The program reads one JSON document from standard input, carries a command out on it, and writes the answer to
+//! standard output (`ar_command`: `serve_keeping` with workers, `serve_plain_keeping` without). `ar_command_line`
+//! says what the words of the command line ask for, and `ar_refusal` what is said of a refused input or command
+//! line. What is left to this crate are the standard streams and the exit status.
 #![tactic(auto)]
 
-ghost use Rattle.std.specs.Prelude.{◌≡◌, ◌≢◌, ◌≤◌, ◌⊎◌, ℕ, Err, Ok, false};
-ghost use Rattle.ar_command.specs.Served.{IfBroken, ServedInput};
-ghost use Rattle.ar_command.specs.Serving.{Breaks, RunsWith, of_input, status_of};
+ghost use Rattle.std.specs.Prelude.{◌≡◌, ◌≢◌, ◌≤◌, ◌⊎◌, ℕ, Ok, false};
+ghost use Rattle.ar_command.specs.Served.{IfBroken, KeepsInput, Served};
+ghost use Rattle.ar_command.specs.Serving.{Breaks, RunsWith};
 ghost use Rattle.ar_command.specs.Warned.{Warns, WarnsOnce};
 ghost use Rattle.ar_command_line.specs.declared.command_line.Command.TheVariants as commands;
 ghost use Rattle.ar_command_line.specs.declared.command_line.Format.{Format};
@@ -18,8 +17,8 @@ ghost use Rattle.argo_judge.specs.Ending.{EndsWith};
 
 use ar_board::MOST_WORKERS;
 use ar_command::{
-    Closing, Command, Device, Format, InputError, Refusal, ServeError, Sink, read_input,
-    serve_input, serve_plain_input, status, write_output,
+    Closing, Command, Device, Format, Kept, Refusal, ServeError, Sink, Source, serve_keeping,
+    serve_plain_keeping, status, write_output,
 };
 use ar_command_line::{UsageError, command_of, shown};
 use ar_diagnostic::Diagnostic;
@@ -144,28 +143,11 @@ where
     ensures { result ≤ 5 }
 {
     let mut reader = Device::new(rt.reader());
-    let input = match read_input(rt.alloc(), &mut reader) {
-        Ok(input) => input,
-        Err(error) => return refuse_reading(rt, &reader, error),
-    };
     let mut writer = Device::new(io::writer(rt));
-    let mut warnings = Vec::new(rt.alloc());
-    let outcome = served(rt, command, &input, &mut writer, &mut warnings);
-    warn(rt, format_of(command), &warnings);
-    close(rt, command, &input, &writer, &outcome)
-}
-
-/// Reports an input that can't be read, and returns the exit status.
-fn refuse_reading<R: Eprint, I>(rt: &R, reader: &Device<I>, error: InputError) -> u8
-    ensures { result ≡ status_of (Err (of_input error)) }
-{
-    match error {
-        InputError::Read => {
-            tell(rt, &ServeError::Read, reader.fault());
-            status::DEVICE
-        }
-        InputError::OutOfMemory => out_of_memory(rt, ServeError::OutOfMemory),
-    }
+    let mut kept = Kept::new(rt.alloc());
+    let outcome = served(rt, command, &mut reader, &mut writer, &mut kept);
+    warn(rt, format_of(command), &kept.warnings);
+    close(rt, command, &kept.input, &reader, &writer, &outcome)
 }
 
 /// Reports warnings.
@@ -177,40 +159,45 @@ fn warn<R: AllocGlobal + Eprint>(rt: &R, format: Format, warnings: &[Diagnostic]
 }
 
 /// Carries a command out, with workers where it is for them.
-fn served<R, W: Sink>(
+fn served<R, S: Source, W: Sink>(
     rt: &R,
     command: Command<'_>,
-    input: &[u8],
+    reader: &mut S,
     writer: &mut W,
-    warnings: &mut Vec<Diagnostic>,
+    kept: &mut Kept,
 ) -> Result<Closing, ServeError>
 where
     R: AllocGlobal + Threads + Wait + Sync,
     requires workers { (n : ℕ) (format : Format) → command ≡ commands.Run n format → (1 ≤ n) × (n ≤ MOST_WORKERS) }
     requires ordered { (n : ℕ) (format : Format) → command ≡ commands.Ordered n format → (1 ≤ n) × (n ≤ MOST_WORKERS) }
+    requires reader { S.has_failed reader.old ≡ false }
     requires writer { W.has_failed writer.old ≡ false }
 
-    ensures served { ServedInput command.entry input.now
+    ensures served { Served command.entry S.taken S.remaining S.reads S.has_failed reader.old reader.new
         W.contents W.calls W.has_failed writer.old writer.new result }
-    ensures warns { WarnsOnce result warnings.old.items warnings.new.items (Warns command.entry input.now) }
+    ensures keeps { KeepsInput command.entry S.taken S.remaining reader.old reader.new
+        W.contents W.calls W.has_failed writer.old writer.new kept.new.input.items result }
+    ensures warns { WarnsOnce result kept.old.warnings.items kept.new.warnings.items
+        (Warns command.entry kept.new.input.items) }
 
     // Only a command for workers ends by what became of them.
     ensures work { IfBroken result (λ error. RunsWith command.entry MOST_WORKERS
-        × Breaks command.entry input.now error) }
+        × Breaks command.entry kept.new.input.items error) }
 {
     match command {
         Command::Run(..) | Command::Ordered(..) => {
-            serve_input(rt, rt.alloc(), command, input, writer, &FreeGate, warnings)
+            serve_keeping(rt, rt.alloc(), command, reader, writer, &FreeGate, kept)
         }
-        _ => serve_plain_input(rt.alloc(), command, input, writer, warnings),
+        _ => serve_plain_keeping(rt.alloc(), command, reader, writer, kept),
     }
 }
 
 /// The exit status of a command's result, with one line where that is a fault.
-fn close<R: AllocGlobal + Eprint, O>(
+fn close<R: AllocGlobal + Eprint, I, O>(
     rt: &R,
     command: Command<'_>,
     input: &[u8],
+    reader: &Device<I>,
     writer: &Device<O>,
     outcome: &Result<Closing, ServeError>,
 ) -> u8
@@ -220,15 +207,20 @@ fn close<R: AllocGlobal + Eprint, O>(
         Ok(_) => status::status_of(outcome),
         Err(ServeError::Refused(refusal)) => refuse(rt, command, input, refusal),
         Err(error) => {
-            tell(rt, error, cause(writer, error));
+            tell(rt, error, cause(reader, writer, error));
             status::status_of(outcome)
         }
     }
 }
 
-/// What the system says of a failed write.
-fn cause<'a, O>(writer: &'a Device<O>, error: &ServeError) -> Option<&'a io::Error> {
+/// What the system says of a failed read or write.
+fn cause<'a, I, O>(
+    reader: &'a Device<I>,
+    writer: &'a Device<O>,
+    error: &ServeError,
+) -> Option<&'a io::Error> {
     match error {
+        ServeError::Read => reader.fault(),
         ServeError::Write => writer.fault(),
         _ => None,
     }
