@@ -13,7 +13,7 @@ use Rattle.ar_command_line.specs.Input.{ReadsUpToLimit, most_reads}
 use Rattle.std.specs.Io.KnownBytes.{Appends}
 use Rattle.ar_eval.specs.Evaluation.{Evaluates, Follows, eval_json_error, prepared, prepared_input}
 use Rattle.ar_command_line.specs.Selection.{Selected, selected}
-use Rattle.ar_command.specs.Served.{Served, ServedInput}
+use Rattle.ar_command.specs.Served.{IfRead, Served, ServedInput}
 use Rattle.ar_command.specs.Serving.{Explains, IsCarriedOut, LacksSelected, RefusesInput, Reports, Says, WritesFront}
 use Rattle.ar_command_line.specs.History.{GrowsAtMost}
 use Rattle.ar_command_line.specs.Output.{AppendsAll, Call}
@@ -25,6 +25,7 @@ use Rattle.ar_command_line.specs.declared.command_line.Format.{Format}
 use Rattle.ar_command.specs.declared.serving.Refusal.{Refusal}
 use Rattle.ar_command.specs.declared.serving.ServeError.{ServeError}
 use Rattle.ar_command.specs.declared.serving.Refusal.TheVariants as refusals
+use Rattle.ar_command.specs.declared.serving.ServeError.TheVariants as errors
 
 -- one input begins with the bytes that were read, all of them or too many
 by_size : (input rest bytes : List ℕ) (is_large : Bool) → nat_lt most_bytes (length bytes) ≡ is_large → input ≡ bytes ++ rest → (length bytes ≤ most_bytes → rest ≡ [])
@@ -111,6 +112,15 @@ with_text (Some input) command text closing P says proceeds = (text, says, proce
 -- an input that was read isn't one that can't be
 pub was_read : {A E : Type 0} (input : A) (error : E) → Ok input ≡ Err error → ⊥
 was_read input error is = absurd cc
+
+-- what holds of a result of any kind
+pub where_read : (P : Type 0) (result : Result Closing ServeError) → P → IfRead result P
+where_read P (Ok closing) holds = holds
+where_read P (Err errors.Read) holds = tt
+where_read P (Err errors.OutOfMemory) holds = tt
+where_read P (Err (errors.Refused refusal)) holds = holds
+where_read P (Err (errors.Work error)) holds = holds
+where_read P (Err errors.Write) holds = holds
 
 -- what is done with an input that was read is done with what was taken
 module _ {R W : Type 0} (command : Command) (taken remaining : R → Option (List ℕ)) (reads : R → Option ℕ) (read_failed : R → Bool) (reader later_reader : R)

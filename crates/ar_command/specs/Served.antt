@@ -7,8 +7,10 @@ use Rattle.ar_command_line.specs.Input.{ReadsUpToLimit, most_reads}
 use Rattle.ar_command_line.specs.Output.{AppendsAll, Call}
 use Rattle.ar_command_line.specs.declared.command_line.Command.{Command}
 use Rattle.ar_workers.specs.declared.error.WorkError.{WorkError}
+use Rattle.ar_command.specs.Warned.{Warns, WarnsOnce}
 use Rattle.ar_command.specs.Serving.{IsCarriedOut, IsCut, RefusesTaken, RefusesInput, Says, WritesFront}
 use Rattle.ar_command.specs.declared.serving.Closing.{Closing}
+use Rattle.ar_command.specs.declared.serving.Kept.{Kept}
 use Rattle.ar_command.specs.declared.serving.Refusal.{Refusal}
 use Rattle.ar_command.specs.declared.serving.ServeError.{ServeError}
 use Rattle.ar_command.specs.declared.serving.ServeError.TheVariants.{OutOfMemory, Read, Refused, Work, Write}
@@ -91,6 +93,17 @@ pub record KeepsInput {R W : Type 0} (command : Command) (taken remaining : R �
   pub whole : IfRead result (ReadsUpToLimit (remaining reader) (remaining later_reader) input)
   pub served : IfRead result
       (ServedInput command input contents calls write_failed writer later_writer result)
+
+-- A command was served, and what is kept of it are its input and its warnings.
+pub record ServedKeeping {R W : Type 0} (command : Command) (taken remaining : R → Option (List ℕ))
+    (reads : R → Option ℕ) (read_failed : R → Bool) (reader later_reader : R)
+    (contents : W → Option (List ℕ)) (calls : W → Option (List Call)) (write_failed : W → Bool)
+    (writer later_writer : W) (kept later_kept : Kept) (result : Result Closing ServeError) : Type 0 where
+  pub served : Served command taken remaining reads read_failed reader later_reader contents calls write_failed writer
+      later_writer result
+  pub keeps : KeepsInput command taken remaining reader later_reader contents calls write_failed writer later_writer
+      later_kept.input.items result
+  pub warns : WarnsOnce result kept.warnings.items later_kept.warnings.items (Warns command later_kept.input.items)
 
 -- this holds of each error of workers that is returned
 abbrev pub IfBroken : Result Closing ServeError → (WorkError → Type 0) → Type 0

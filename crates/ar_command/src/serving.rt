@@ -3,7 +3,7 @@
 ghost use Rattle.std.specs.Prelude.{◌≡◌, ◌≢◌, [], false, true, Err, IfErr, IfOk, OnErr, OnOk, string_bytes};
 ghost use Rattle.ar_command.specs.Serving.{Breaks, IsBroken, RunsAlone, RunsWith};
 ghost use Rattle.ar_command_line.specs.Output.{AppendsAll, AppendsFront};
-ghost use Rattle.ar_command.specs.Served.{IfBroken, KeepsInput, Served, ServedInput};
+ghost use Rattle.ar_command.specs.Served.{IfBroken, Served, ServedInput, ServedKeeping};
 ghost use Rattle.ar_command.specs.Warned.{Warns, WarnsOnce};
 
 use crate::answer::{Answered, answer, judged};
@@ -189,12 +189,8 @@ pub fn serve_keeping<S: Source, W: Sink, G: Gate, R: Threads + Wait + Sync>(
     requires reader_works { S.has_failed reader.old ≡ false }
     requires writer_works { W.has_failed writer.old ≡ false }
 
-    ensures served { Served command.entry S.taken S.remaining S.reads S.has_failed reader.old reader.new
-        W.contents W.calls W.has_failed writer.old writer.new result }
-    ensures keeps { KeepsInput command.entry S.taken S.remaining reader.old reader.new
-        W.contents W.calls W.has_failed writer.old writer.new kept.new.input.items result }
-    ensures warns { WarnsOnce result kept.old.warnings.items kept.new.warnings.items
-        (Warns command.entry kept.new.input.items) }
+    ensures served { ServedKeeping command.entry S.taken S.remaining S.reads S.has_failed reader.old reader.new
+        W.contents W.calls W.has_failed writer.old writer.new kept.old kept.new result }
     ensures work { IfBroken result (Breaks command.entry kept.new.input.items) }
 {
     let input = read_input(alloc, reader)?;
@@ -275,12 +271,8 @@ pub fn serve_plain_keeping<S: Source, W: Sink>(
     requires reader_works { S.has_failed reader.old ≡ false }
     requires writer_works { W.has_failed writer.old ≡ false }
 
-    ensures served { Served command.entry S.taken S.remaining S.reads S.has_failed reader.old reader.new
-        W.contents W.calls W.has_failed writer.old writer.new result }
-    ensures keeps { KeepsInput command.entry S.taken S.remaining reader.old reader.new
-        W.contents W.calls W.has_failed writer.old writer.new kept.new.input.items result }
-    ensures warns { WarnsOnce result kept.old.warnings.items kept.new.warnings.items
-        (Warns command.entry kept.new.input.items) }
+    ensures served { ServedKeeping command.entry S.taken S.remaining S.reads S.has_failed reader.old reader.new
+        W.contents W.calls W.has_failed writer.old writer.new kept.old kept.new result }
     ensures work { (error : WorkError) → result ≢ Err (ServeError.Work error) }
 {
     let input = read_input(alloc, reader)?;

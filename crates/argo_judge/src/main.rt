@@ -8,9 +8,8 @@
 #![tactic(auto)]
 
 ghost use Rattle.std.specs.Prelude.{◌≡◌, ◌≢◌, ◌≤◌, ◌⊎◌, ℕ, Ok, false};
-ghost use Rattle.ar_command.specs.Served.{IfBroken, KeepsInput, Served};
+ghost use Rattle.ar_command.specs.Served.{IfBroken, ServedKeeping};
 ghost use Rattle.ar_command.specs.Serving.{Breaks, RunsWith};
-ghost use Rattle.ar_command.specs.Warned.{Warns, WarnsOnce};
 ghost use Rattle.ar_command_line.specs.declared.command_line.Command.TheVariants as commands;
 ghost use Rattle.ar_command_line.specs.declared.command_line.Format.{Format};
 ghost use Rattle.argo_judge.specs.Ending.{EndsWith};
@@ -173,12 +172,8 @@ where
     requires reader { S.has_failed reader.old ≡ false }
     requires writer { W.has_failed writer.old ≡ false }
 
-    ensures served { Served command.entry S.taken S.remaining S.reads S.has_failed reader.old reader.new
-        W.contents W.calls W.has_failed writer.old writer.new result }
-    ensures keeps { KeepsInput command.entry S.taken S.remaining reader.old reader.new
-        W.contents W.calls W.has_failed writer.old writer.new kept.new.input.items result }
-    ensures warns { WarnsOnce result kept.old.warnings.items kept.new.warnings.items
-        (Warns command.entry kept.new.input.items) }
+    ensures served { ServedKeeping command.entry S.taken S.remaining S.reads S.has_failed reader.old reader.new
+        W.contents W.calls W.has_failed writer.old writer.new kept.old kept.new result }
 
     // Only a command for workers ends by what became of them.
     ensures work { IfBroken result (λ error. RunsWith command.entry MOST_WORKERS
