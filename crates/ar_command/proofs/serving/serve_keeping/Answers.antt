@@ -9,7 +9,7 @@ returns-clause-served g c =
     let served = subst (λ (input : List ℕ). ServedInput c.args.command input g.W.Sink.contents g.W.Sink.calls g.W.Sink.has_failed c.args.writer.now c.serve_input-result.new.writer c.serve_input-result.result) c.deref.ensures.value c.serve_input-result.ensures.served in
     record {
       served = served_taken c.args.command g.S.Source.taken g.S.Source.remaining g.S.Source.reads g.S.Source.has_failed c.args.reader.now c.read_input.new.source g.W.Sink.contents g.W.Sink.calls g.W.Sink.has_failed c.args.writer.now c.serve_input-result.new.writer _ c.in_ok-input.ensures.taken c.in_ok-input.ensures.ok c.read_input.ensures.counts
-      (λ failed. was_read _ _ (c.in_ok-input.ensures.reported failed)) c.serve_input-result.result served;
+          (λ failed. was_read _ _ (c.in_ok-input.ensures.reported failed)) c.serve_input-result.result served;
       keeps = record {
         took = where_read _ c.serve_input-result.result c.in_ok-input.ensures.taken;
         whole = where_read _ c.serve_input-result.result c.in_ok-input.ensures.ok;
