@@ -1,0 +1,4 @@
+mod Signs
+mod Making
+mod Ranging
+pub mod Members

@@ -1,0 +1,4 @@
+mod Turns
+pub mod Kept
+pub mod Taken
+pub mod Whole
