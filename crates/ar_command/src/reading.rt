@@ -1,6 +1,6 @@
 //! Documents, read with their warnings.
 
-ghost use Rattle.std.specs.Prelude.{◌≡◌, ◌++◌, Err, IfOk, Ok};
+ghost use Rattle.std.specs.Prelude.{◌≡◌, Err, IfOk, Ok};
 ghost use Rattle.serde_json.specs.View.{view};
 ghost use Rattle.ar_value.specs.Answer.{IfRefused};
 ghost use Rattle.ar_command.specs.Warned.{AreWarningsOf};
@@ -9,7 +9,7 @@ ghost use Rattle.ar_json.specs.Document.{json_in};
 
 use ar_bundle::Bundle;
 use ar_diagnostic::Diagnostic;
-use ar_document::{BundleError, bundle_in, bundle_of};
+use ar_document::{BundleError, read_with_head};
 use ar_json::read_json;
 use ar_warning::{push_misfits, template_warnings};
 use serde_json::Value as Json;
@@ -22,23 +22,14 @@ pub(crate) struct Reading {
     pub warnings: Vec<Diagnostic>,
 }
 
-/// The document that an input is.
-fn document_of(alloc: Global, input: &[u8]) -> Result<Json, BundleError>
-    ensures given { IfOk result (λ json. json_in input.now ≡ Ok (view json)) }
-    ensures refused { IfRefused is_bundle_memory result (λ error. ReadsInput input.now (Err error)) }
-{
-    Ok(read_json(alloc, input)?)
-}
-
-/// The bundle of an input, whose document is dropped as it is read.
+/// The bundle of an input, and its warnings. No tree is made of its measurements.
 pub(crate) fn read(alloc: Global, input: &[u8]) -> Result<Reading, BundleError>
     ensures read { IfOk result (λ reading. ReadsInput input.now (Ok reading.bundle)) }
     ensures warns { IfOk result (λ reading. AreWarningsOf input.now reading.warnings.items) }
     ensures refused { IfRefused is_bundle_memory result (λ error. ReadsInput input.now (Err error)) }
 {
-    let document = document_of(alloc, input)?;
-    let mut warnings = template_warnings(alloc, &document)?;
-    let bundle = bundle_of(alloc, document)?;
+    let (head, bundle) = read_with_head(alloc, input)?;
+    let mut warnings = template_warnings(alloc, &head)?;
     push_misfits(alloc, &mut warnings, &bundle)?;
     Ok(Reading { bundle, warnings })
 }
@@ -50,9 +41,7 @@ pub(crate) fn read_kept(alloc: Global, input: &[u8]) -> Result<(Json, Reading), 
     ensures warns { IfOk result (λ found. AreWarningsOf input.now found.1.warnings.items) }
     ensures refused { IfRefused is_bundle_memory result (λ error. ReadsInput input.now (Err error)) }
 {
-    let document = document_of(alloc, input)?;
-    let mut warnings = template_warnings(alloc, &document)?;
-    let bundle = bundle_in(alloc, &document)?;
-    push_misfits(alloc, &mut warnings, &bundle)?;
-    Ok((document, Reading { bundle, warnings }))
+    let reading = read(alloc, input)?;
+    let document = read_json(alloc, input)?;
+    Ok((document, reading))
 }

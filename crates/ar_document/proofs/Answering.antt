@@ -1,5 +1,5 @@
 -- What is returned for a document.
-use Rattle.std.proofs.Common.{◌≡◌, ◌≤◌, List, length, Result, Ok, Err, sym, subst}
+use Rattle.std.proofs.Common.{◌≡◌, ◌≤◌, List, length, Result, Ok, Err, refl, sym, subst}
 use Rattle.std.specs.Prelude.{IfErr}
 use Rattle.std.specs.List.{AllByRecursion}
 use Rattle.serde_json.specs.Data.{Data}
@@ -12,7 +12,7 @@ use Rattle.ar_limits.specs.Replay.{most_events}
 use Rattle.ar_bundle.specs.Bundle.{bundle_of}
 use Rattle.ar_bundle.specs.declared.bundle.EventPart.{EventPart}
 use Rattle.ar_bundle.specs.declared.bundle.RunPart.{RunPart}
-use Rattle.ar_document.specs.Document.{IsFaultOf, Reads, is_bundle_memory}
+use Rattle.ar_document.specs.Document.{IsFaultOf, IsHeadOf, Reads, is_bundle_memory}
 use Rattle.ar_document.specs.Document as documents
 use Rattle.ar_document.specs.Opening.{Opened as Parts, opened_of}
 use Rattle.ar_document.specs.Private.Made.{RefusesMade, of_entry, of_run}
@@ -51,3 +51,8 @@ pub entries_refused : {A B : Type 0} (opened : Parts) (document : Data) (parts :
 entries_refused opened document parts are seen read gives (Ok made) refused = tt
 entries_refused {B = B} opened document parts are seen read gives (Err refusal) refused =
     leads (is_bundle_memory refusal) (of_entry parts are) (subst (λ (answer : Result B BundleError). Gives is_bundle_memory seen answer (entries_in opened document)) refused gives)
+
+-- a document and its head are opened alike
+pub same_opening : (document head : Data) → IsHeadOf document head → opened_of head ≡ opened_of document
+unfolding opened_of
+same_opening document head is = rw (is.manifest, is.shapes, is.runs) refl

@@ -1,7 +1,8 @@
 -- The bundle of a document, or why it is none: the first fault, in the order in which its parts appear here.
-use Rattle.std.specs.Prelude.{◌≡◌, Bool, true, false, List, map, Result, Ok, Err}
+use Rattle.std.specs.Prelude.{◌≡◌, Bool, true, false, List, map, codes, Result, Ok, Err}
 use Rattle.ar_value.specs.Terms.{Bytes}
 use Rattle.serde_json.specs.Data.{Data}
+use Rattle.serde_json.specs.Find.{get}
 use Rattle.ar_bundle.specs.Bundle.{Bundle}
 use Rattle.ar_bundle.specs.declared.bundle.RunPart.{RunPart}
 use Rattle.ar_document.specs.Entries.{entries_in, entry_view}
@@ -35,6 +36,12 @@ pub data IsFaultOf (document : Data) (error : BundleError) : Type 0 where
 abbrev pub Reads : Data → Result Bundle BundleError → Type 0
 Reads document (Ok bundle) = IsBundleOf document bundle
 Reads document (Err error) = IsFaultOf document error
+
+-- what comes before the entries of a document is the same in its head
+pub record IsHeadOf (document head : Data) : Type 0 where
+  pub manifest : get (codes "manifest") head ≡ get (codes "manifest") document
+  pub shapes : get (codes "shapes") head ≡ get (codes "shapes") document
+  pub runs : get (codes "runs") head ≡ get (codes "runs") document
 
 -- faults of JSON, as they are returned
 abbrev pub bundle_json_error : JsonError → BundleError

@@ -1,9 +1,9 @@
 -- What the measurements of a document are: entries, each of which says what happened to a run.
-use Rattle.std.specs.Prelude.{ℕ, nat_lt, Bool, false, if◌then◌else◌, List, [], length, map, codes, slice_get, Option, Some, None, option_and_then, Result, Ok, Err}
+use Rattle.std.specs.Prelude.{ℕ, nat_lt, Bool, true, false, if◌then◌else◌, List, [], length, map, codes, slice_get, Option, Some, None, is_some, option_and_then, Result, Ok, Err}
 use Rattle.ar_value.specs.Terms.{Text}
 use Rattle.serde_json.specs.Data.{Data, boolean}
 use Rattle.serde_json.specs.Find.{get, as_str}
-use Rattle.ar_value.specs.Answer.{◌>>=◌, there_or, each_after}
+use Rattle.ar_value.specs.Answer.{◌>>=◌, there_or, holds_or, each_after}
 use Rattle.ar_json.specs.Reading.{read}
 use Rattle.ar_value.specs.Shape.{Shape}
 use Rattle.ar_value.specs.Value.{Value}
@@ -47,17 +47,35 @@ abbrev pub is_true : Option Data → Bool
 is_true (Some (boolean value)) = value
 is_true found = false
 
--- the value that was measured, or nothing where the provider failed: just one of the two is there, of any value
-abbrev pub measured_or_failed : (value error : Option Data) → Option (Option Data)
-measured_or_failed (Some value) None = Some (Some value)
-measured_or_failed None (Some error) = Some None
-measured_or_failed value error = None
+-- what an entry says: the names of its run and of its metric, whether it is a stop, the value that was measured, and
+-- whether there is an error, of any value
+pub record Stated : Type 0 where
+  pub run : Option Text
+  pub metric : Option Text
+  pub stops : Bool
+  pub value : Option Data
+  pub fails : Bool
+
+abbrev pub stated_as : (run metric : Option Text) → (stops : Bool) → (value : Option Data) → (fails : Bool) → Stated
+stated_as run metric stops value fails =
+    record { run = run; metric = metric; stops = stops; value = value; fails = fails }
+
+abbrev pub stated_by : Data → Stated
+stated_by item =
+    stated_as (text_of (codes "run") item) (text_of (codes "metric") item) (is_true (get (codes "stop") item))
+    (get (codes "value") item) (is_some (get (codes "error") item))
+
+-- just one of the two is there
+abbrev pub just_one : (value error : Bool) → Bool
+just_one true false = true
+just_one false true = true
+just_one value error = false
 
 abbrev pub sample_by : Result Value ShapeFault → Sample
 sample_by (Ok value) = measured value
 sample_by (Err fault) = misfit fault
 
--- the sample of what was given, under the shape of its metric
+-- the sample of the value that was measured, under the shape of its metric; with no value the provider failed
 abbrev pub sample_of : Shape → Option Data → Sample
 sample_of shape (Some json) = sample_by (read shape json)
 sample_of shape None = provider
@@ -74,20 +92,23 @@ measured_of opened number run name found = do
   part ← there_or (UnknownMetric number) (slice_get opened.metrics metric)
   Ok (entry_of run (measure metric (sample_of part.shape found)))
 
--- a measurement names its metric, and has a value or an error
-abbrev pub measurement_of : Opened → (number : ℕ) → (run : List ℕ) → Data → Result Entry BundleError
-measurement_of opened number name item = do
-  metric ← there_or (BadEntry number) (text_of (codes "metric") item)
-  found ← there_or (BadEntry number) (measured_or_failed (get (codes "value") item) (get (codes "error") item))
+-- a measurement names its metric, and has just one of a value and an error
+abbrev pub measurement_of : Opened → (number : ℕ) → (run : List ℕ) → Stated → Result Entry BundleError
+measurement_of opened number name said = do
+  metric ← there_or (BadEntry number) said.metric
+  one ← holds_or (BadEntry number) (just_one (is_some said.value) said.fails)
   run ← there_or (UnknownRun number) (index_of_name name (names_of opened.runs))
-  measured_of opened number run metric found
+  measured_of opened number run metric said.value
 
--- an entry after earlier ones: it names its run, and is a stop or a measurement
+-- an entry names its run, and is a stop or a measurement
+abbrev pub entry_saying : Opened → (number : ℕ) → Stated → Result Entry BundleError
+entry_saying opened number said = do
+  name ← there_or (BadEntry number) said.run
+  if said.stops then stop_of opened number name else measurement_of opened number name said
+
+-- an entry after earlier ones
 unfoldable pub entry_in : Opened → (earlier : List Entry) → Data → Result Entry BundleError
-entry_in opened earlier item = do
-  name ← there_or (BadEntry (length earlier)) (text_of (codes "run") item)
-  if is_true (get (codes "stop") item) then stop_of opened (length earlier) name
-      else measurement_of opened (length earlier) name item
+entry_in opened earlier item = entry_saying opened (length earlier) (stated_by item)
 
 -- ---- all entries
 
@@ -99,8 +120,12 @@ listed_entries (Some json) = there_or (BadEntry 0) (list_of json)
 abbrev pub few_entries : List Data → Result (List Data) BundleError
 few_entries items = if nat_lt most_events (length items) then Err TooManyMeasurements else Ok items
 
-abbrev pub entry_items : Data → Result (List Data) BundleError
-entry_items document = listed_entries (member (codes "measurements") document) >>= few_entries
+abbrev pub entries_of_list : Opened → List Data → Result (List Entry) BundleError
+entries_of_list opened items = few_entries items >>= each_after (entry_in opened) []
+
+-- what is there as `measurements`, or isn't
+abbrev pub entries_given : Opened → Option Data → Result (List Entry) BundleError
+entries_given opened found = listed_entries found >>= entries_of_list opened
 
 unfoldable pub entries_in : Opened → Data → Result (List Entry) BundleError
-entries_in opened document = entry_items document >>= each_after (entry_in opened) []
+entries_in opened document = entries_given opened (member (codes "measurements") document)

@@ -4,3 +4,5 @@ pub mod Naming
 pub mod Opened
 pub mod Parts
 pub mod Earlier
+pub mod Measured
+pub mod Saying

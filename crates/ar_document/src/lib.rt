@@ -4,13 +4,13 @@
 //! its metrics, `runs` and `measurements`, and returns the bundle that `specs/Document` defines, or
 //! the first fault in the document: its parts are examined in their order, its runs one
 //! after another, and so are its entries. Only out of memory can keep it from its result. Names of
-//! runs and metrics are found by a map. [`bundle_of`] and [`bundle_in`] do that from the JSON value, which the first
-//! drops as it is read, and the second keeps.
+//! runs and metrics are found by a map. The entries are read from the text, one after another, so that no tree of
+//! them is made. [`read_with_head`] also returns the rest of the document.
 //!
 //! - [`bundle`]: bundles of documents; [`error`]: why a document is none
 //! - `opening`: the template, its metrics and their shapes; [`runs`]: runs as they are written;
 //!   `names`: numbers by name
-//! - `parts`: a judge and limits for each run and metric; `entries`: what happened
+//! - `parts`: a judge and limits for each run and metric; `entries`: what happened to one; `measurements`: all of that
 //! - [`laws`]: that an input has one result
 #![tactic(auto)]
 
@@ -18,10 +18,11 @@ pub mod bundle;
 mod entries;
 pub mod error;
 pub mod laws;
+mod measurements;
 mod names;
 mod opening;
 mod parts;
 pub mod runs;
 
-pub use bundle::{bundle_in, bundle_of, read_bundle};
+pub use bundle::{read_bundle, read_with_head};
 pub use error::BundleError;

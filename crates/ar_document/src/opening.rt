@@ -17,9 +17,9 @@ use crate::error::BundleError;
 use crate::names::{Numbers, add_name};
 use crate::runs::{Run, read_runs};
 use ar_bundle::MetricPart;
-use ar_json::Reader;
 use ar_json::shape_reading::{ShapeError, read_shape};
 use ar_manifest::{ManifestError, Metric, Template};
+use ar_measured::Measurer;
 use ar_value::holding::{try_push, zip_ok};
 use ar_value::shared_shape::SharedShape;
 use ar_value::text::Text;
@@ -34,7 +34,7 @@ pub(crate) struct Opened {
     pub template: Template,
     pub metrics: Vec<MetricPart>,
     /// One for each metric.
-    pub readers: Vec<Reader>,
+    pub measurers: Vec<Measurer>,
     pub runs: Vec<Run>,
     pub run_numbers: Numbers,
     pub metric_numbers: Numbers,
@@ -45,7 +45,7 @@ impl Opened {
     pub(crate) fn into_metrics(self) -> Vec<MetricPart>
         ensures { result ≡ self.metrics }
     {
-        let held = (self.template, self.readers, self.runs);
+        let held = (self.template, self.measurers, self.runs);
         mem::drop((held, self.run_numbers, self.metric_numbers));
         self.metrics
     }
@@ -135,28 +135,28 @@ fn numbers_of(alloc: Global, metrics: &[MetricPart]) -> Result<Numbers, AllocErr
 }
 
 /// What reads the values of each metric.
-fn readers_of(alloc: Global, metrics: &[MetricPart]) -> Result<Vec<Reader>, AllocError>
-    ensures { IfOk result (λ readers. readers.items ≡ map (λ metric. metric.shape) metrics.now) }
+fn measurers_of(alloc: Global, metrics: &[MetricPart]) -> Result<Vec<Measurer>, AllocError>
+    ensures { IfOk result (λ measurers. measurers.items ≡ map (λ metric. metric.shape) metrics.now) }
 {
-    let mut readers = Vec::with_capacity(alloc, metrics.len())?;
+    let mut measurers = Vec::with_capacity(alloc, metrics.len())?;
     for metric in metrics {
         let shape = metric.shape.share()?;
-        let reader = Reader::new(alloc, shape)?;
-        try_push(&mut readers, reader)?;
+        let measurer = Measurer::new(alloc, shape)?;
+        try_push(&mut measurers, measurer)?;
     }
-    Ok(readers)
+    Ok(measurers)
 }
 
 /// The numbers of metrics by their names, and what reads their values.
-fn numbers_and_readers(
+fn numbers_and_measurers(
     alloc: Global,
     metrics: &[MetricPart],
-) -> Result<(Numbers, Vec<Reader>), AllocError>
+) -> Result<(Numbers, Vec<Measurer>), AllocError>
     ensures numbers { IfOk result (λ made. AreNumbers (metric_names (map metric_view metrics.now)) made.0) }
-    ensures readers { IfOk result (λ made. made.1.items ≡ map (λ metric. metric.shape) metrics.now) }
+    ensures measurers { IfOk result (λ made. made.1.items ≡ map (λ metric. metric.shape) metrics.now) }
 {
     let numbers = numbers_of(alloc, metrics)?;
-    zip_ok(numbers, readers_of(alloc, metrics))
+    zip_ok(numbers, measurers_of(alloc, metrics))
 }
 
 /// The metrics of a template with their shapes, their numbers by their names, and what reads their values.
@@ -164,15 +164,15 @@ fn numbered_metrics(
     alloc: Global,
     shapes: Option<&Json>,
     metrics: &[Metric],
-) -> Result<(Vec<MetricPart>, (Numbers, Vec<Reader>)), BundleError>
+) -> Result<(Vec<MetricPart>, (Numbers, Vec<Measurer>)), BundleError>
     ensures exact { Gives is_bundle_memory (λ made. map metric_view made.0.items) result
         (metrics_in (option_map (λ json. view json.now) shapes.entry) metrics.now) }
     ensures each { IfOk result (λ made. length made.0.items ≡ length metrics.now) }
     ensures numbers { IfOk result (λ made. AreNumbers (metric_names (map metric_view made.0.items)) made.1.0) }
-    ensures readers { IfOk result (λ made. made.1.1.items ≡ map (λ metric. metric.shape) made.0.items) }
+    ensures measurers { IfOk result (λ made. made.1.1.items ≡ map (λ metric. metric.shape) made.0.items) }
 {
     let parts = metrics_of(alloc, shapes, metrics)?;
-    let found = numbers_and_readers(alloc, &parts);
+    let found = numbers_and_measurers(alloc, &parts);
     Ok(zip_ok(parts, found)?)
 }
 
@@ -186,12 +186,12 @@ pub(crate) fn open(alloc: Global, document: &Json) -> Result<Opened, BundleError
     let metrics = numbered_metrics(alloc, document.get("shapes"), template.metrics.as_slice());
     let held = zip_ok(template, metrics)?;
     let (held, runs) = zip_ok(held, read_runs(alloc, document))?;
-    let (template, (metrics, (metric_numbers, readers))) = held;
+    let (template, (metrics, (metric_numbers, measurers))) = held;
     let (runs, run_numbers) = runs;
     Ok(Opened {
         template,
         metrics,
-        readers,
+        measurers,
         runs,
         run_numbers,
         metric_numbers,

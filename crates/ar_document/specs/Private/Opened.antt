@@ -11,12 +11,12 @@ opened_view opened = opened_as opened.template (map metric_view opened.metrics.i
 abbrev pub metric_names : List Metric → List (List ℕ)
 metric_names metrics = map (λ metric. metric.name) metrics
 
--- there are few metrics, one for each of the template's, each with its reader, and few runs; their numbers are kept by
--- their names
+-- there are few metrics, one for each of the template's, each with its measurer, and few runs; their numbers are kept
+-- by their names
 pub record IsOpened (opened : Opened) : Type 0 where
   pub each : length opened.metrics.items ≡ length opened.template.metrics
   pub few_metrics : length opened.metrics.items ≤ most_metrics
-  pub readers : opened.readers.items ≡ map (λ metric. metric.shape) opened.metrics.items
+  pub measurers : opened.measurers.items ≡ map (λ metric. metric.shape) opened.metrics.items
   pub few_runs : length opened.runs.items ≤ most_runs
   pub run_numbers : AreNumbers (names_of opened.runs.items) opened.run_numbers
   pub metric_numbers : AreNumbers (metric_names (map metric_view opened.metrics.items)) opened.metric_numbers

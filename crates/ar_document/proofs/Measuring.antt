@@ -1,0 +1,247 @@
+-- Entries of a list, one more at a time.
+use Rattle.std.proofs.Common.{◌≡◌, ◌≢◌, ◌⊎◌, ◌+◌, ◌-◌, ◌<◌, ◌≤◌, ℕ, true, false, List, [], ◌∷◌, ◌++◌, length, map, Option, Some, None, Result, Ok, Err, Vec, Global, refl, sym, ap, ◌∙◌, subst, inl, inr, arith, length-append}
+use Rattle.std.specs.Prelude.{IfOk, codes, nat_lt}
+use Rattle.std.proofs.lemmas.Bool.Decides.{nat_tests}
+use Rattle.json.specs.Json.{after_end_array, items, parse_map, value}
+use Rattle.json.specs.Token.{Token}
+use Rattle.serde_json.specs.Data.{Data, Items, Members, item, no_items, object, put}
+use Rattle.serde_json.specs.Find.{get, get_member}
+use Rattle.serde_json.specs.Read.{converted, of_items}
+use Rattle.serde_json.proofs.Views.{get_member-put, get_member-put_other}
+use Rattle.ar_value.specs.Answer.{◌>>=◌, Gives, each_after}
+use Rattle.ar_bundle.specs.declared.bundle.EventPart.{EventPart}
+use Rattle.ar_value.proofs.Steps.{refuses_same}
+use Rattle.ar_json.specs.Members.{listed, unless_null}
+use Rattle.ar_limits.specs.Replay.{most_events}
+use Rattle.ar_stream.specs.Passing.{data_at}
+use Rattle.ar_stream.proofs.Taken.{item_read}
+use Rattle.ar_document.specs.Document.{is_bundle_memory}
+use Rattle.ar_document.specs.Entries.{Entry, entries_in, entries_of_list, entries_given, entry_in, entry_view, few_entries}
+use Rattle.ar_document.specs.Opening.{Opened as Parts}
+use Rattle.ar_document.specs.Private.Measured.{AreEntries, HasRead, IsRead, IsReadOf, with_one}
+use Rattle.ar_document.specs.Private.Opened.{opened_view}
+use Rattle.ar_document.specs.declared.error.BundleError.{BundleError}
+use Rattle.ar_document.specs.declared.error.BundleError.TheVariants.{TooManyMeasurements}
+use Rattle.ar_document.specs.declared.measurements.Listed.{Listed}
+use Rattle.ar_document.specs.declared.opening.Opened.{Opened}
+
+-- ---- a list that grows at its end
+
+abbrev pub items_before : List Data → Items → Items
+items_before [] rest = rest
+items_before (first ∷ done) rest = item first (items_before done rest)
+
+pub none_before : (parsed : Option (Items × List Token)) → parsed ≡ parse_map (items_before []) parsed
+none_before None = refl
+none_before (Some pair) = refl
+
+before_more : (done : List Data) (one : Data) (rest : Items) → items_before done (item one rest) ≡ items_before (done ++ one ∷ []) rest
+before_more [] one rest = refl
+before_more (first ∷ done) one rest = ap (item first) (before_more done one rest)
+
+pub one_before : (done : List Data) (one : Data) (parsed : Option (Items × List Token)) → parse_map (items_before done) (parse_map (item one) parsed) ≡ parse_map (items_before (done ++ one ∷ [])) parsed
+one_before done one None = refl
+one_before done one (Some pair) = ap (λ items. Some (items, pair.1)) (before_more done one pair.0)
+
+pub all_before : (done : List Data) → listed (items_before done no_items) ≡ done
+all_before [] = refl
+all_before (first ∷ done) = ap (λ others. first ∷ others) (all_before done)
+
+-- ---- what each item becomes
+
+module _ {A B E : Type 0} (step : List B → A → Result B E) (one : A) where
+  after_first : (earlier : List B) (done : List A) (first : Result B E)
+      → ((made : B) → each_after step (earlier ++ made ∷ []) (done ++ one ∷ []) ≡ (each_after step (earlier ++ made ∷ []) done >>= λ all. step all one >>= λ last. Ok (all ++ last ∷ [])))
+      → (first >>= λ made. each_after step (earlier ++ made ∷ []) (done ++ one ∷ [])) ≡ ((first >>= λ made. each_after step (earlier ++ made ∷ []) done) >>= λ all. step all one >>= λ last. Ok (all ++ last ∷ []))
+  after_first earlier done (Ok made) more = more made
+  after_first earlier done (Err refusal) more = refl
+
+  pub after_more : (earlier : List B) (done : List A) → each_after step earlier (done ++ one ∷ []) ≡ (each_after step earlier done >>= λ all. step all one >>= λ last. Ok (all ++ last ∷ []))
+  unfolding each_after
+  after_more earlier [] = refl
+  after_more earlier (first ∷ done) = after_first earlier done (step earlier first) (λ made. after_more (earlier ++ made ∷ []) done)
+
+-- ---- a list that isn't too long
+
+few_are : (items : List Data) → length items ≤ most_events → few_entries items ≡ Ok items
+few_are items few =
+    let fewer : nat_lt most_events (length items) ≡ false = grind (arith, nat_tests) in
+    rw fewer refl
+
+pub too_many : (items : List Data) → most_events < length items → few_entries items ≡ Err TooManyMeasurements
+too_many items many =
+    let longer : nat_lt most_events (length items) ≡ true = grind (arith, nat_tests) in
+    rw longer refl
+
+list_more : (opened : Parts) (done : List Data) (one : Data) → length done + 1 ≤ most_events
+    → entries_of_list opened (done ++ one ∷ []) ≡ (entries_of_list opened done >>= λ made. with_one opened made one)
+list_more opened done one few =
+    let longer : length (done ++ one ∷ []) ≡ length done + 1 = length-append done (one ∷ []) in
+    ap (λ items. items >>= each_after (entry_in opened) []) (few_are (done ++ one ∷ []) (omega (arith, longer)))
+    ∙ after_more (entry_in opened) one [] done
+    ∙ sym (ap (λ items. (items >>= each_after (entry_in opened) []) >>= λ made. with_one opened made one) (few_are done (omega arith)))
+
+-- ---- what was read of a list, with one more item
+
+abbrev pub listed_as : Result (Vec EventPart Global) BundleError → ℕ → Listed
+listed_as entries left = record { entries = entries; left = left }
+
+abbrev pub seen : Vec EventPart Global → List Entry
+seen found = map entry_view found.items
+
+module _ (opened : Opened) (done : List Data) (one : Data) (so_far : Listed) (has : HasRead opened done so_far) where
+  over : length done + so_far.left ≡ most_events ⊎ (most_events < length done × so_far.left ≡ 0) → so_far.left ≡ 0 → most_events < length done + 1
+  over (inl exact) none = omega (arith, exact, none)
+  over (inr many) none = omega (arith, many.0)
+
+  -- there are too many
+  pub one_too_many : so_far.left ≡ 0 → HasRead opened (done ++ one ∷ []) (listed_as (Err TooManyMeasurements) 0)
+  one_too_many none =
+      let longer : length (done ++ one ∷ []) ≡ length done + 1 = length-append done (one ∷ []) in
+      let many : most_events < length (done ++ one ∷ []) = omega (arith, longer, over has.left none) in
+      record {
+        exact = ap (λ items. items >>= each_after (entry_in (opened_view opened)) []) (too_many (done ++ one ∷ []) many);
+        left = inr (many, refl);
+        fit = tt;
+      }
+
+  fewer : length done + so_far.left ≡ most_events ⊎ (most_events < length done × so_far.left ≡ 0) → 0 < so_far.left → length done + so_far.left ≡ most_events
+  fewer (inl exact) some = exact
+  fewer (inr many) some = absurd (omega (arith, many.1, some))
+
+  one_less : 0 < so_far.left → length (done ++ one ∷ []) + (so_far.left - 1) ≡ most_events
+  one_less some =
+      let longer : length (done ++ one ∷ []) ≡ length done + 1 = length-append done (one ∷ []) in
+      omega (arith, longer, fewer has.left some)
+
+  still_few : 0 < so_far.left → length done + 1 ≤ most_events
+  still_few some = omega (arith, fewer has.left some, some)
+
+  gives_so_far : (entries : Result (Vec EventPart Global) BundleError) → so_far.entries ≡ entries → Gives (λ error. false) (λ (found : Vec EventPart Global). map entry_view found.items) entries (entries_of_list (opened_view opened) done)
+  gives_so_far entries is = subst (λ (found : Result (Vec EventPart Global) BundleError). Gives (λ error. false) (λ (found : Vec EventPart Global). map entry_view found.items) found (entries_of_list (opened_view opened) done)) is has.exact
+
+  -- a fault stays
+  pub fault_stays : (fault : BundleError) → so_far.entries ≡ Err fault → 0 < so_far.left → HasRead opened (done ++ one ∷ []) (listed_as (Err fault) (so_far.left - 1))
+  fault_stays fault is some =
+      let refused : entries_of_list (opened_view opened) done ≡ Err fault = gives_so_far (Err fault) is in
+      record {
+        exact = list_more (opened_view opened) done one (still_few some) ∙ ap (λ answer. answer >>= λ made. with_one (opened_view opened) made one) refused;
+        left = inl (one_less some);
+        fit = tt;
+      }
+
+  fit_so_far : (found : Vec EventPart Global) → so_far.entries ≡ Ok found → AreEntries opened found.items × (length found.items ≡ length done)
+  fit_so_far found is = subst (λ (entries : Result (Vec EventPart Global) BundleError). IfOk entries (λ found. AreEntries opened found.items × (length found.items ≡ length done))) is has.fit
+
+  grown : (later : Result (Vec EventPart Global) BundleError) (found : Vec EventPart Global) → length found.items ≡ length done
+      → IfOk later (λ more. AreEntries opened more.items × (length more.items ≡ length found.items + 1)) → IfOk later (λ more. AreEntries opened more.items × (length more.items ≡ length (done ++ one ∷ [])))
+  grown (Ok more) found many fit = (fit.0, fit.1 ∙ ap (λ n. n + 1) many ∙ sym (length-append done (one ∷ [])))
+  grown (Err fault) found many fit = tt
+
+  -- the next item is an entry, or the first fault
+  pub entry_next : (found : Vec EventPart Global) (later : Result (Vec EventPart Global) BundleError) → so_far.entries ≡ Ok found → 0 < so_far.left
+      → Gives (λ error. false) (λ (found : Vec EventPart Global). map entry_view found.items) later (with_one (opened_view opened) (seen found) one)
+      → (AreEntries opened found.items → IfOk later (λ more. AreEntries opened more.items × (length more.items ≡ length found.items + 1)))
+      → HasRead opened (done ++ one ∷ []) (listed_as later (so_far.left - 1))
+  entry_next found later is some gives fit =
+      let read : entries_of_list (opened_view opened) done ≡ Ok (seen found) = gives_so_far (Ok found) is in
+      let both = list_more (opened_view opened) done one (still_few some) ∙ ap (λ answer. answer >>= λ made. with_one (opened_view opened) made one) read in
+      let own = fit_so_far found is in
+      record {
+        exact = subst (λ (defined : Result (List Entry) BundleError). Gives (λ error. false) (λ (found : Vec EventPart Global). map entry_view found.items) later defined) (sym both) gives;
+        left = inl (one_less some);
+        fit = grown later found own.1 (fit own.0);
+      }
+
+-- nothing was read yet
+pub nothing_read : (opened : Opened) (found : Vec EventPart Global) → found.items ≡ [] → HasRead opened [] (listed_as (Ok found) 100000)
+unfolding each_after
+nothing_read opened found none = record {
+  exact = ap (λ items. Ok (map entry_view items)) (sym none);
+  left = inl refl;
+  fit = (subst (AreEntries opened) (sym none) tt, ap length none);
+}
+
+-- ---- a list of entries
+
+module _ (opened : Opened) (done : List Data) (so_far : Listed) (has : HasRead opened done so_far) where
+  few_done : length done + so_far.left ≡ most_events ⊎ (most_events < length done × so_far.left ≡ 0) → entries_of_list (opened_view opened) done ≢ Err TooManyMeasurements → length done ≤ most_events
+  few_done (inl exact) other = omega (arith, exact)
+  few_done (inr many) other = absurd (other (ap (λ items. items >>= each_after (entry_in (opened_view opened)) []) (too_many done many.0)))
+
+  few_read : (entries : Result (Vec EventPart Global) BundleError) → so_far.entries ≡ entries → IfOk entries (λ found. AreEntries opened found.items × (length found.items ≤ most_events))
+  few_read (Err fault) is = tt
+  few_read (Ok found) is =
+      let gives : Gives (λ error. false) (λ (found : Vec EventPart Global). map entry_view found.items) (Ok found) (entries_of_list (opened_view opened) done) = subst (λ (entries : Result (Vec EventPart Global) BundleError). Gives (λ error. false) (λ (found : Vec EventPart Global). map entry_view found.items) entries (entries_of_list (opened_view opened) done)) is has.exact in
+      let own : AreEntries opened found.items × (length found.items ≡ length done) = subst (λ (entries : Result (Vec EventPart Global) BundleError). IfOk entries (λ found. AreEntries opened found.items × (length found.items ≡ length done))) is has.fit in
+      let few = few_done has.left (λ many. absurd (is_ok (sym gives ∙ many))) in
+      (own.0, omega (arith, own.1, few))
+    where
+      is_ok : {made : List Entry} {refusal : BundleError} → ◌≡◌ {A = Result (List Entry) BundleError} (Ok made) (Err refusal) → ⊥
+      is_ok same = absurd (cc)
+
+  -- all of it was read
+  pub all_read : IsRead opened (entries_of_list (opened_view opened) (listed (items_before done no_items))) so_far.entries
+  all_read = record { exact = rw (all_before done) has.exact; fit = few_read so_far.entries refl }
+
+-- what was read of a list whose rest begins here
+abbrev pub Listing : Opened → (levels : ℕ) → (first now : List Token) → Listed → Type 0
+Listing opened levels first now so_far =
+    (n : ℕ) × (length now ≤ n) × (done : List Data)
+    × (converted of_items (items (value levels) (length first) first) ≡ parse_map (items_before done) (converted of_items (items (value levels) n now)))
+    × HasRead opened done so_far × (length now ≤ length first)
+
+pub one_listed : (opened : Opened) (levels : ℕ) (first now taken later : List Token) (so_far next : Listed) (made : Data)
+    → (after_end_array now ≡ None) × (taken ≡ now) → data_at levels taken ≡ Some (made, later) → length later < length taken → Listing opened levels first now so_far
+    → ((done : List Data) → HasRead opened done so_far → HasRead opened (done ++ made ∷ []) next) → Listing opened levels first later next
+one_listed opened levels first now taken later so_far next made going read shorter listing more =
+    let same = going.1 in
+    let less : length later < length now = rw same at shorter in (
+      listing.0 - 1,
+      omega (arith, less, listing.1),
+      listing.2 ++ made ∷ [],
+      listing.3
+          ∙ ap (parse_map (items_before listing.2)) (item_read (value levels) listing.0 now later made (omega (arith, less, listing.1)) going.0 (rw same at read))
+          ∙ one_before listing.2 made _,
+      more listing.2 listing.4,
+      omega (arith, less, listing.5),
+    )
+
+-- ---- measurements that are there or not
+
+pub none_given : (opened : Opened) (found : Vec EventPart Global) → found.items ≡ [] → IsRead opened (entries_given (opened_view opened) None) (Ok found)
+unfolding each_after
+none_given opened found none = record {
+  exact = ap (λ items. Ok (map entry_view items)) (sym none);
+  fit = (subst (AreEntries opened) (sym none) tt, omega (arith, ap length none));
+}
+
+pub if_ok : {A E : Type 0} {P Q : A → Type 0} (result : Result A E) → ((found : A) → P found → Q found) → IfOk result P → IfOk result Q
+if_ok (Ok found) leads holds = leads found holds
+if_ok (Err refusal) leads holds = tt
+
+pub member_given : (opened : Opened) (name : List ℕ) (given : Data) (entries : Result (Vec EventPart Global) BundleError) → name ≡ codes "measurements"
+    → IsRead opened (entries_given (opened_view opened) (unless_null (Some given))) entries → (earlier : Members) → IsReadOf opened (put name given earlier) entries
+member_given opened name given entries is read earlier =
+    let found : get_member (codes "measurements") (put name given earlier) ≡ Some given = rw (← is) (get_member-put name given earlier) in
+    subst (λ (found : Option Data). IsRead opened (entries_given (opened_view opened) (unless_null found)) entries) (sym found) read
+
+pub other_member : (opened : Opened) (name : List ℕ) (given : Data) (entries : Result (Vec EventPart Global) BundleError) → (codes "measurements" ≡ name → ⊥)
+    → (earlier : Members) → IsReadOf opened earlier entries → IsReadOf opened (put name given earlier) entries
+other_member opened name given entries other earlier read =
+    subst (λ (found : Option Data). IsRead opened (entries_given (opened_view opened) (unless_null found)) entries) (sym (get_member-put_other (codes "measurements") name given earlier other)) read
+
+-- ---- a whole document
+
+pub never_memory : {X Y : Type 0} (view : X → Y) (result : Result X BundleError) (answer : Result Y BundleError) → Gives (λ error. false) view result answer → Gives is_bundle_memory view result answer
+never_memory view (Ok found) answer gives = gives
+never_memory view (Err refusal) answer gives = refuses_same (is_bundle_memory refusal) refusal answer gives
+
+pub of_object : (opened : Opened) (all : Members) (entries : Result (Vec EventPart Global) BundleError) → IsReadOf opened all entries → Gives is_bundle_memory (λ (found : Vec EventPart Global). map entry_view found.items) entries (entries_in (opened_view opened) (object all))
+unfolding entries_in
+of_object opened all entries read = never_memory (λ (found : Vec EventPart Global). map entry_view found.items) entries _ read.exact
+
+pub of_other : (opened : Opened) (found : Vec EventPart Global) (document : Data) → found.items ≡ [] → get (codes "measurements") document ≡ None → entries_in (opened_view opened) document ≡ Ok (map entry_view found.items)
+unfolding entries_in each_after
+of_other opened found document none missing =
+    ap (λ given. entries_given (opened_view opened) (unless_null given)) missing ∙ sym (ap (λ items. Ok (map entry_view items)) none)
