@@ -1,5 +1,5 @@
 -- What was read of an input says as much as all of it.
-use Rattle.std.proofs.Common.{◌≡◌, ℕ, ◌≤◌, Bool, true, false, List, [], ◌++◌, length, Option, Some, None, Result, Ok, Err, refl, sym, subst, ◌∙◌, ap, arith, length-append, append-nil}
+use Rattle.std.proofs.Common.{◌≡◌, ℕ, ◌≤◌, Bool, true, false, List, [], ◌++◌, length, Option, Some, None, Result, Ok, Err, refl, sym, subst, ◌∙◌, ap, arith, length-append, append-nil, ◌⊎◌, inl, inr}
 use Rattle.std.specs.Prelude.{IfOk, IfSome, nat_lt}
 use Rattle.std.proofs.lemmas.Bool.Decides.{nat_tests}
 use Rattle.ar_value.specs.Answer.{◌>>=◌}
@@ -9,12 +9,14 @@ use Rattle.ar_judge.specs.Saying.{refused_as}
 use Rattle.ar_document.specs.Document as bundles
 use Rattle.ar_json.specs.Document.{json_in, most_bytes}
 use Rattle.ar_document.specs.declared.error.BundleError.{BundleError}
+use Rattle.ar_workers.specs.declared.error.WorkError.{WorkError}
 use Rattle.ar_command_line.specs.Input.{ReadsUpToLimit, most_reads}
 use Rattle.std.specs.Io.KnownBytes.{Appends}
 use Rattle.ar_eval.specs.Evaluation.{Evaluates, Follows, eval_json_error, prepared, prepared_input}
 use Rattle.ar_command_line.specs.Selection.{Selected, selected}
-use Rattle.ar_command.specs.Served.{IfRead, Served, ServedInput}
-use Rattle.ar_command.specs.Serving.{Explains, IsCarriedOut, LacksSelected, RefusesInput, Reports, Says, WritesFront}
+use Rattle.ar_command.specs.Served.{IfBroken, KeepsEarlier, KeepsRead, Served, ServedInput, ServedKeeping}
+use Rattle.ar_command.specs.Warned.{Warns, WarnsOnce}
+use Rattle.ar_command.specs.Serving.{Breaks, Explains, IsBroken, IsCarriedOut, LacksSelected, RefusesInput, Reports, Says, WritesFront}
 use Rattle.ar_command_line.specs.History.{GrowsAtMost}
 use Rattle.ar_command_line.specs.Output.{AppendsAll, Call}
 use Rattle.ar_eval.specs.declared.eval.EvalError.{EvalError}
@@ -22,6 +24,7 @@ use Rattle.ar_command.specs.declared.serving.Closing.{Closing}
 use Rattle.ar_command_line.specs.declared.command_line.Command.{Command}
 use Rattle.ar_command_line.specs.declared.command_line.Command.TheVariants as commands
 use Rattle.ar_command_line.specs.declared.command_line.Format.{Format}
+use Rattle.ar_command.specs.declared.serving.Kept.{Kept}
 use Rattle.ar_command.specs.declared.serving.Refusal.{Refusal}
 use Rattle.ar_command.specs.declared.serving.ServeError.{ServeError}
 use Rattle.ar_command.specs.declared.serving.Refusal.TheVariants as refusals
@@ -113,14 +116,17 @@ with_text (Some input) command text closing P says proceeds = (text, says, proce
 pub was_read : {A E : Type 0} (input : A) (error : E) → Ok input ≡ Err error → ⊥
 was_read input error is = absurd cc
 
--- what holds of a result of any kind
-pub where_read : (P : Type 0) (result : Result Closing ServeError) → P → IfRead result P
-where_read P (Ok closing) holds = holds
-where_read P (Err errors.Read) holds = tt
-where_read P (Err errors.OutOfMemory) holds = tt
-where_read P (Err (errors.Refused refusal)) holds = holds
-where_read P (Err (errors.Work error)) holds = holds
-where_read P (Err errors.Write) holds = holds
+-- workers are at work only on an input that was read
+no_work : (result : Result Closing ServeError) (error : WorkError) → (result ≡ Err errors.Read) ⊎ (result ≡ Err errors.OutOfMemory) → result ≡ Err (errors.Work error) → ⊥
+no_work result error (inl read) is = absurd cc
+no_work result error (inr memory) is = absurd cc
+
+-- workers break on what was taken
+pub is_broken : {R W : Type 0} {command : Command} {taken remaining : R → Option (List ℕ)} {reader later_reader : R} {contents : W → Option (List ℕ)} {calls : W → Option (List Call)} {write_failed : W → Bool} {writer later_writer : W} {input later_input : List ℕ} {result : Result Closing ServeError}
+    → KeepsRead command taken remaining reader later_reader contents calls write_failed writer later_writer later_input result ⊎ KeepsEarlier input later_input result
+    → IfBroken result (Breaks command later_input) → IfBroken result (IsBroken command (taken reader) (taken later_reader))
+is_broken {later_input = later_input} {result = result} (inl read) breaks = λ error is. record { input = later_input; took = read.took; breaks = breaks error is }
+is_broken {later_input = later_input} {result = result} (inr earlier) breaks = λ error is. absurd (no_work result error earlier.cause is)
 
 -- what is done with an input that was read is done with what was taken
 module _ {R W : Type 0} (command : Command) (taken remaining : R → Option (List ℕ)) (reads : R → Option ℕ) (read_failed : R → Bool) (reader later_reader : R)
@@ -140,7 +146,7 @@ module _ {R W : Type 0} (command : Command) (taken remaining : R → Option (Lis
     cut_of_known cut = of_known (WritesFront command contents calls writer later_writer) input (remaining reader) (same_json (remaining reader) (remaining later_reader) input whole)
         (λ known same. record { text = cut.text; closing = cut.closing; says = says_too known input same command cut.text cut.closing cut.says; wrote = cut.wrote })
 
-    pub served_taken : (result : Result Closing ServeError) → ServedInput command input contents calls write_failed writer later_writer result → Served command taken remaining reads read_failed reader later_reader contents calls write_failed writer later_writer result
+    served_taken : (result : Result Closing ServeError) → ServedInput command input contents calls write_failed writer later_writer result → Served command taken remaining reads read_failed reader later_reader contents calls write_failed writer later_writer result
     served_taken result served = record {
       written = written result served;
       written_of_known = written_of_known result served;
@@ -155,3 +161,14 @@ module _ {R W : Type 0} (command : Command) (taken remaining : R → Option (Lis
       cut_of_known = λ is. cut_of_known (served.cut is);
       silent = served.silent;
     }
+
+    -- and what is kept is that input, which a slice hands on
+    pub served_keeping : (slice : List ℕ) → slice ≡ input → (kept later_kept : Kept) → later_kept.input.items ≡ input → (result : Result Closing ServeError) → ServedInput command slice contents calls write_failed writer later_writer result
+        → WarnsOnce result kept.warnings.items later_kept.warnings.items (Warns command slice) → ServedKeeping command taken remaining reads read_failed reader later_reader contents calls write_failed writer later_writer kept later_kept result
+    served_keeping slice is kept later_kept same result on_slice warns =
+        let on_input = subst (λ (bytes : List ℕ). ServedInput command bytes contents calls write_failed writer later_writer result) is on_slice in
+        record {
+          served = served_taken result on_input;
+          keeps = inl (subst (λ (bytes : List ℕ). KeepsRead command taken remaining reader later_reader contents calls write_failed writer later_writer bytes result) (sym same) (record { took = took; whole = whole; served = on_input }));
+          warns = subst (λ (bytes : List ℕ). WarnsOnce result kept.warnings.items later_kept.warnings.items (Warns command bytes)) (is ∙ sym same) warns;
+        }

@@ -1,5 +1,5 @@
 -- What carrying out a command on a reader and a writer returns.
-use Rattle.std.specs.Prelude.{◌≡◌, ◌≢◌, ℕ, Bool, true, List, Option, Result, Ok, Err, IfOk, IfErr, IfSome}
+use Rattle.std.specs.Prelude.{◌≡◌, ◌≢◌, ◌⊎◌, ℕ, Bool, true, List, Option, Result, Err, IfOk, IfErr, IfSome}
 use Rattle.std.specs.Io.KnownBytes.{Appends}
 use Rattle.ar_value.specs.Terms.{Bytes, Text}
 use Rattle.ar_command_line.specs.History.{GrowsAtMost}
@@ -74,25 +74,20 @@ pub record ServedInput {W : Type 0} (command : Command) (input : Bytes)
   -- of all errors, only `Write` leaves anything written
   pub silent : IfErr result (λ error. error ≢ Write → later_writer ≡ writer)
 
--- this holds where a command got past reading, and didn't run out of memory
-abbrev pub IfRead : Result Closing ServeError → Type 0 → Type 0
-IfRead (Ok closing) P = P
-IfRead (Err Read) P = Unit {0}
-IfRead (Err OutOfMemory) P = Unit {0}
-IfRead (Err (Refused refusal)) P = P
-IfRead (Err (Work error)) P = P
-IfRead (Err Write) P = P
-
--- A command kept its input: it is what was taken of the reader, up to a limit all of it, and the command was carried
--- out on it.
-pub record KeepsInput {R W : Type 0} (command : Command) (taken remaining : R → Option (List ℕ))
+-- The input was read and is kept: it is what was taken of the reader, up to a limit all of it, and the command was
+-- carried out on it.
+pub record KeepsRead {R W : Type 0} (command : Command) (taken remaining : R → Option (List ℕ))
     (reader later_reader : R)
     (contents : W → Option (List ℕ)) (calls : W → Option (List Call)) (write_failed : W → Bool)
     (writer later_writer : W) (input : Bytes) (result : Result Closing ServeError) : Type 0 where
-  pub took : IfRead result (Appends (taken reader) (taken later_reader) input)
-  pub whole : IfRead result (ReadsUpToLimit (remaining reader) (remaining later_reader) input)
-  pub served : IfRead result
-      (ServedInput command input contents calls write_failed writer later_writer result)
+  pub took : Appends (taken reader) (taken later_reader) input
+  pub whole : ReadsUpToLimit (remaining reader) (remaining later_reader) input
+  pub served : ServedInput command input contents calls write_failed writer later_writer result
+
+-- The input could not be read: what was kept before stays.
+pub record KeepsEarlier (input later_input : Bytes) (result : Result Closing ServeError) : Type 0 where
+  pub cause : (result ≡ Err Read) ⊎ (result ≡ Err OutOfMemory)
+  pub stays : later_input ≡ input
 
 -- A command was served, and what is kept of it are its input and its warnings.
 pub record ServedKeeping {R W : Type 0} (command : Command) (taken remaining : R → Option (List ℕ))
@@ -101,8 +96,8 @@ pub record ServedKeeping {R W : Type 0} (command : Command) (taken remaining : R
     (writer later_writer : W) (kept later_kept : Kept) (result : Result Closing ServeError) : Type 0 where
   pub served : Served command taken remaining reads read_failed reader later_reader contents calls write_failed writer
       later_writer result
-  pub keeps : KeepsInput command taken remaining reader later_reader contents calls write_failed writer later_writer
-      later_kept.input.items result
+  pub keeps : KeepsRead command taken remaining reader later_reader contents calls write_failed writer later_writer
+      later_kept.input.items result ⊎ KeepsEarlier kept.input.items later_kept.input.items result
   pub warns : WarnsOnce result kept.warnings.items later_kept.warnings.items (Warns command later_kept.input.items)
 
 -- this holds of each error of workers that is returned

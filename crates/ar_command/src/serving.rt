@@ -166,9 +166,8 @@ pub fn serve<S: Source, W: Sink, G: Gate, R: Threads + Wait + Sync>(
     // A lost number is shown, and an ordered run loses none.
     ensures work { IfBroken result (IsBroken command.entry (S.taken reader.old) (S.taken reader.new)) }
 {
-    let input = read_input(alloc, reader)?;
-    let mut warnings = Vec::new(alloc);
-    serve_input(rt, alloc, command, &input, writer, gate, &mut warnings)
+    let mut kept = Kept::new(alloc);
+    serve_keeping(rt, alloc, command, reader, writer, gate, &mut kept)
 }
 
 /// [`serve`], of which the input and the warnings are kept.
@@ -250,9 +249,8 @@ pub fn serve_plain<S: Source, W: Sink>(
     // There are no workers.
     ensures work { (error : WorkError) → result ≢ Err (ServeError.Work error) }
 {
-    let input = read_input(alloc, reader)?;
-    let mut warnings = Vec::new(alloc);
-    serve_plain_input(alloc, command, &input, writer, &mut warnings)
+    let mut kept = Kept::new(alloc);
+    serve_plain_keeping(alloc, command, reader, writer, &mut kept)
 }
 
 /// [`serve_plain`], of which the input and the warnings are kept.

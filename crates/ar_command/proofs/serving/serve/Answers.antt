@@ -1,10 +1,5 @@
-use Rattle.std.proofs.Common.{ℕ, List, subst}
-use Rattle.ar_command.specs.Served.{ServedInput}
-use Rattle.ar_command.proofs.Documents.{served_taken, was_read}
+use Rattle.ar_command.proofs.Documents.{is_broken}
 use Rattle.ar_command.proofs.serving.serve.Goals as goal
 
-pub returns-clause-served : goal.returns-clause-served
-returns-clause-served g c =
-    let served = subst (λ (input : List ℕ). ServedInput c.args.command input g.W.Sink.contents g.W.Sink.calls g.W.Sink.has_failed c.args.writer.now c.serve_input.new.writer c.serve_input.result) c.deref.ensures.value c.serve_input.ensures.served in
-    served_taken c.args.command g.S.Source.taken g.S.Source.remaining g.S.Source.reads g.S.Source.has_failed c.args.reader.now c.read_input.new.source g.W.Sink.contents g.W.Sink.calls g.W.Sink.has_failed c.args.writer.now c.serve_input.new.writer _ c.in_ok-input.ensures.taken c.in_ok-input.ensures.ok c.read_input.ensures.counts
-    (λ failed. was_read _ _ (c.in_ok-input.ensures.reported failed)) c.serve_input.result served
+pub returns-clause-work : goal.returns-clause-work
+returns-clause-work g c = is_broken c.serve_keeping.ensures.served.keeps c.serve_keeping.ensures.work
