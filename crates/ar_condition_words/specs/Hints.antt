@@ -1,6 +1,7 @@
 -- What helps where a condition has something of another language.
-use Rattle.std.specs.Prelude.{Bool, ◌&&◌, ◌||◌, nat_eq, if◌then◌else◌, codes, Option, Some, None, option_and_then}
-use Rattle.std.specs.List.{ends_with, starts_with}
+use Rattle.std.specs.Prelude.{Bool, false, [], ◌∷◌, ◌&&◌, ◌||◌, nat_eq, if◌then◌else◌, codes, Option, Some, None}
+use Rattle.std.specs.Char.{is_ascii_digit}
+use Rattle.std.specs.List.{ends_with, list_all, starts_with}
 use Rattle.std.specs.Option.{option_or}
 use Rattle.std.specs.Str.{bytes_eq}
 use Rattle.ar_value.specs.Terms.{Text}
@@ -57,10 +58,15 @@ question_hint after =
     else (if token_begins (codes ".") after then Some (codes "there is no `?.`; test isNil(a) first")
     else None)
 
--- of a letter that continues a number
+-- an exponent's letter, with its digits where they have no sign
+abbrev pub is_exponent_part : (token : Text) → Bool
+is_exponent_part [] = false
+is_exponent_part (letter ∷ digits) = (nat_eq letter 101 || nat_eq letter 69) && list_all is_ascii_digit digits
+
+-- of what continues a number
 abbrev pub exponent_hint : (token : Text) → Option Text
 exponent_hint token =
-    if token_begins (codes "e") token || token_begins (codes "E") token
+    if is_exponent_part token
     then Some (codes "a number has no exponent; write 0.001 in place of 1e-3") else None
 
 abbrev pub sign_hint : (token after : Text) → Option Text

@@ -1,5 +1,5 @@
 -- What the operands of a condition are where one isn't of a kind that is taken.
-use Rattle.std.specs.Prelude.{ℕ, Bool, true, false, if◌then◌else◌, List, ◌++◌, codes, length, take, Option, Some, None, option_and_then}
+use Rattle.std.specs.Prelude.{ℕ, Bool, true, false, if◌then◌else◌, ◌++◌, codes, length, take, Option, Some, None, option_and_then}
 use Rattle.std.specs.Result.{result_ok}
 use Rattle.ar_value.specs.Terms.{Text}
 use Rattle.ar_check.specs.Found.{operands_at}

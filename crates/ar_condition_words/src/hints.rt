@@ -1,8 +1,10 @@
 //! What helps where a condition has something of another language.
 
 ghost use Rattle.std.specs.Prelude.{◌≡◌, IfOk, option_map};
+ghost use Rattle.std.specs.Char.{is_ascii_digit};
+ghost use Rattle.std.specs.List.{list_all};
 ghost use Rattle.ar_quote.specs.Tokens.{found};
-ghost use Rattle.ar_condition_words.specs.Hints.{token_begins, comes_after, exponent_hint, function_hint, is_conversion, is_float_test, pair_hint, question_hint, sign_hint, syntax_hint, token_hint};
+ghost use Rattle.ar_condition_words.specs.Hints.{token_begins, comes_after, exponent_hint, function_hint, is_conversion, is_exponent_part, is_float_test, pair_hint, question_hint, sign_hint, syntax_hint, token_hint};
 
 use ar_quote::TokenAt;
 use ar_syntax::SyntaxError;
@@ -87,11 +89,27 @@ fn question_hint(after: &str) -> Option<&'static str>
     }
 }
 
-/// Of a letter that continues a number.
+fn are_digits(bytes: &[u8]) -> bool
+    ensures { result ≡ list_all is_ascii_digit bytes.now }
+{
+    bytes.iter().all(|byte| byte.is_ascii_digit())
+}
+
+/// Is it an exponent's letter, with its digits where they have no sign?
+fn is_exponent_part(token: &str) -> bool
+    ensures { result ≡ is_exponent_part token.now }
+{
+    match token.as_bytes().split_first() {
+        Some((letter, digits)) => matches!(letter, b'e' | b'E') && are_digits(digits),
+        None => false,
+    }
+}
+
+/// Of what continues a number.
 fn exponent_hint(token: &str) -> Option<&'static str>
     ensures { option_map (λ hint. hint.now) result ≡ exponent_hint token.now }
 {
-    if token_begins("e", token) || token_begins("E", token) {
+    if is_exponent_part(token) {
         Some("a number has no exponent; write 0.001 in place of 1e-3")
     } else {
         None
