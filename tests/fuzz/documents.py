@@ -137,8 +137,16 @@ def odd_entries(source, run, metric):
     return [source.choice(odd) for _ in range(source.choice((1, 1, 2)))]
 
 
+def mixed(source, members, share):
+    """An object, with a share of the cases its members in another order."""
+    names = list(members)
+    if source.random() < share:
+        source.shuffle(names)
+    return {name: members[name] for name in names}
+
+
 def random_entries(source, runs, metrics, shapes):
-    entries = [random_entry(source, runs, metrics, shapes) for _ in range(source.randrange(9))]
+    entries = [mixed(source, random_entry(source, runs, metrics, shapes), 0.3) for _ in range(source.randrange(9))]
     if source.random() < 0.15:
         place = source.randrange(len(entries) + 1)
         entries[place:place] = odd_entries(source, runs[0]['name'], metrics[0]['name'])
@@ -157,12 +165,16 @@ def random_bundle(source):
     if source.random() < 0.3:
         spec['dryRun'] = [{'metricName': source.choice(names + ['.*'])}]
     kind = source.choice(('AnalysisTemplate', 'AnalysisTemplate', 'ClusterAnalysisTemplate'))
-    return {
+    document = {
         'manifest': {'apiVersion': 'argoproj.io/v1alpha1', 'kind': kind, 'metadata': {'name': 't'}, 'spec': spec},
         'shapes': {name: shape_json(shape) for name, shape in shapes.items()},
         'runs': runs,
         'measurements': random_entries(source, runs, metrics, shapes),
     }
+    if source.random() < 0.1:
+        others = source.choice((None, 7, {}, [], random_entries(source, runs, metrics, shapes)))
+        document[AGAIN + 'measurements'] = others
+    return mixed(source, document, 0.3)
 
 
 def random_evaluation(source):
