@@ -1,4 +1,5 @@
 mod Signs
+mod Digits
 mod Making
 mod Ranging
 pub mod Members

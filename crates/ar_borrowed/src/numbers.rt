@@ -1,12 +1,37 @@
 //! Numbers of texts.
 
-ghost use Rattle.std.specs.Prelude.{◌≡◌, ◌==◌, MatchOption, drop, false, option_map, slice_index, true};
+ghost use Rattle.std.specs.Prelude.{◌≡◌, ◌==◌, IfSome, MatchOption, Some, drop, false, is_some, option_and_then, option_map, slice_index, true};
+ghost use Rattle.std.specs.Char.{is_ascii_digit};
+ghost use Rattle.std.specs.List.{list_all};
 ghost use Rattle.fast_float.specs.Text.{minus};
+ghost use Rattle.serde_json.specs.Data.{unsigned};
+ghost use Rattle.serde_json.specs.Find.{as_integer};
 ghost use Rattle.serde_json.specs.Read.{float_of, number_from, number_of};
 ghost use Rattle.serde_json.specs.View.{number_view};
 
+use ar_value::digits;
 use fast_float::Numeral;
 use serde_json::Number;
+
+fn are_digits(bytes: &[u8]) -> bool
+    ensures { result ≡ list_all is_ascii_digit bytes.now }
+{
+    bytes.iter().all(|byte| byte.is_ascii_digit())
+}
+
+/// The number that digits spell, where a text has nothing else and it fits 64 bits.
+#[tactic(auto, using(crate::proofs::Digits::digits_alone))]
+fn digits_alone(bytes: &[u8]) -> Option<u64>
+    ensures { IfSome result (λ whole. number_of bytes.now ≡ Some (unsigned whole)) }
+{
+    if bytes.is_empty() {
+        return None;
+    }
+    if !are_digits(bytes) {
+        return None;
+    }
+    digits::number(bytes)
+}
 
 /// The number of a JSON number's text: a whole number where it is written as one and fits 64 bits,
 /// otherwise the nearest float. There is none outside the range of floats.
@@ -15,6 +40,9 @@ pub fn number_of(text: &str) -> Option<Number>
     ensures { option_map number_view result ≡ number_of text.now }
 {
     let bytes = text.as_bytes();
+    if let Some(whole) = digits_alone(bytes) {
+        return Some(Number::from(whole));
+    }
     match after_minus(bytes) {
         Some(digits) => below_zero(&Numeral::scan(digits)),
         None => not_below_zero(&Numeral::scan(bytes)),
@@ -57,4 +85,45 @@ fn nearest(negative: bool, numeral: &Numeral<'_>) -> Option<Number>
     ensures { option_map number_view result ≡ float_of negative numeral.now }
 {
     Number::from_f64(numeral.to_float(negative))
+}
+
+/// Is a JSON number's text in the range of floats?
+pub fn is_in_range(text: &str) -> bool
+    ensures { result ≡ is_some (number_of text.now) }
+{
+    number_of(text).is_some()
+}
+
+/// The whole number of a JSON number's text, where it is written as one and fits 64 bits, with a sign or without.
+#[tactic(auto, using(crate::proofs::Signs::integer_below_zero, crate::proofs::Signs::integer_not_below_zero))]
+pub fn integer_of(text: &str) -> Option<i128>
+    ensures { result ≡ option_and_then as_integer (number_of text.now) }
+{
+    let bytes = text.as_bytes();
+    if let Some(whole) = digits_alone(bytes) {
+        return Some(whole as i128);
+    }
+    match after_minus(bytes) {
+        Some(digits) => integer_below_zero(&Numeral::scan(digits)),
+        None => integer_not_below_zero(&Numeral::scan(bytes)),
+    }
+}
+
+/// The whole number of a numeral that has a minus in front. `-0` is none.
+#[tactic(auto, using(crate::proofs::Signs::no_integer))]
+fn integer_below_zero(numeral: &Numeral<'_>) -> Option<i128>
+    ensures { result ≡ option_and_then as_integer (number_from true numeral.now) }
+{
+    match numeral.to_i64(true) {
+        Some(whole) if whole < 0 => Some(whole as i128),
+        _ => None,
+    }
+}
+
+/// The whole number of a numeral without a sign.
+#[tactic(auto, using(crate::proofs::Signs::no_integer))]
+fn integer_not_below_zero(numeral: &Numeral<'_>) -> Option<i128>
+    ensures { result ≡ option_and_then as_integer (number_from false numeral.now) }
+{
+    Some(numeral.to_u64()? as i128)
 }

@@ -5,7 +5,7 @@ ghost use Rattle.json.specs.Value.{items_view, members_view, value_view};
 ghost use Rattle.serde_json.specs.Data.{no_members};
 ghost use Rattle.serde_json.specs.Read.{of_items, of_json, of_members};
 
-use crate::numbers::number_of;
+use crate::numbers::is_in_range;
 use json::Value as Borrowed;
 
 /// Is a borrowed value data? It is, where all its numbers are in the range of floats.
@@ -16,7 +16,7 @@ pub fn is_data(value: &Borrowed<'_>) -> bool
     match value {
         Borrowed::Null => true,
         Borrowed::Bool(_) => true,
-        Borrowed::Number(text) => number_of(text).is_some(),
+        Borrowed::Number(text) => is_in_range(text),
         Borrowed::String(_) => true,
         Borrowed::Array(items) => are_items_data(items),
         Borrowed::Object(members) => are_members_data(members),

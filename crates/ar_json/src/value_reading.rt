@@ -3,8 +3,7 @@
 ghost use Rattle.std.specs.Prelude.{◌≡◌, ◌<◌, ◌≤◌, ◌++◌, ◌∷◌, [], All, IfOk, OnOk, false, length, map, slice_index_or, true};
 ghost use Rattle.ar_json.specs.Private.Needs.{AreNeedsAt, needs_of, needs_view, passed};
 ghost use Rattle.serde_json.specs.Data.{object as json_object};
-ghost use Rattle.serde_json.specs.View.{items_view, members_view, number_view, view};
-ghost use Rattle.serde_json.specs.Find.{as_integer};
+ghost use Rattle.serde_json.specs.View.{items_view, members_view, view};
 ghost use Rattle.ar_value.specs.Answer.{Gives};
 ghost use Rattle.ar_value.specs.DecimalText.{decimal_of};
 ghost use Rattle.ar_value.specs.Fits.{fits};
@@ -24,7 +23,7 @@ use ar_value::names::Names;
 use ar_value::shape::Shape;
 use ar_value::text::Text;
 use ar_value::value::{Fields, Value, Values};
-use serde_json::{Map, Number, Value as Json};
+use serde_json::{Map, Value as Json};
 use std::alloc::{AllocError, AllocFailed, Global};
 use std::fmt;
 use thiserror::Error;
@@ -125,8 +124,8 @@ pub(crate) fn value_under(
 {
     match (shape, json) {
         (Shape::Bool, Json::Bool(boolean)) => Ok(Value::Bool(*boolean)),
-        (Shape::Whole, Json::Number(number)) => whole(number),
-        (Shape::Decimal, Json::Number(number)) => decimal_of_whole(number),
+        (Shape::Whole, Json::Number(number)) => whole_of(number.as_i128()),
+        (Shape::Decimal, Json::Number(number)) => decimal_of_whole(number.as_i128()),
         (Shape::Decimal, Json::String(text)) => decimal_of_text(text.as_str()),
         (Shape::Text, Json::String(text)) => Ok(Value::Text(Text::of(alloc, text.as_str())?)),
         (Shape::List { item, max }, Json::Array(items)) => {
@@ -318,22 +317,31 @@ fn passed(required: &[usize], next: usize, index: usize) -> Result<usize, ShapeF
     }
 }
 
-fn whole(number: &Number) -> Result<Value, ShapeFault>
-    ensures { Gives (λ _. false) value_view result (read_whole (as_integer (number_view number.now))) }
+/// The whole that an integer of 64 bits is, with a sign or without; any other number is none.
+///
+/// # Errors
+///
+/// `FloatNumber` where there is no integer; `OutOfRange` where it doesn't fit a signed 64-bit number.
+pub fn whole_of(integer: Option<i128>) -> Result<Value, ShapeFault>
+    ensures { Gives (λ _. false) value_view result (read_whole integer) }
 {
-    let whole = number.as_i128().ok_or(ShapeFault::FloatNumber)?;
-    match i64::try_from(whole) {
+    match i64::try_from(integer.ok_or(ShapeFault::FloatNumber)?) {
         Ok(whole) => Ok(Value::Whole(whole)),
         Err(_) => Err(ShapeFault::OutOfRange),
     }
 }
 
+/// The decimal that an integer of 64 bits is, with a sign or without; any other number is none.
+///
+/// # Errors
+///
+/// `FloatNumber` where there is no integer; `OutOfRange` where its millionths don't fit a signed
+/// 64-bit number.
 #[tactic(auto, using(crate::proofs::Wholes::whole_outside, crate::proofs::Wholes::millionths_outside, crate::proofs::Wholes::millionths_inside))]
-fn decimal_of_whole(number: &Number) -> Result<Value, ShapeFault>
-    ensures { Gives (λ _. false) value_view result (whole_as_millionths (as_integer (number_view number.now))) }
+pub fn decimal_of_whole(integer: Option<i128>) -> Result<Value, ShapeFault>
+    ensures { Gives (λ _. false) value_view result (whole_as_millionths integer) }
 {
-    let whole = number.as_i128().ok_or(ShapeFault::FloatNumber)?;
-    let Ok(whole) = i64::try_from(whole) else {
+    let Ok(whole) = i64::try_from(integer.ok_or(ShapeFault::FloatNumber)?) else {
         return Err(ShapeFault::OutOfRange);
     };
     match Decimal::of_whole(whole) {
