@@ -1,1 +1,2 @@
 mod Measures
+mod Numbers

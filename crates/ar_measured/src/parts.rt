@@ -7,13 +7,15 @@ ghost use Rattle.serde_json.specs.Read.{number_of, of_json};
 ghost use Rattle.serde_json.specs.View.{view};
 ghost use Rattle.ar_value.specs.Answer.{Gives};
 ghost use Rattle.ar_value.specs.DecimalText.{decimal_of};
+ghost use Rattle.ar_value.specs.Shape.{decimal, whole};
 ghost use Rattle.ar_value.specs.Value.{text};
 ghost use Rattle.ar_value.specs.View.{shape_view, value_view};
-ghost use Rattle.ar_json.specs.Reading.{decimal_of_text, is_memory_under, is_reading_memory, read};
+ghost use Rattle.ar_json.specs.Reading.{decimal_of_text, is_reading_memory, read};
 ghost use Rattle.ar_measured.specs.Private.Measuring.{IsMeasured};
 
-use ar_borrowed::numbers::number_of;
+use ar_borrowed::numbers::integer_of;
 use ar_borrowed::trees::{TreeError, tree_of};
+use ar_json::value_reading::{decimal_of_whole, whole_of};
 use ar_json::{Reader, ShapeFault, read_value};
 use ar_value::decimal::{Decimal, NumberFault};
 use ar_value::shape::Shape;
@@ -42,15 +44,20 @@ pub(crate) fn decimal_value(letters: &str) -> Result<Value, ShapeFault>
     }
 }
 
-/// The value under a shape of a number's text.
-pub(crate) fn number_value(alloc: Global, shape: &Shape, digits: &str) -> Result<Value, ShapeFault>
-    ensures { IsMeasured (is_memory_under (shape_view shape.now)) value_view result
-        (option_map (λ d. read (shape_view shape.now) d) (option_map json_number (number_of digits.now))) }
+/// The whole of a number's text.
+pub(crate) fn whole_value(digits: &str) -> Result<Value, ShapeFault>
+    ensures { IsMeasured (λ _. false) value_view result
+        (option_map (λ d. read whole d) (option_map json_number (number_of digits.now))) }
 {
-    match number_of(digits) {
-        Some(number) => read_value(alloc, &Json::Number(number), shape),
-        None => Err(ShapeFault::OutOfRange),
-    }
+    whole_of(integer_of(digits))
+}
+
+/// The decimal of a number's text.
+pub(crate) fn whole_as_decimal(digits: &str) -> Result<Value, ShapeFault>
+    ensures { IsMeasured (λ _. false) value_view result
+        (option_map (λ d. read decimal d) (option_map json_number (number_of digits.now))) }
+{
+    decimal_of_whole(integer_of(digits))
 }
 
 /// The value under a shape, read by way of a `serde_json` value, and by the reader of the shape where

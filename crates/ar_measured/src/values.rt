@@ -13,7 +13,7 @@ ghost use Rattle.ar_json.specs.Names.{ShapeNamesRise, ValueNamesRise};
 ghost use Rattle.ar_json.specs.Reading.{is_memory_under, is_reading_memory, items_read, list_read, read};
 ghost use Rattle.ar_measured.specs.Private.Measuring.{IsMeasured, inside_lists};
 
-use crate::parts::{decimal_value, number_value, text_value, value_by_tree};
+use crate::parts::{decimal_value, text_value, value_by_tree, whole_as_decimal, whole_value};
 use ar_json::{Reader, ShapeFault};
 use ar_value::shape::Shape;
 use ar_value::value::{Value, Values};
@@ -59,8 +59,8 @@ pub(crate) fn value_under(
 {
     match (shape, json) {
         (Shape::Bool, Borrowed::Bool(boolean)) => Ok(Value::Bool(*boolean)),
-        (Shape::Whole, Borrowed::Number(text)) => number_value(alloc, shape, text),
-        (Shape::Decimal, Borrowed::Number(text)) => number_value(alloc, shape, text),
+        (Shape::Whole, Borrowed::Number(text)) => whole_value(text),
+        (Shape::Decimal, Borrowed::Number(text)) => whole_as_decimal(text),
         (Shape::Decimal, Borrowed::String(text)) => decimal_value(text),
         (Shape::Text, Borrowed::String(text)) => text_value(alloc, text),
         (Shape::List { item, max }, Borrowed::Array(items)) => list_under(
