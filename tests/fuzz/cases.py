@@ -9,7 +9,7 @@ import json
 from answers import answer_of, line_of, read_json_answer
 from bundles import built
 from changes import SPELT, changed_bytes, changed_condition, changed_text
-from documents import (DECIMALS, any_shape, any_value, changed_json, is_plain, nested_shape, random_bundle,
+from documents import (DECIMALS, any_shape, any_value, changed_json, doubled, is_plain, nested_shape, random_bundle,
                        random_metric, shape_json, written)
 from expressions import random_condition
 from generator import changed, random_code
@@ -134,6 +134,8 @@ def document_bytes(source, corpus):
     choice = source.random()
     if choice < 0.4:
         document = changed_json(source, document, source.choice((1, 1, 2, 3)))
+    elif choice < 0.6:
+        document = doubled(source, document, source.choice((0.05, 0.15, 0.4)))
     code = written(source, document).encode('utf-8', 'surrogatepass')
     return changed_bytes(source, code) if choice > 0.8 else code
 

@@ -177,6 +177,21 @@ def random_bundle(source):
     return mixed(source, document, 0.3)
 
 
+def doubled(source, value, share):
+    """A JSON value, a share of whose objects have a member twice, with another value, and their members in any order."""
+    if isinstance(value, list):
+        return [doubled(source, item, share) for item in value]
+    if not isinstance(value, dict):
+        return value
+    members = {name: doubled(source, item, share) for name, item in value.items()}
+    names = [name for name in members if not name.startswith(AGAIN)]
+    if names and source.random() < share:
+        others = (None, 7, True, 'r0', [], {}, source.choice(list(members.values())))
+        members[AGAIN + source.choice(names)] = source.choice(others)
+        return mixed(source, members, 1)
+    return members
+
+
 def random_evaluation(source):
     """A document of `eval`, as JSON."""
     shape = any_shape(source)
