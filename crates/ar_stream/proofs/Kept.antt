@@ -1,5 +1,5 @@
 -- Members that are kept, and all that were read.
-use Rattle.std.proofs.Common.{◌≡◌, ℕ, zero, suc, ◌-◌, ◌<◌, ◌≤◌, Bool, true, false, List, length, Option, Some, None, option_map, Bor, bytes_eq, if◌then◌else◌, true≢false, refl, sym, ap, ◌∙◌, arith}
+use Rattle.std.proofs.Common.{◌≡◌, ℕ, zero, suc, ◌-◌, ◌<◌, ◌≤◌, Bool, true, false, List, length, Option, Some, None, option_map, bytes_eq, if◌then◌else◌, true≢false, refl, sym, ap, ◌∙◌, arith}
 use Rattle.std.proofs.lemmas.Slice.Eq.{bytes_eq-Decides}
 use Rattle.json.specs.Json as json
 use Rattle.json.specs.Json.{Parse, parse_map, read_key, members}
@@ -9,26 +9,42 @@ use Rattle.serde_json.specs.Data.{Data, Members, put}
 use Rattle.serde_json.specs.Find.{get_member}
 use Rattle.serde_json.specs.Read.{converted, of_json, of_members}
 use Rattle.serde_json.proofs.Views.{get_member-put, get_member-put_other}
-use Rattle.ar_stream.specs.Head.{AgreeOn, is_among, with_member}
+use Rattle.ar_stream.specs.Head.{is_among}
+use Rattle.ar_stream.specs.Private.Keeping.{Keeps, kept_at, kept_of, with_member}
+use Rattle.ar_stream.specs.declared.head.Wanted.{Wanted}
 use Rattle.ar_stream.proofs.Turns.{found_some}
 
-module _ (names : List (Bor (List ℕ))) (name : List ℕ) (member : Data) (kept all : Members) (agree : AgreeOn names kept all) where
-  put_both : (other : List ℕ) (same : Bool) → bytes_eq other name ≡ same → is_among names other ≡ true → get_member other (put name member kept) ≡ get_member other (put name member all)
-  put_both other true is named =
-      let equal = (bytes_eq-Decides other name).0 is in
-      rw equal (get_member-put name member kept ∙ sym (get_member-put name member all))
-  put_both other false is named =
-      let differ = λ (equal : other ≡ name). true≢false (sym ((bytes_eq-Decides other name).1 equal) ∙ is) in
-      get_member-put_other other name member kept differ ∙ agree other named ∙ sym (get_member-put_other other name member all differ)
+-- nothing is kept where nothing is found
+pub nothing_kept : (wanted : Wanted) (name : List ℕ) → kept_at wanted name None ≡ None
+nothing_kept wanted name = neither (is_among wanted.names.now name)
+  where
+    neither : (asked : Bool) → ◌≡◌ {A = Option Data} (if asked then None else None) None
+    neither true = refl
+    neither false = refl
 
-  one_more : (asked : Bool) → is_among names name ≡ asked → AgreeOn names (if asked then put name member kept else kept) (put name member all)
-  one_more true is other named = put_both other (bytes_eq other name) refl named
-  one_more false is other named =
-      let differ = λ (equal : other ≡ name). true≢false (sym named ∙ ap (is_among names) equal ∙ is) in
-      agree other named ∙ sym (get_member-put_other other name member all differ)
+module _ (wanted : Wanted) (name : List ℕ) (member : Data) (kept all : Members) (keeps : Keeps wanted kept all) where
+  abbrev kept_if : Bool → Members
+  kept_if asked = if asked then put name (kept_of wanted.picks member) kept else kept
 
-  pub agree_still : AgreeOn names (with_member names name member kept) (put name member all)
-  agree_still = one_more (is_among names name) refl
+  -- at the member's own name
+  here : (asked : Bool) → is_among wanted.names.now name ≡ asked
+      → get_member name (kept_if asked) ≡ (if asked then option_map (kept_of wanted.picks) (get_member name (put name member all)) else None)
+  here true is = get_member-put name (kept_of wanted.picks member) kept ∙ sym (ap (option_map (kept_of wanted.picks)) (get_member-put name member all))
+  here false is = keeps name ∙ rw is refl
+
+  -- at any other
+  elsewhere : (other : List ℕ) (asked : Bool) → (other ≡ name → ⊥) → get_member other (kept_if asked) ≡ kept_at wanted other (get_member other (put name member all))
+  elsewhere other true differ =
+      get_member-put_other other name (kept_of wanted.picks member) kept differ ∙ keeps other ∙ sym (ap (kept_at wanted other) (get_member-put_other other name member all differ))
+  elsewhere other false differ = keeps other ∙ sym (ap (kept_at wanted other) (get_member-put_other other name member all differ))
+
+  at_each : (other : List ℕ) (same : Bool) → bytes_eq other name ≡ same → get_member other (with_member wanted name member kept) ≡ kept_at wanted other (get_member other (put name member all))
+  at_each other true is = rw ((bytes_eq-Decides other name).0 is) (here (is_among wanted.names.now name) refl)
+  at_each other false is =
+      elsewhere other (is_among wanted.names.now name) (λ (equal : other ≡ name). true≢false (sym ((bytes_eq-Decides other name).1 equal) ∙ is))
+
+  pub keeps_still : Keeps wanted (with_member wanted name member kept) (put name member all)
+  keeps_still other = at_each other (bytes_eq other name) refl
 
 -- ---- a turn
 

@@ -2,3 +2,4 @@ mod Turns
 pub mod Kept
 pub mod Taken
 pub mod Whole
+mod Picking

@@ -1,13 +1,45 @@
 -- The items of an array, taken one after another.
-use Rattle.std.proofs.Common.{◌≡◌, ℕ, zero, suc, ◌-◌, ◌<◌, ◌≤◌, List, length, Option, Some, None, refl, ap, ◌∙◌, arith, option_map}
+use Rattle.std.proofs.Common.{◌≡◌, ℕ, zero, suc, ◌-◌, ◌<◌, ◌≤◌, List, [], ◌∷◌, ◌++◌, length, Option, Some, None, refl, ap, ◌∙◌, arith, option_map}
 use Rattle.json.specs.Json as json
-use Rattle.json.specs.Json.{Parse, parse_map, after_end_array, items}
+use Rattle.json.specs.Json.{Parse, parse_map, after_end_array, items, value}
 use Rattle.json.specs.Token.{Token}
-use Rattle.json.proofs.Grammar.{items_end, items_fail, items_more}
-use Rattle.serde_json.specs.Data.{Data, Items, item, no_items}
+use Rattle.json.proofs.Grammar.{items_end, items_fail, items_more, left-parse_map, value-begin_array}
+use Rattle.serde_json.specs.Data.{Data, Items, array, item, no_items}
 use Rattle.serde_json.specs.Read.{converted, of_items, of_json}
+use Rattle.ar_stream.specs.Passing.{after_value, data_at, tokens_left}
+use Rattle.ar_stream.specs.Private.Rest.{after_items}
 use Rattle.ar_stream.proofs.Kept.{no_converted}
-use Rattle.ar_stream.proofs.Turns.{found_some}
+use Rattle.ar_stream.proofs.Turns.{converted_array, found_some}
+
+-- an array that was entered is what the rest of its tokens are
+pub array_at : (levels : ℕ) (old new : List Token) → 0 < levels → old ≡ Token.begin_array ∷ new
+    → data_at levels old ≡ parse_map array (converted of_items (items (value (levels - 1)) (length new) new))
+array_at levels old new some is =
+    ap (data_at levels) is ∙ ap (converted of_json) (value-begin_array levels new some) ∙ converted_array (items (value (levels - 1)) (length new) new)
+
+pub after_array : (levels : ℕ) (old new : List Token) → 0 < levels → old ≡ Token.begin_array ∷ new → after_value levels old ≡ after_items (levels - 1) new
+after_array levels old new some is =
+    ap tokens_left (array_at levels old new some is) ∙ left-parse_map array (converted of_items (items (value (levels - 1)) (length new) new))
+
+-- ---- a list that grows at its end
+
+abbrev pub items_before : List Data → Items → Items
+items_before [] rest = rest
+items_before (first ∷ done) rest = item first (items_before done rest)
+
+pub none_before : (parsed : Option (Items × List Token)) → parsed ≡ parse_map (items_before []) parsed
+none_before None = refl
+none_before (Some pair) = refl
+
+pub before_more : (done : List Data) (one : Data) (rest : Items) → items_before done (item one rest) ≡ items_before (done ++ one ∷ []) rest
+before_more [] one rest = refl
+before_more (first ∷ done) one rest = ap (item first) (before_more done one rest)
+
+pub one_before : (done : List Data) (one : Data) (parsed : Option (Items × List Token)) → parse_map (items_before done) (parse_map (item one) parsed) ≡ parse_map (items_before (done ++ one ∷ [])) parsed
+one_before done one None = refl
+one_before done one (Some pair) = ap (λ items. Some (items, pair.1)) (before_more done one pair.0)
+
+-- ---- a turn
 
 with_item : (made : Data) (left : List Token) (others : Option Items)
     → option_map {U = Items × List Token} (λ found. (found, left)) (option_map (item made) others) ≡ parse_map (item made) (option_map {U = Items × List Token} (λ found. (found, left)) others)

@@ -1,10 +1,10 @@
 -- What is passed of a text's tokens: a value whose numbers are in range, and what comes after it.
-use Rattle.std.specs.Prelude.{◌≡◌, ◌-◌, ◌<◌, ℕ, List, ◌∷◌, length, Option, Some, None, option_map}
-use Rattle.json.specs.Json.{items, members, parse_map, value}
+use Rattle.std.specs.Prelude.{◌≡◌, ◌<◌, ℕ, List, ◌∷◌, Option, Some, None, option_map}
+use Rattle.json.specs.Json.{value}
 use Rattle.json.specs.Token.{Token}
-use Rattle.serde_json.specs.Data.{Data, array, no_members, null}
+use Rattle.serde_json.specs.Data.{Data, null}
 use Rattle.serde_json.specs.Find.{as_array, as_null}
-use Rattle.serde_json.specs.Read.{converted, of_items, of_json, of_members}
+use Rattle.serde_json.specs.Read.{converted, of_json}
 use Rattle.ar_stream.specs.declared.passing.Entered.{Entered}
 use Rattle.ar_stream.specs.declared.passing.Entered.TheVariants as entered
 
@@ -19,15 +19,6 @@ tokens_left found = option_map (λ pair. pair.1) found
 abbrev pub after_value : (levels : ℕ) → List Token → Option (List Token)
 after_value levels tokens = tokens_left (data_at levels tokens)
 
--- the tokens after the rest of an array
-abbrev pub after_items : (levels : ℕ) → List Token → Option (List Token)
-after_items levels tokens = tokens_left (converted of_items (items (value levels) (length tokens) tokens))
-
--- the tokens after the rest of an object
-abbrev pub after_members : (levels : ℕ) → List Token → Option (List Token)
-after_members levels tokens =
-    tokens_left (converted (λ found. of_members found no_members) (members (value levels) (length tokens) tokens))
-
 -- data that is neither an array nor null, and the tokens after it
 pub record IsOther (levels : ℕ) (old new : List Token) : Type 0 where
   pub is : Data
@@ -37,9 +28,7 @@ pub record IsOther (levels : ℕ) (old new : List Token) : Type 0 where
 
 -- the tokens that are left where an array was entered, or any other value was passed over
 abbrev pub Enters : (levels : ℕ) → List Token → Entered → List Token → Type 0
-Enters levels old entered.Array new =
-    (0 < levels)
-    × (data_at levels old ≡ parse_map array (converted of_items (items (value (levels - 1)) (length new) new)))
+Enters levels old entered.Array new = (0 < levels) × (old ≡ Token.begin_array ∷ new)
 Enters levels old entered.Null new = data_at levels old ≡ Some (null, new)
 Enters levels old entered.Other new = IsOther levels old new
 

@@ -1,8 +1,9 @@
 //! Values that are passed over.
 
-ghost use Rattle.std.specs.Prelude.{◌≡◌, ◌<◌, ◌∷◌, MatchResult, None, OnOk, Some, false, length, true};
+ghost use Rattle.std.specs.Prelude.{◌≡◌, ◌<◌, ◌∷◌, MatchResult, None, OnOk, Some, drop, false, length, true};
 ghost use Rattle.json.specs.Token as token;
-ghost use Rattle.ar_stream.specs.Passing.{BeginsNoObject, Enters, after_items, after_members, after_value, data_at};
+ghost use Rattle.ar_stream.specs.Passing.{BeginsNoObject, Enters, after_value, data_at};
+ghost use Rattle.ar_stream.specs.Private.Rest.{after_items, after_members};
 
 use ar_borrowed::numbers::number_of;
 use json::{Invalid, Reader, Token};
@@ -56,7 +57,7 @@ pub fn enter(reader: &mut Reader<'_>, levels: usize) -> Result<Entered, Invalid>
 /// Enters an object, if one comes next, and takes a token of anything else.
 pub fn enter_object(reader: &mut Reader<'_>) -> bool
     ensures object { result ≡ true → reader.old ≡ token.begin_object ∷ reader.new }
-    ensures other { result ≡ false → BeginsNoObject reader.old }
+    ensures other { result ≡ false → BeginsNoObject reader.old × (reader.new ≡ drop 1 reader.old) }
 {
     matches!(reader.next(), Some(Token::BeginObject))
 }

@@ -1,6 +1,7 @@
 //! Trees of single values, which own their texts or borrow them.
 
 ghost use Rattle.std.specs.Prelude.{◌≡◌, ◌<◌, IfOk, None, OnOk, Some, length};
+ghost use Rattle.json.specs.Json.{value};
 ghost use Rattle.json.specs.Value.{value_view};
 ghost use Rattle.serde_json.specs.Data.{Data};
 ghost use Rattle.serde_json.specs.Read.{of_json};
@@ -48,8 +49,9 @@ pub fn read_borrowed<'a>(
     reader: &mut Reader<'a>,
     levels: usize,
 ) -> Result<Borrowed<'a>, StreamError>
-    ensures read { IfOk result (λ value. (made : Data) × (of_json (value_view value) ≡ Some made)
+    ensures read { IfOk result (λ tree. (made : Data) × (of_json (value_view tree) ≡ Some made)
         × (data_at levels reader.old ≡ Some (made, reader.new))) }
+    ensures tree { IfOk result (λ tree. value levels reader.old ≡ Some (value_view tree, reader.new)) }
     ensures refused { IfRefused is_stream_memory result (λ _. data_at levels reader.old ≡ None) }
     ensures shorter { OnOk result (length reader.new < length reader.old) }
 {

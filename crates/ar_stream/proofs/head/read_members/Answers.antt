@@ -1,4 +1,4 @@
-use Rattle.std.proofs.Common.{◌≡◌, ◌-◌, length, Some, refl, ap, ◌∙◌, arith}
+use Rattle.std.proofs.Common.{◌≡◌, ◌-◌, length, Some, refl, sym, ap, ◌∙◌, arith}
 use Rattle.std.proofs.lemmas.Result.{err_from_is_err_and}
 use Rattle.json.specs.Json.{read_key, value}
 use Rattle.json.proofs.Grammar.{read_key-shorter}
@@ -7,7 +7,7 @@ use Rattle.serde_json.specs.Find.{get_member}
 use Rattle.serde_json.specs.View.{members_view}
 use Rattle.ar_value.proofs.Steps.{leads}
 use Rattle.ar_stream.specs.Error.{is_stream_memory}
-use Rattle.ar_stream.proofs.Kept.{agree_still, member_read, member_refused, members_read, no_name}
+use Rattle.ar_stream.proofs.Kept.{keeps_still, member_read, member_refused, members_read, no_name, nothing_kept}
 use Rattle.ar_stream.proofs.head.read_members.Goals as goal
 
 pub members-init : goal.members-init
@@ -16,7 +16,7 @@ members-init c = (
   omega arith,
   no_members,
   refl,
-  λ name among. ap (λ entries. get_member name (members_view entries)) c.new-kept.ensures.empty,
+  λ name. ap (λ entries. get_member name (members_view entries)) c.new-kept.ensures.empty ∙ sym (nothing_kept c.args.wanted.now name),
 )
 
 pub returns-in_err-name-clause-refused : goal.returns-in_err-name-clause-refused
@@ -37,7 +37,7 @@ members-preserved c =
       put c.in-Some.name.now read.0 l.invariant.2,
       l.invariant.3
           ∙ member_read (value c.args.levels) l.invariant.2 l.invariant.0 _ l.reader c.next_key.new.self _ read.0 (omega (arith, l.invariant.1)) named read.1,
-      rw read.2 (agree_still c.args.names.now c.in-Some.name.now read.0 (members_view l.kept.entries) l.invariant.2 l.invariant.4),
+      rw read.2 (keeps_still c.args.wanted.now c.in-Some.name.now read.0 (members_view l.kept.entries) l.invariant.2 l.invariant.4),
     )
 
 pub returns-in_err-read_member-clause-refused : goal.returns-in_err-read_member-clause-refused

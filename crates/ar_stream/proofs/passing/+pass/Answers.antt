@@ -1,13 +1,14 @@
 use Rattle.std.proofs.Common.{◌≡◌, ◌-◌, ◌<◌, [], ◌∷◌, length, Some, None, refl, ap, ap₂, ◌∙◌, arith}
-use Rattle.json.specs.Json.{after_end_array, items, members, read_key, value}
+use Rattle.json.specs.Json.{after_end_array, members, read_key, value}
 use Rattle.json.specs.Reads.{token_of}
 use Rattle.json.specs.Token.{Token}
-use Rattle.json.proofs.Grammar.{read_key-shorter, value-begin_array, value-begin_object, value_is}
+use Rattle.json.proofs.Grammar.{read_key-shorter, value-begin_object, value_is}
 use Rattle.serde_json.specs.Data.{no_members, number, object}
 use Rattle.serde_json.specs.Read.{converted, of_json, of_members}
 use Rattle.serde_json.specs.View.{number_view}
 use Rattle.ar_stream.specs.Passing.{data_at}
-use Rattle.ar_stream.proofs.Turns.{converted_array, found_of, no_object, object_found, item_passed, item_stuck, items_passed, member_passed, member_stuck, members_passed, no_key}
+use Rattle.ar_stream.proofs.Taken.{after_array}
+use Rattle.ar_stream.proofs.Turns.{found_of, no_object, object_found, item_passed, item_stuck, items_passed, member_passed, member_stuck, members_passed, no_key}
 use Rattle.ar_stream.proofs.passing.+pass.Goals as goal
 
 -- ---- the rest of an array
@@ -79,6 +80,11 @@ pass_members-returns-clause-value t c =
 
 -- ---- a value
 
+pub pass_value-returns-in-Array-clause-value : goal.pass_value-returns-in-Array-clause-value
+pass_value-returns-in-Array-clause-value t c =
+    let entered = rw c.in-Array.is at c.in_ok-enter.ensures.value in
+    rw (after_array c.args.levels c.args.reader.now c.enter.new.reader entered.0 entered.1) c.pass_items.ensures.value
+
 pub enter-returns-in_err-token-clause-value : goal.enter-returns-in_err-token-clause-value
 enter-returns-in_err-token-clause-value t c =
     let empty : c.args.reader.now ≡ [] = grind arith in
@@ -134,11 +140,7 @@ enter-returns-then-levels-eq0-clause-value t c =
 pub enter-returns-else-levels-eq0-clause-value : goal.enter-returns-else-levels-eq0-clause-value
 enter-returns-else-levels-eq0-clause-value t c =
     let first : c.args.reader.now ≡ token_of c.in_ok-token.token ∷ c.next.new.self = grind arith in
-    let opened = first ∙ ap (λ token. token_of token ∷ c.next.new.self) c.in-BeginArray.is in (
-      omega arith,
-      ap (data_at c.args.levels) opened ∙ ap (converted of_json) (value-begin_array c.args.levels c.next.new.self (omega arith))
-          ∙ converted_array (items (value (c.args.levels - 1)) (length c.next.new.self) c.next.new.self),
-    )
+    (omega arith, first ∙ ap (λ token. token_of token ∷ c.next.new.self) c.in-BeginArray.is)
 
 pub enter-returns-then-levels-eq0-2-clause-value : goal.enter-returns-then-levels-eq0-2-clause-value
 unfolding value

@@ -2,7 +2,8 @@ use Rattle.std.proofs.Common.{◌≡◌, ℕ, ◌+◌, ◌*◌, ◌≤◌, lengt
 use Rattle.json.specs.Json.{items, members, value}
 use Rattle.serde_json.specs.Data.{no_members}
 use Rattle.serde_json.specs.Read.{converted, of_items, of_members}
-use Rattle.ar_stream.specs.Passing.{after_items, after_members, tokens_left}
+use Rattle.ar_stream.specs.Passing.{tokens_left}
+use Rattle.ar_stream.specs.Private.Rest.{after_items, after_members}
 use Rattle.ar_stream.proofs.passing.+pass.Given as goal
 
 abbrev pub decreases-pass_items : goal.decreases-pass_items

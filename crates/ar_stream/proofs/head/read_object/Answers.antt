@@ -10,7 +10,7 @@ use Rattle.ar_value.proofs.Steps.{leads}
 use Rattle.ar_stream.specs.Error.{is_stream_memory}
 use Rattle.ar_stream.specs.Passing.{data_at}
 use Rattle.ar_stream.proofs.Whole.{more_after, no_object_at, nothing_read, object_at, whole_read}
-use Rattle.ar_stream.proofs.head.object_head.Goals as goal
+use Rattle.ar_stream.proofs.head.read_object.Goals as goal
 
 pub returns-in_err-members-clause-refused : goal.returns-in_err-members-clause-refused
 returns-in_err-members-clause-refused c =
@@ -33,5 +33,5 @@ returns-in-None-clause-object c =
     record {
       document = object read.0;
       is_read = whole_read c.args.text.now (object read.0) (ap (data_at 127) first ∙ object_at c.enter_object.new.reader [] read.0 (rw (c.in-None.ensures.value.0) at read.1));
-      agrees = λ name among. ap (get name) (view-Object c.in_ok-members.members) ∙ read.2 name among;
+      keeps = λ name. ap (get name) (view-Object c.in_ok-members.members) ∙ read.2 name;
     }

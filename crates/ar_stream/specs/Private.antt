@@ -1,0 +1,3 @@
+-- Definitions of private contracts, which follow the code: a reader need not believe them.
+pub mod Keeping
+pub mod Rest
