@@ -1,5 +1,5 @@
 -- What is passed, a turn at a time.
-use Rattle.std.proofs.Common.{◌≡◌, ℕ, zero, suc, ◌-◌, ◌<◌, ◌≤◌, List, length, Option, Some, None, option_map, option_and_then, refl, ap, ◌∙◌, arith}
+use Rattle.std.proofs.Common.{true, false, is_some, ◌≡◌, ℕ, zero, suc, ◌-◌, ◌<◌, ◌≤◌, List, length, Option, Some, None, option_map, option_and_then, refl, ap, ◌∙◌, arith}
 use Rattle.json.specs.Json as json
 use Rattle.json.specs.Json.{Parse, parse_map, after_end_array, read_key, items, members}
 use Rattle.json.specs.Token.{Token}
@@ -39,6 +39,14 @@ found_of f parsed rest some =
 no_data : {B : Type 0} (left : List Token) (made : Option B) → tokens_left (option_map {U = B × List Token} (λ found. (found, left)) made) ≡ None → made ≡ None
 no_data left None none = refl
 no_data left (Some made) none = absurd (cc)
+
+pub some_is : {A : Type 0} (found : Option A) → is_some found ≡ true → (made : A) × (found ≡ Some made)
+some_is None none = absurd (cc)
+some_is (Some made) some = (made, refl)
+
+pub none_is : {A : Type 0} (found : Option A) → is_some found ≡ false → found ≡ None
+none_is None none = refl
+none_is (Some made) some = absurd (cc)
 
 -- ---- under a constructor
 

@@ -5,7 +5,7 @@ ghost use Rattle.json.specs.Token as token;
 ghost use Rattle.ar_stream.specs.Passing.{BeginsNoObject, Enters, after_value, data_at};
 ghost use Rattle.ar_stream.specs.Private.Rest.{after_items, after_members};
 
-use ar_borrowed::numbers::number_of;
+use ar_borrowed::numbers::is_in_range;
 use json::{Invalid, Reader, Token};
 
 /// What a reader entered or passed over.
@@ -35,9 +35,10 @@ pub fn enter(reader: &mut Reader<'_>, levels: usize) -> Result<Entered, Invalid>
         Token::Null => Ok(Entered::Null),
         Token::String(_) => Ok(Entered::Other),
         Token::Bool(_) => Ok(Entered::Other),
-        Token::Number(text) => match number_of(text) {
-            Some(_) => Ok(Entered::Other),
-            None => Err(Invalid),
+        Token::Number(text) => if is_in_range(text) {
+            Ok(Entered::Other)
+        } else {
+            Err(Invalid)
         },
         Token::EndObject | Token::EndArray | Token::Key(_) | Token::Bad => Err(Invalid),
         Token::BeginArray => if levels == 0 {

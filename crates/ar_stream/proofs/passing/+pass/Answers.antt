@@ -1,14 +1,13 @@
-use Rattle.std.proofs.Common.{◌≡◌, ◌-◌, ◌<◌, [], ◌∷◌, length, Some, None, refl, ap, ap₂, ◌∙◌, arith}
+use Rattle.std.proofs.Common.{true, false, is_some, option_map, List, ◌≡◌, ◌-◌, ◌<◌, [], ◌∷◌, length, Some, None, refl, ap, ap₂, ◌∙◌, arith}
 use Rattle.json.specs.Json.{after_end_array, members, read_key, value}
 use Rattle.json.specs.Reads.{token_of}
 use Rattle.json.specs.Token.{Token}
 use Rattle.json.proofs.Grammar.{read_key-shorter, value-begin_object, value_is}
-use Rattle.serde_json.specs.Data.{no_members, number, object}
-use Rattle.serde_json.specs.Read.{converted, of_json, of_members}
-use Rattle.serde_json.specs.View.{number_view}
+use Rattle.serde_json.specs.Data.{Data, no_members, number, object}
+use Rattle.serde_json.specs.Read.{converted, number_of, of_json, of_members}
 use Rattle.ar_stream.specs.Passing.{data_at}
 use Rattle.ar_stream.proofs.Taken.{after_array}
-use Rattle.ar_stream.proofs.Turns.{found_of, no_object, object_found, item_passed, item_stuck, items_passed, member_passed, member_stuck, members_passed, no_key}
+use Rattle.ar_stream.proofs.Turns.{found_of, no_object, object_found, item_passed, item_stuck, items_passed, member_passed, member_stuck, members_passed, no_key, none_is, some_is}
 use Rattle.ar_stream.proofs.passing.+pass.Goals as goal
 
 -- ---- the rest of an array
@@ -108,22 +107,26 @@ enter-returns-in-Bool-clause-value t c =
     let is : c.args.reader.now ≡ Token.boolean c.in-Bool.field-0 ∷ c.next.new.self = grind (arith, first) in
     record { is = _; found = ap (converted of_json) (ap (value c.args.levels) is ∙ value_is c.args.levels _); no_array = refl; no_null = refl }
 
-pub enter-returns-in-Some-clause-value : goal.enter-returns-in-Some-clause-value
-enter-returns-in-Some-clause-value t c =
+pub enter-returns-then-is_in_range-clause-value : goal.enter-returns-then-is_in_range-clause-value
+enter-returns-then-is_in_range-clause-value t c =
     let first : c.args.reader.now ≡ token_of c.in_ok-token.token ∷ c.next.new.self = grind arith in
     let is : c.args.reader.now ≡ Token.number c.in-Number.text.now ∷ c.next.new.self = grind (arith, first) in
+    let in_range : is_some (number_of c.in-Number.text.now) ≡ true = grind arith in
+    let made = some_is (number_of c.in-Number.text.now) in_range in
     record {
-      is = number (number_view c.in-Some.field-0);
-      found = ap (converted of_json) (ap (value c.args.levels) is ∙ value_is c.args.levels _) ∙ rw (← c.in-Some.ensures) refl;
+      is = number made.0;
+      found = ap (converted of_json) (ap (value c.args.levels) is ∙ value_is c.args.levels _)
+          ∙ ap (λ found. option_map {U = Data × List Token} (λ value. (value, c.next.new.self)) (option_map number found)) made.1;
       no_array = refl;
       no_null = refl;
     }
 
-pub enter-returns-in-None-clause-value : goal.enter-returns-in-None-clause-value
-enter-returns-in-None-clause-value t c =
+pub enter-returns-else-is_in_range-clause-value : goal.enter-returns-else-is_in_range-clause-value
+enter-returns-else-is_in_range-clause-value t c =
     let first : c.args.reader.now ≡ token_of c.in_ok-token.token ∷ c.next.new.self = grind arith in
     let is : c.args.reader.now ≡ Token.number c.in-Number.text.now ∷ c.next.new.self = grind (arith, first) in
-    ap (converted of_json) (ap (value c.args.levels) is ∙ value_is c.args.levels _) ∙ rw (← c.in-None.ensures) refl
+    let outside : is_some (number_of c.in-Number.text.now) ≡ false = grind arith in
+    ap (converted of_json) (ap (value c.args.levels) is ∙ value_is c.args.levels _) ∙ rw (none_is (number_of c.in-Number.text.now) outside) refl
 
 pub enter-returns-in-EndObject-clause-value : goal.enter-returns-in-EndObject-clause-value
 enter-returns-in-EndObject-clause-value t c =
