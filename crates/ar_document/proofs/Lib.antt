@@ -11,5 +11,6 @@ mod Bundling
 mod Answering
 mod Measuring
 mod Inputs
+mod Unfit
 pub mod OneAnswer
 pub mod Earlier

@@ -4,17 +4,19 @@ use Rattle.std.specs.Prelude.{IfOk, codes, nat_lt}
 use Rattle.std.proofs.lemmas.Bool.Decides.{nat_tests}
 use Rattle.json.specs.Json.{after_end_array, items, parse_map, value}
 use Rattle.json.specs.Token.{Token}
-use Rattle.serde_json.specs.Data.{Data, Items, Members, item, no_items, object, put}
+use Rattle.serde_json.specs.Data.{Data, Items, Members, array, no_items, object, put}
 use Rattle.serde_json.specs.Find.{get, get_member}
 use Rattle.serde_json.specs.Read.{converted, of_items}
 use Rattle.serde_json.proofs.Views.{get_member-put, get_member-put_other}
-use Rattle.ar_value.specs.Answer.{◌>>=◌, Gives, each_after}
+use Rattle.ar_value.specs.Answer.{◌>>=◌, Gives, IfRefused, each_after}
 use Rattle.ar_bundle.specs.declared.bundle.EventPart.{EventPart}
-use Rattle.ar_value.proofs.Steps.{refuses_same}
+use Rattle.ar_value.proofs.Steps.{leads, refuses_same}
 use Rattle.ar_json.specs.Members.{listed, unless_null}
 use Rattle.ar_limits.specs.Replay.{most_events}
 use Rattle.ar_stream.specs.Passing.{data_at}
-use Rattle.ar_stream.proofs.Taken.{item_read}
+use Rattle.ar_stream.specs.Error.{is_stream_memory}
+use Rattle.ar_stream.specs.declared.error.StreamError.{StreamError}
+use Rattle.ar_stream.proofs.Taken.{array_at, item_read, items_before, one_before}
 use Rattle.ar_document.specs.Document.{is_bundle_memory}
 use Rattle.ar_document.specs.Entries.{Entry, entries_in, entries_of_list, entries_given, entry_in, entry_view, few_entries}
 use Rattle.ar_document.specs.Opening.{Opened as Parts}
@@ -26,22 +28,6 @@ use Rattle.ar_document.specs.declared.measurements.Listed.{Listed}
 use Rattle.ar_document.specs.declared.opening.Opened.{Opened}
 
 -- ---- a list that grows at its end
-
-abbrev pub items_before : List Data → Items → Items
-items_before [] rest = rest
-items_before (first ∷ done) rest = item first (items_before done rest)
-
-pub none_before : (parsed : Option (Items × List Token)) → parsed ≡ parse_map (items_before []) parsed
-none_before None = refl
-none_before (Some pair) = refl
-
-before_more : (done : List Data) (one : Data) (rest : Items) → items_before done (item one rest) ≡ items_before (done ++ one ∷ []) rest
-before_more [] one rest = refl
-before_more (first ∷ done) one rest = ap (item first) (before_more done one rest)
-
-pub one_before : (done : List Data) (one : Data) (parsed : Option (Items × List Token)) → parse_map (items_before done) (parse_map (item one) parsed) ≡ parse_map (items_before (done ++ one ∷ [])) parsed
-one_before done one None = refl
-one_before done one (Some pair) = ap (λ items. Some (items, pair.1)) (before_more done one pair.0)
 
 pub all_before : (done : List Data) → listed (items_before done no_items) ≡ done
 all_before [] = refl
@@ -208,6 +194,18 @@ one_listed opened levels first now taken later so_far next made going read short
     )
 
 -- ---- measurements that are there or not
+
+module _ (levels : ℕ) (first rest : List Token) (some : 0 < levels) (begins : first ≡ Token.begin_array ∷ rest) where
+  pub list_given : (opened : Opened) (left : List Token) (result : Result (Result (Vec EventPart Global) BundleError) StreamError)
+      → IfOk result (λ entries. (list : Items) × (converted of_items (items (value (levels - 1)) (length rest) rest) ≡ Some (list, left)) × IsRead opened (entries_of_list (opened_view opened) (listed list)) entries)
+      → IfOk result (λ entries. (given : Data) × (data_at levels first ≡ Some (given, left)) × IsRead opened (entries_given (opened_view opened) (unless_null (Some given))) entries)
+  list_given opened left (Ok entries) read = (array read.0, array_at levels first rest some begins ∙ ap (parse_map array) read.1, read.2)
+  list_given opened left (Err error) read = tt
+
+  pub list_refused : {A : Type 0} (result : Result A StreamError) → IfRefused is_stream_memory result (λ error. converted of_items (items (value (levels - 1)) (length rest) rest) ≡ None)
+      → IfRefused is_stream_memory result (λ error. data_at levels first ≡ None)
+  list_refused (Ok entries) refused = tt
+  list_refused (Err error) refused = leads (is_stream_memory error) (λ none. array_at levels first rest some begins ∙ ap (parse_map array) none) refused
 
 pub none_given : (opened : Opened) (found : Vec EventPart Global) → found.items ≡ [] → IsRead opened (entries_given (opened_view opened) None) (Ok found)
 unfolding each_after

@@ -3,4 +3,5 @@ pub mod Opening
 pub mod Parts
 pub mod Entries
 pub mod Document
+pub mod Misfits
 pub mod Refusals

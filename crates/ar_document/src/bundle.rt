@@ -10,6 +10,7 @@ ghost use Rattle.ar_json.specs.declared.document.JsonError.TheVariants as json_e
 ghost use Rattle.ar_limits.specs.Replay.{most_events};
 ghost use Rattle.ar_document.specs.Document.{IsHeadOf, Reads, ReadsInput, is_bundle_memory};
 ghost use Rattle.ar_document.specs.Entries.{entries_in, entry_view};
+ghost use Rattle.ar_document.specs.Misfits.{IsNoDocument};
 ghost use Rattle.ar_document.specs.Parts.{HaveParts};
 ghost use Rattle.ar_document.specs.Private.Made.{RefusesMade};
 ghost use Rattle.ar_document.specs.Private.Measured.{AreEntries};
@@ -66,10 +67,11 @@ fn bundle_of(
 }
 
 /// The text of an input that isn't too large.
-fn text_of(input: &[u8]) -> Result<&str, BundleError>
+pub(crate) fn text_of(input: &[u8]) -> Result<&str, BundleError>
     ensures text { IfOk result (λ text. text.now ≡ input.now) }
     ensures json { IfOk result (λ _. json_in input.now ≡ there_or json_errors.Utf8OrJson (read input.now)) }
     ensures refused { IfErr result (λ error. ReadsInput input.now (Err error)) }
+    ensures none { IfErr result (IsNoDocument input.now) }
     ensures too_large { most_bytes < length input.now → result ≡ Err TooLarge }
 {
     if input.len() > MOST_BYTES {

@@ -1,4 +1,4 @@
-use Rattle.std.proofs.Common.{arith}
+use Rattle.std.proofs.Common.{arith, refl}
 use Rattle.ar_json.specs.declared.document.JsonError.TheVariants.{TooLarge, Utf8OrJson}
 use Rattle.ar_document.proofs.Inputs.{no_text, of_text, refused, too_large}
 use Rattle.ar_document.proofs.bundle.text_of.Goals as goal
@@ -11,3 +11,9 @@ returns-in-Ok-clause-json c = of_text c.args.input.now (omega arith) c.in-Ok.ens
 
 pub returns-in-Err-clause-refused : goal.returns-in-Err-clause-refused
 returns-in-Err-clause-refused c = refused c.args.input.now Utf8OrJson (no_text c.args.input.now (omega arith) c.in-Err.ensures)
+
+pub returns-then-input-gt-MOST_BYTES-clause-none : goal.returns-then-input-gt-MOST_BYTES-clause-none
+returns-then-input-gt-MOST_BYTES-clause-none c = record { cause = TooLarge; is_none = too_large c.args.input.now (omega arith); named = refl }
+
+pub returns-in-Err-clause-none : goal.returns-in-Err-clause-none
+returns-in-Err-clause-none c = record { cause = Utf8OrJson; is_none = no_text c.args.input.now (omega arith) c.in-Err.ensures; named = refl }

@@ -14,7 +14,7 @@ use Rattle.ar_document.proofs.measurements.read_entries.Goals as goal
 
 pub returns-then-not-enter_object-clause-exact : goal.returns-then-not-enter_object-clause-exact
 returns-then-not-enter_object-clause-exact c document is =
-    let other : BeginsNoObject (tokens c.args.text.now) = rw c.in_ok-reader.ensures.ok at (c.if-not-enter_object.ensures.other refl) in
+    let other : BeginsNoObject (tokens c.args.text.now) = rw c.in_ok-reader.ensures.ok at (c.if-not-enter_object.ensures.other refl).0 in
     of_other c.args.opened.now c.new-then-not-enter_object.result document c.new-then-not-enter_object.ensures.items (no_member_of c.args.text.now document (codes "measurements") other is)
 
 pub returns-in-Ok-clause-exact : goal.returns-in-Ok-clause-exact

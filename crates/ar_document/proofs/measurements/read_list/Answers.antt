@@ -4,8 +4,8 @@ use Rattle.json.specs.Json.{after_end_array, parse_map, value}
 use Rattle.serde_json.specs.Data.{no_items}
 use Rattle.ar_value.proofs.Steps.{leads}
 use Rattle.ar_stream.specs.Error.{is_stream_memory}
-use Rattle.ar_stream.proofs.Taken.{item_refused, items_read}
-use Rattle.ar_document.proofs.Measuring.{all_read, items_before, one_listed}
+use Rattle.ar_stream.proofs.Taken.{item_refused, items_before, items_read}
+use Rattle.ar_document.proofs.Measuring.{all_read, one_listed}
 use Rattle.ar_document.proofs.measurements.read_list.Goals as goal
 
 pub returns-in_err-item-clause-refused : goal.returns-in_err-item-clause-refused
