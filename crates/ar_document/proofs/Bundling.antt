@@ -62,10 +62,3 @@ are_runs opened [] [] are = tt
 are_runs opened (run ∷ runs) (part ∷ parts) are = (is_run opened run part are.0, are_runs opened runs parts are.1)
 are_runs opened [] (part ∷ parts) are = absurd are
 are_runs opened (run ∷ runs) [] are = absurd are
-
--- each run has its part
-pub as_many_parts : (opened : Opened) (runs : List Run) (parts : List RunPart) → HaveParts (opened_view opened) runs parts → length parts ≡ length runs
-as_many_parts opened [] [] are = refl
-as_many_parts opened (run ∷ runs) (part ∷ parts) are = ap (λ n. suc n) (as_many_parts opened runs parts are.1)
-as_many_parts opened [] (part ∷ parts) are = absurd are
-as_many_parts opened (run ∷ runs) [] are = absurd are

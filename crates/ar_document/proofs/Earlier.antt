@@ -6,6 +6,7 @@ use Rattle.std.proofs.lemmas.Option.{slice_get-map}
 use Rattle.ar_value.specs.Shape.{Shape}
 use Rattle.ar_value.specs.View.{shape_view}
 use Rattle.ar_manifest.specs.declared.bound.BoundMetric.{BoundMetric}
+use Rattle.ar_manifest.specs.declared.template.Template.{Template}
 use Rattle.ar_judge.specs.Built.{IsBuilt}
 use Rattle.ar_judge.specs.Judging.{condition_as}
 use Rattle.ar_judge.specs.Verdict.{AreBuilt, IsJudge, Judge}
@@ -16,8 +17,7 @@ use Rattle.ar_bundle.specs.declared.bundle.RunPart.{RunPart}
 use Rattle.ar_document.specs.Opening.{Metric, Opened, metric_view}
 use Rattle.ar_document.specs.Parts.{AreJudges, HaveParts}
 use Rattle.ar_document.specs.Private.Earlier.{AllOfTheirTexts, AreOfTheirTexts, IsOfEarlier, IsOfRun}
-use Rattle.ar_document.specs.Private.Opened.{opened_view}
-use Rattle.ar_document.specs.declared.opening.Opened as code
+use Rattle.ar_document.specs.Private.Opened.{opened_with}
 use Rattle.ar_document.specs.declared.runs.Run.{Run}
 
 -- a condition that is built of a text is built of its own
@@ -56,10 +56,10 @@ of_parts opened [] [] are run number metric part p m which condition is = absurd
 of_parts opened [] (one ∷ parts) are run number metric part p m which condition is = absurd are
 of_parts opened (first ∷ runs) [] are run number metric part p m which condition is = absurd are
 
-pub of_their_texts : (opened : code.Opened) (runs : List Run) (parts : List RunPart) → HaveParts (opened_view opened) runs parts → AllOfTheirTexts opened.metrics.items parts
-of_their_texts opened runs parts are = λ number metric m which condition is.
-    let there : slice_get (map metric_view opened.metrics.items) number ≡ Some (metric_view metric) = slice_get-map metric_view opened.metrics.items number ∙ ap (option_map metric_view) m in
-    of_parts (opened_view opened) runs parts are is.run number (metric_view metric) is.part is.part_is there which condition is.is
+pub of_their_texts : (template : Template) (metrics : List MetricPart) (all runs : List Run) (parts : List RunPart) → HaveParts (opened_with template metrics all) runs parts → AllOfTheirTexts metrics parts
+of_their_texts template metrics all runs parts are = λ number metric m which condition is.
+    let there : slice_get (map metric_view metrics) number ≡ Some (metric_view metric) = slice_get-map metric_view metrics number ∙ ap (option_map metric_view) m in
+    of_parts (opened_with template metrics all) runs parts are is.run number (metric_view metric) is.part is.part_is there which condition is.is
 
 -- what an earlier run has of a text is built of it
 pub is_there : (number : ℕ) (metric : MetricPart) (earlier : List RunPart) → AreOfTheirTexts number metric earlier → (which : Which) (text : Option (List ℕ)) (condition : Condition) → IsOfEarlier earlier which number condition

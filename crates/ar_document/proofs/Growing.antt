@@ -1,5 +1,5 @@
 -- Judges of metrics and parts of runs, one after another.
-use Rattle.std.proofs.Common.{◌≡◌, ◌<◌, ◌+◌, ℕ, List, [], ◌∷◌, ◌++◌, length, take, map, get_or, sym, ◌∙◌, ap, add-one}
+use Rattle.std.proofs.Common.{◌≡◌, ◌<◌, ◌+◌, ℕ, suc, List, [], ◌∷◌, ◌++◌, length, take, map, get_or, refl, sym, ◌∙◌, ap, add-one}
 use Rattle.std.specs.List.{AllByRecursion}
 use Rattle.std.proofs.lemmas.List.{map-append}
 use Rattle.std.proofs.Math.Seq.{take-suc}
@@ -36,13 +36,16 @@ next_judge metrics bound judges i metric own judge inside own_inside metric_is o
     let longer : map metric_view (take (i + 1) metrics) ≡ map metric_view (take i metrics) ++ metric_view metric ∷ [] = ap (map metric_view) (taken_next metrics i metric inside metric_is) ∙ map-append metric_view (take i metrics) (metric ∷ []) in
     rw (longer, taken_next bound i own own_inside own_is) (judge_more (map metric_view (take i metrics)) (take i bound) judges (metric_view metric) own judge are is)
 
-part_more : (opened : Opened) (runs : List Run) (parts : List RunPart) (run : Run) (part : RunPart) → HaveParts opened runs parts → IsPart opened run part → HaveParts opened (runs ++ run ∷ []) (parts ++ part ∷ [])
+-- the part of the next run
+pub part_more : (opened : Opened) (runs : List Run) (parts : List RunPart) (run : Run) (part : RunPart) → HaveParts opened runs parts → IsPart opened run part → HaveParts opened (runs ++ run ∷ []) (parts ++ part ∷ [])
 part_more opened [] [] run part are is = (is, tt)
 part_more opened (first ∷ runs) (earlier ∷ parts) run part are is = (are.0, part_more opened runs parts run part are.1 is)
 part_more opened [] (earlier ∷ parts) run part are is = absurd are
 part_more opened (first ∷ runs) [] run part are is = absurd are
 
--- the part of the next run
-pub next_part : (opened : Opened) (runs : List Run) (parts : List RunPart) (i : ℕ) (run : Run) (part : RunPart) → i < length runs → run ≡ get_or runs i run → HaveParts opened (take i runs) parts → IsPart opened run part
-    → HaveParts opened (take (i + 1) runs) (parts ++ part ∷ [])
-next_part opened runs parts i run part inside is are next = rw (taken_next runs i run inside is) (part_more opened (take i runs) parts run part are next)
+-- each run has its part
+pub as_many_parts : (opened : Opened) (runs : List Run) (parts : List RunPart) → HaveParts opened runs parts → length parts ≡ length runs
+as_many_parts opened [] [] are = refl
+as_many_parts opened (run ∷ runs) (part ∷ parts) are = ap (λ n. suc n) (as_many_parts opened runs parts are.1)
+as_many_parts opened [] (part ∷ parts) are = absurd are
+as_many_parts opened (run ∷ runs) [] are = absurd are

@@ -20,7 +20,7 @@ use Rattle.ar_stream.proofs.Taken.{array_at, item_read, items_before, one_before
 use Rattle.ar_document.specs.Document.{is_bundle_memory}
 use Rattle.ar_document.specs.Entries.{Entry, entries_in, entries_of_list, entries_given, entry_in, entry_view, few_entries}
 use Rattle.ar_document.specs.Opening.{Opened as Parts}
-use Rattle.ar_document.specs.Private.Measured.{AreEntries, HasRead, IsRead, IsReadOf, with_one}
+use Rattle.ar_document.specs.Private.Measured.{AreEntries, HasRead, IsRead, IsReadOf, listed_as, with_one}
 use Rattle.ar_document.specs.Private.Opened.{opened_view}
 use Rattle.ar_document.specs.declared.error.BundleError.{BundleError}
 use Rattle.ar_document.specs.declared.error.BundleError.TheVariants.{TooManyMeasurements}
@@ -68,9 +68,6 @@ list_more opened done one few =
     ∙ sym (ap (λ items. (items >>= each_after (entry_in opened) []) >>= λ made. with_one opened made one) (few_are done (omega arith)))
 
 -- ---- what was read of a list, with one more item
-
-abbrev pub listed_as : Result (Vec EventPart Global) BundleError → ℕ → Listed
-listed_as entries left = record { entries = entries; left = left }
 
 abbrev pub seen : Vec EventPart Global → List Entry
 seen found = map entry_view found.items

@@ -1,9 +1,9 @@
 -- Runs whose conditions were bound shortened have the result that they have whole.
 use Rattle.std.proofs.Common.{◌≡◌, ℕ, List, [], ◌∷◌, length, map, take, Option, Some, None, Result, Ok, Err, refl, sym, ◌∙◌, ap, subst}
-use Rattle.std.specs.Prelude.{slice_get, option_map}
+use Rattle.std.specs.Prelude.{IfOk, slice_get, option_map}
 use Rattle.std.proofs.lemmas.List.{length-map, take-map}
 use Rattle.std.proofs.lemmas.Option.{slice_get-map}
-use Rattle.ar_value.specs.Answer.{◌>>=◌}
+use Rattle.ar_value.specs.Answer.{◌>>=◌, IfRefused}
 use Rattle.ar_value.specs.View.{shape_view}
 use Rattle.ar_manifest.specs.Binding.{RunArguments}
 use Rattle.ar_manifest.specs.Bound.{bound_of}
@@ -16,15 +16,15 @@ use Rattle.ar_judge.specs.Verdict.{Judge}
 use Rattle.ar_judge.proofs.Shortened.{judges_whole, refuses_whole}
 use Rattle.ar_limits.specs.declared.limits.Limits.{Limits}
 use Rattle.ar_bundle.specs.declared.bundle.MetricPart.{MetricPart}
-use Rattle.ar_bundle.specs.declared.bundle.RunPart.{RunPart}
 use Rattle.ar_document.specs.Opening.{Metric, Opened as Parts, metric_view}
 use Rattle.ar_document.specs.Parts.{AreJudges, IsPart, RefusesRun, limits_of}
-use Rattle.ar_document.specs.Private.Opened.{opened_view}
-use Rattle.ar_document.specs.Private.Parts.{RefusesJudge, RefusesJudges}
+use Rattle.ar_document.specs.Private.Opened.{opened_with}
+use Rattle.ar_document.specs.Private.Parts.{RefusesJudge, RefusesJudges, part_with}
 use Rattle.ar_document.specs.declared.error.BundleError.{BundleError}
 use Rattle.ar_document.specs.declared.error.BundleError.TheVariants.{Bind, Build}
-use Rattle.ar_document.specs.declared.opening.Opened.{Opened}
 use Rattle.ar_document.specs.declared.runs.Run.{Run}
+use Rattle.ar_value.proofs.Steps.{leads}
+use Rattle.ar_document.specs.Document.{is_bundle_memory}
 use Rattle.ar_document.proofs.Refusing.{run_refused}
 use Rattle.ar_document.proofs.Templates.{bound_many}
 
@@ -64,15 +64,20 @@ are_judges_whole (metric ∷ metrics) [] judges are = absurd are
 are_judges_whole (metric ∷ metrics) (bound ∷ whole) [] are = absurd are
 
 -- a part of a run with shortened conditions is its part
-pub part_whole : (opened : Opened) (run : Run) (bound : List BoundMetric) (part : RunPart) → IsShortened opened.template run.own bound → part.name ≡ run.name → AreJudges (map metric_view opened.metrics.items) bound part.judges
-    → part.limits ≡ map limits_of bound → IsPart (opened_view opened) run part
-part_whole opened run bound part is name are limits = record {
+part_whole : (template : Template) (metrics : List MetricPart) (all : List Run) (run : Run) (bound : List BoundMetric) (judged : List Judge × List Limits) → IsShortened template run.own bound
+    → AreJudges (map metric_view metrics) bound judged.0 → judged.1 ≡ map limits_of bound → IsPart (opened_with template metrics all) run (part_with run judged)
+part_whole template metrics all run bound judged is are limits = record {
   bound = is.whole;
   is_bound = is.is_bound;
-  name = name;
-  judges = are_judges_whole (map metric_view opened.metrics.items) is.whole part.judges (subst (λ (bound : List BoundMetric). AreJudges (map metric_view opened.metrics.items) bound part.judges) is.shorter are);
+  name = refl;
+  judges = are_judges_whole (map metric_view metrics) is.whole judged.0 (subst (λ (bound : List BoundMetric). AreJudges (map metric_view metrics) bound judged.0) is.shorter are);
   limits = limits ∙ ap (map limits_of) is.shorter ∙ same_limits is.whole;
 }
+
+pub judged_whole : (template : Template) (metrics : List MetricPart) (all : List Run) (run : Run) (bound : List BoundMetric) (result : Result (List Judge × List Limits) BundleError) → IsShortened template run.own bound
+    → IfOk result (λ judged. AreJudges (map metric_view metrics) bound judged.0) → IfOk result (λ judged. judged.1 ≡ map limits_of bound) → IfOk result (λ judged. IsPart (opened_with template metrics all) run (part_with run judged))
+judged_whole template metrics all run bound (Ok judged) is are limits = part_whole template metrics all run bound judged is are limits
+judged_whole template metrics all run bound (Err refusal) is are limits = tt
 
 -- ---- refusals
 
@@ -111,8 +116,13 @@ judges_refused run metrics whole error refused =
       refused = judge_refused run refused.number refused.metric own.0 error (subst (λ (bound : BoundMetric). RefusesJudge run refused.number refused.metric bound error) (sym own.2) refused.refused);
     }
 
-pub shortened_refused : (opened : Opened) (number : ℕ) (run : Run) (bound : List BoundMetric) (error : BundleError) → IsShortened opened.template run.own bound → RefusesJudges number opened.metrics.items bound error
-    → RefusesRun (opened_view opened) number run error
-shortened_refused opened number run bound error is refused =
-    run_refused opened number run is.whole error is.is_bound
-    (judges_refused number opened.metrics.items is.whole error (subst (λ (bound : List BoundMetric). RefusesJudges number opened.metrics.items bound error) is.shorter refused))
+shortened_refused : (template : Template) (metrics : List MetricPart) (all : List Run) (number : ℕ) (run : Run) (bound : List BoundMetric) (error : BundleError) → IsShortened template run.own bound → RefusesJudges number metrics bound error
+    → RefusesRun (opened_with template metrics all) number run error
+shortened_refused template metrics all number run bound error is refused =
+    run_refused template metrics all number run is.whole error is.is_bound
+    (judges_refused number metrics is.whole error (subst (λ (bound : List BoundMetric). RefusesJudges number metrics bound error) is.shorter refused))
+
+pub judged_refused : {A : Type 0} (template : Template) (metrics : List MetricPart) (all : List Run) (number : ℕ) (run : Run) (bound : List BoundMetric) (result : Result A BundleError) → IsShortened template run.own bound
+    → IfRefused is_bundle_memory result (RefusesJudges number metrics bound) → IfRefused is_bundle_memory result (RefusesRun (opened_with template metrics all) number run)
+judged_refused template metrics all number run bound (Ok judged) is refused = tt
+judged_refused template metrics all number run bound (Err refusal) is refused = leads (is_bundle_memory refusal) (shortened_refused template metrics all number run bound refusal is) refused

@@ -1,5 +1,5 @@
 -- The bundle of a document, or why it is none: the first fault, in the order in which its parts appear here.
-use Rattle.std.specs.Prelude.{◌≡◌, Bool, true, false, List, map, codes, Result, Ok, Err}
+use Rattle.std.specs.Prelude.{◌≡◌, Bool, true, false, List, map, codes, None, Result, Ok, Err}
 use Rattle.ar_value.specs.Terms.{Bytes}
 use Rattle.serde_json.specs.Data.{Data}
 use Rattle.serde_json.specs.Find.{get}
@@ -37,11 +37,12 @@ abbrev pub Reads : Data → Result Bundle BundleError → Type 0
 Reads document (Ok bundle) = IsBundleOf document bundle
 Reads document (Err error) = IsFaultOf document error
 
--- what comes before the entries of a document is the same in its head
+-- what comes before the entries of a document is the same in its head, which has no entries
 pub record IsHeadOf (document head : Data) : Type 0 where
   pub manifest : get (codes "manifest") head ≡ get (codes "manifest") document
   pub shapes : get (codes "shapes") head ≡ get (codes "shapes") document
   pub runs : get (codes "runs") head ≡ get (codes "runs") document
+  pub measurements : get (codes "measurements") head ≡ None
 
 -- faults of JSON, as they are returned
 abbrev pub bundle_json_error : JsonError → BundleError

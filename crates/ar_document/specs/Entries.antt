@@ -123,7 +123,7 @@ few_entries items = if nat_lt most_events (length items) then Err TooManyMeasure
 abbrev pub entries_of_list : Opened → List Data → Result (List Entry) BundleError
 entries_of_list opened items = few_entries items >>= each_after (entry_in opened) []
 
--- what is there as `measurements`, or isn't
+-- the entries of what is there as `measurements`, or none where nothing is, or their first fault
 abbrev pub entries_given : Opened → Option Data → Result (List Entry) BundleError
 entries_given opened found = listed_entries found >>= entries_of_list opened
 

@@ -4,15 +4,15 @@ ghost use Rattle.std.specs.Prelude.{◌≡◌, ◌<◌, ◌≤◌, Err, IfErr, I
 ghost use Rattle.serde_json.specs.Data.{Data};
 ghost use Rattle.serde_json.specs.Read.{read};
 ghost use Rattle.serde_json.specs.View.{view};
-ghost use Rattle.ar_value.specs.Answer.{IfRefused, UnlessMemory, there_or};
+ghost use Rattle.ar_value.specs.Answer.{Gives, IfRefused, UnlessMemory, there_or};
 ghost use Rattle.ar_json.specs.Document.{json_in, most_bytes};
 ghost use Rattle.ar_json.specs.declared.document.JsonError.TheVariants as json_errors;
 ghost use Rattle.ar_limits.specs.Replay.{most_events};
 ghost use Rattle.ar_document.specs.Document.{IsHeadOf, Reads, ReadsInput, is_bundle_memory};
 ghost use Rattle.ar_document.specs.Entries.{entries_in, entry_view};
 ghost use Rattle.ar_document.specs.Misfits.{IsNoDocument};
-ghost use Rattle.ar_document.specs.Parts.{HaveParts};
-ghost use Rattle.ar_document.specs.Private.Made.{RefusesMade};
+ghost use Rattle.ar_document.specs.Opening.{opened_of};
+ghost use Rattle.ar_document.specs.Private.Made.{both_of};
 ghost use Rattle.ar_document.specs.Private.Measured.{AreEntries};
 ghost use Rattle.ar_document.specs.Private.Opened.{IsOpened, opened_view};
 ghost use Rattle.ar_document.specs.declared.error.BundleError.TheVariants.{TooLarge, Utf8OrJson};
@@ -21,33 +21,48 @@ use crate::error::BundleError;
 use crate::measurements::read_entries;
 use crate::opening::{Opened, open};
 use crate::parts::parts_of;
-use ar_bundle::{Bundle, EventPart, RunPart};
+use ar_bundle::{Bundle, EventPart};
 use ar_json::document::MOST_BYTES;
 use ar_stream::{StreamError, read_head};
 use ar_value::holding::zip_ok;
 use json::Scratch;
 use serde_json::Value as Json;
 use std::alloc::Global;
+use std::mem;
 
-/// The parts of a document's runs, and the entries of its text.
-fn parts_and_entries(
-    alloc: Global,
-    opened: &Opened,
-    text: &str,
-    scratch: &mut Scratch,
-) -> Result<(Vec<RunPart>, Vec<EventPart>), BundleError>
-    requires { IsOpened opened.now }
-    ensures parts { IfOk result
-        (λ made. HaveParts (opened_view opened.now) opened.now.runs.items made.0.items) }
-    ensures fit { IfOk result
-        (λ made. AreEntries opened.now made.1.items × (length made.1.items ≤ most_events)) }
-    ensures entries { (document : Data) → read text.now ≡ Some document → IfOk result
-        (λ made. entries_in (opened_view opened.now) document ≡ Ok (map entry_view made.1.items)) }
-    ensures refused { (document : Data) → read text.now ≡ Some document
-        → IfRefused is_bundle_memory result (RefusesMade (opened_view opened.now) document) }
+/// Both of two values, or the refusal of the first, or that of the second.
+fn both_ok<A: Drop, B: Drop>(
+    first: Result<A, BundleError>,
+    second: Result<B, BundleError>,
+) -> Result<(A, B), BundleError>
+    ensures { result ≡ both_of first second }
 {
-    let parts = parts_of(alloc, opened)?;
-    zip_ok(parts, read_entries(alloc, opened, text, scratch))
+    match first {
+        Ok(first) => zip_ok(first, second),
+        Err(refusal) => Err(refusal),
+    }
+}
+
+/// The bundle of what was opened, with its entries or their first fault. A run that is refused is reported before
+/// this fault.
+fn bundle_with(
+    alloc: Global,
+    opened: Opened,
+    entries: Result<Vec<EventPart>, BundleError>,
+) -> Result<Bundle, BundleError>
+    requires opened { IsOpened opened }
+    requires fit { IfOk entries
+        (λ entries. AreEntries opened entries.items × (length entries.items ≤ most_events)) }
+    ensures { (document : Data) → opened_of document ≡ Ok (opened_view opened)
+        → Gives is_bundle_memory (λ found. map entry_view found.items) entries
+        (entries_in (opened_view opened) document)
+        → UnlessMemory is_bundle_memory result (Reads document) }
+{
+    let (template, metrics, runs) = opened.into_declared();
+    let parts = parts_of(alloc, &template, &metrics, runs);
+    mem::drop(template);
+    let (metrics, (parts, entries)) = zip_ok(metrics, both_ok(parts, entries))?;
+    Ok(Bundle::of_parts(metrics, parts, entries))
 }
 
 /// The bundle of a text that is a document, whose head is given.
@@ -61,9 +76,8 @@ fn bundle_of(
         → UnlessMemory is_bundle_memory result (Reads document) }
 {
     let opened = open(alloc, head)?;
-    let made = parts_and_entries(alloc, &opened, text, scratch);
-    let (opened, (parts, entries)) = zip_ok(opened, made)?;
-    Ok(Bundle::of_parts(opened.into_metrics(), parts, entries))
+    let entries = read_entries(alloc, &opened, text, scratch);
+    bundle_with(alloc, opened, entries)
 }
 
 /// The text of an input that isn't too large.

@@ -1,6 +1,6 @@
 //! The entries of a document, read one after another from its text.
 
-ghost use Rattle.std.specs.Prelude.{◌≡◌, ◌<◌, ◌≤◌, ◌+◌, ◌++◌, ◌∷◌, List, [], IfErr, IfOk, None, OnOk, Some, codes, false, length, map, true};
+ghost use Rattle.std.specs.Prelude.{◌≡◌, ◌<◌, ◌≤◌, ◌+◌, ◌++◌, ◌∷◌, List, [], Err, IfErr, IfOk, IsErr, None, OnOk, Some, codes, false, length, map, true};
 ghost use Rattle.json.specs.Json.{items, members, value};
 ghost use Rattle.json.specs.Value.{value_view};
 ghost use Rattle.serde_json.specs.Data.{Data, Items, Members, no_members, put};
@@ -11,9 +11,10 @@ ghost use Rattle.ar_json.specs.Members.{listed, unless_null};
 ghost use Rattle.ar_limits.specs.Replay.{most_events};
 ghost use Rattle.ar_stream.specs.Error.{is_stream_memory};
 ghost use Rattle.ar_stream.specs.Passing.{data_at};
+ghost use Rattle.ar_stream.specs.declared.error.StreamError.TheVariants.{NotJson};
 ghost use Rattle.ar_document.specs.Document.{is_bundle_memory};
 ghost use Rattle.ar_document.specs.Entries.{entries_in, entries_of_list, entries_given, entry_view};
-ghost use Rattle.ar_document.specs.Private.Measured.{AreEntries, HasRead, IsRead, IsReadOf, with_one};
+ghost use Rattle.ar_document.specs.Private.Measured.{AreEntries, HasRead, IsRead, IsReadOf, listed_as, with_one};
 ghost use Rattle.ar_document.specs.Private.Opened.{IsOpened, opened_view};
 
 use crate::entries::entry_of;
@@ -65,6 +66,46 @@ fn with_entry(
     }
 }
 
+/// Entries with that of a list's next item, or its fault.
+fn with_next_entry(
+    alloc: Global,
+    opened: &Opened,
+    entries: Vec<EventPart>,
+    reader: &mut Reader<'_>,
+    levels: usize,
+) -> Result<Entries, StreamError>
+    requires { IsOpened opened.now }
+    ensures read { IfOk result (λ later. (made : Data) × (data_at levels reader.old ≡ Some (made, reader.new))
+        × Gives (λ _. false) (λ found. map entry_view found.items) later
+        (with_one (opened_view opened.now) (map entry_view entries.items) made)) }
+    ensures each { AreEntries opened.now entries.items → IfOk result (λ later. IfOk later (λ found.
+        AreEntries opened.now found.items × (length found.items ≡ length entries.items + 1))) }
+    ensures refused { IfRefused is_stream_memory result (λ _. data_at levels reader.old ≡ None) }
+    ensures shorter { OnOk result (length reader.new < length reader.old) }
+{
+    let item = read_borrowed(alloc, reader, levels)?;
+    with_entry(alloc, opened, entries, &item)
+}
+
+/// What was read of a list with a fault before its next item, which is passed over.
+fn with_passed(
+    fault: BundleError,
+    left: usize,
+    reader: &mut Reader<'_>,
+    levels: usize,
+) -> Result<Listed, StreamError>
+    ensures read { IfOk result (λ later. (made : Data) × (data_at levels reader.old ≡ Some (made, reader.new))
+        × (later ≡ listed_as (Err fault) left)) }
+    ensures refused { IfErr result (λ error. (error ≡ NotJson) × (data_at levels reader.old ≡ None)) }
+    ensures shorter { OnOk result (length reader.new < length reader.old) }
+{
+    pass_value(reader, levels)?;
+    Ok(Listed {
+        entries: Err(fault),
+        left,
+    })
+}
+
 impl Listed {
     /// Nothing was read yet.
     fn new(alloc: Global) -> Listed
@@ -76,35 +117,31 @@ impl Listed {
         }
     }
 
-    /// What was read of a list with one more item.
-    fn with_item(
+    /// What was read of a list with its next item. After a fault an item only counts.
+    fn with_next(
         self,
         alloc: Global,
         opened: &Opened,
-        item: &Json<'_>,
+        reader: &mut Reader<'_>,
+        levels: usize,
     ) -> Result<Listed, StreamError>
         requires { IsOpened opened.now }
-        ensures read { (made : Data) → of_json (value_view item.now) ≡ Some made
-            → (done : List Data) → HasRead opened.now done self
-            → IfOk result (HasRead opened.now (done ++ made ∷ [])) }
-        ensures memory { IfErr result (λ e. is_stream_memory e ≡ true) }
+        ensures read { IfOk result (λ later. (made : Data) × (data_at levels reader.old ≡ Some (made, reader.new))
+            × ((done : List Data) → HasRead opened.now done self → HasRead opened.now (done ++ made ∷ []) later)) }
+        ensures refused { IfRefused is_stream_memory result (λ _. data_at levels reader.old ≡ None) }
+        ensures after_fault { IsErr self.entries → IfErr result (λ error. error ≡ NotJson) }
+        ensures shorter { OnOk result (length reader.new < length reader.old) }
     {
         if self.left == 0 {
-            return Ok(Listed {
-                entries: Err(BundleError::TooManyMeasurements),
-                left: 0,
-            });
+            return with_passed(BundleError::TooManyMeasurements, 0, reader, levels);
         }
         let left = self.left - 1;
         match self.entries {
             Ok(entries) => {
-                let entries = with_entry(alloc, opened, entries, item)?;
+                let entries = with_next_entry(alloc, opened, entries, reader, levels)?;
                 Ok(Listed { entries, left })
             }
-            Err(fault) => Ok(Listed {
-                entries: Err(fault),
-                left,
-            }),
+            Err(fault) => with_passed(fault, left, reader, levels),
         }
     }
 }
@@ -126,8 +163,7 @@ fn read_list(
 {
     let mut listed = Listed::new(alloc);
     'items: while !reader.take_end_array() {
-        let item = read_borrowed(alloc, reader, levels)?;
-        listed = listed.with_item(alloc, opened, &item)?;
+        listed = listed.with_next(alloc, opened, reader, levels)?;
     }
     Ok(listed.entries)
 }

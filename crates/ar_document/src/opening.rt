@@ -41,13 +41,14 @@ pub(crate) struct Opened {
 }
 
 impl Opened {
-    /// Its metrics, once nothing else of it is needed.
-    pub(crate) fn into_metrics(self) -> Vec<MetricPart>
-        ensures { result ≡ self.metrics }
+    /// Its template, metrics and runs, once no more entries are read.
+    pub(crate) fn into_declared(self) -> (Template, Vec<MetricPart>, Vec<Run>)
+        ensures template { result.0 ≡ self.template }
+        ensures metrics { result.1 ≡ self.metrics }
+        ensures runs { result.2 ≡ self.runs }
     {
-        let held = (self.template, self.measurers, self.runs);
-        mem::drop((held, self.run_numbers, self.metric_numbers));
-        self.metrics
+        mem::drop((self.measurers, self.run_numbers, self.metric_numbers));
+        (self.template, self.metrics, self.runs)
     }
 }
 

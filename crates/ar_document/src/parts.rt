@@ -1,6 +1,6 @@
 //! Parts of the bundle for the runs of a document.
 
-ghost use Rattle.std.specs.Prelude.{◌≡◌, IfErr, IfOk, IfSome, Some, length, map, take};
+ghost use Rattle.std.specs.Prelude.{◌≡◌, IfErr, IfOk, IfSome, List, Some, length, map, take};
 ghost use Rattle.std.specs.List.{AllByRecursion};
 ghost use Rattle.ar_limits.specs.Metric.{HasPositiveCounts};
 ghost use Rattle.ar_judge.specs.Verdict.{IsJudge};
@@ -12,13 +12,13 @@ ghost use Rattle.ar_judge.specs.Saying.{refused_as};
 ghost use Rattle.ar_document.specs.Document.{is_bundle_memory};
 ghost use Rattle.ar_document.specs.Opening.{metric_view};
 ghost use Rattle.ar_document.specs.Parts.{AreJudges, HaveParts, IsPart, RefusesRun, RefusesRuns, limits_of};
-ghost use Rattle.ar_document.specs.Private.Opened.{IsOpened, opened_view};
 ghost use Rattle.ar_document.specs.Private.Earlier.{AllOfTheirTexts, AreOfTheirTexts, IsOfEarlier, IsOfRun};
-ghost use Rattle.ar_document.specs.Private.Parts.{RefusesJudge, RefusesJudges};
+ghost use Rattle.ar_document.specs.Private.Opened.{opened_with};
+ghost use Rattle.ar_document.specs.Private.Parts.{RefusesJudge, RefusesJudges, part_with};
 ghost use Rattle.ar_document.specs.declared.error.BundleError.TheVariants.{Bind};
+ghost use Rattle.ar_document.specs.declared.runs.Run.{Run as Written};
 
 use crate::error::BundleError;
-use crate::opening::Opened;
 use crate::runs::Run;
 use ar_bundle::{Judges, MetricPart, RunLimits, RunPart};
 use ar_judge::{BuildError, Judge, SharedCondition, Which};
@@ -163,38 +163,66 @@ fn judges_and_limits(
     Ok(zip_ok(judges, all_limits(alloc, bound))?)
 }
 
-/// The part of the run with a number, after those of earlier runs.
+/// A judge and limits for each metric of a run, which comes after those of the earlier parts.
+fn judged_run(
+    alloc: Global,
+    template: &Template,
+    metrics: &[MetricPart],
+    run: &Run,
+    earlier: &[RunPart],
+) -> Result<(Judges, RunLimits), BundleError>
+    requires many { length metrics.now ≡ length template.now.metrics }
+    requires earlier { AllOfTheirTexts metrics.now earlier.now }
+    ensures judged { (runs : List Written) → IfOk result (λ judged.
+        IsPart (opened_with template.now metrics.now runs) run.now (part_with run.now judged)) }
+    ensures refused { (runs : List Written) → IfRefused is_bundle_memory result
+        (RefusesRun (opened_with template.now metrics.now runs) (length earlier.now) run.now) }
+{
+    let number = earlier.len();
+    let bound = bound(alloc, template, run, number)?;
+    judges_and_limits(alloc, number, metrics, bound.metrics(), earlier)
+}
+
+/// The part of a run, after those of earlier runs.
 fn part_of(
     alloc: Global,
-    opened: &Opened,
-    run: &Run,
-    number: usize,
+    template: &Template,
+    metrics: &[MetricPart],
+    run: Run,
     earlier: &[RunPart],
 ) -> Result<RunPart, BundleError>
-    requires opened { IsOpened opened.now }
-    requires earlier { AllOfTheirTexts opened.now.metrics.items earlier.now }
-    ensures part { IfOk result (IsPart (opened_view opened.now) run.now) }
-    ensures refused { IfRefused is_bundle_memory result (RefusesRun (opened_view opened.now) number run.now) }
+    requires many { length metrics.now ≡ length template.now.metrics }
+    requires earlier { AllOfTheirTexts metrics.now earlier.now }
+    ensures part { (runs : List Written)
+        → IfOk result (IsPart (opened_with template.now metrics.now runs) run) }
+    ensures refused { (runs : List Written) → IfRefused is_bundle_memory result
+        (RefusesRun (opened_with template.now metrics.now runs) (length earlier.now) run) }
 {
-    let bound = bound(alloc, &opened.template, run, number)?;
-    let judged = judges_and_limits(alloc, number, &opened.metrics, bound.metrics(), earlier)?;
-    let (judged, name) = zip_ok(judged, Text::of(alloc, run.name.as_str()))?;
+    let judged = judged_run(alloc, template, metrics, &run, earlier);
+    let (run, judged) = zip_ok(run, judged)?;
     Ok(RunPart {
-        name,
+        name: run.name,
         judges: judged.0,
         limits: judged.1,
     })
 }
 
 /// The parts of all runs.
-pub(crate) fn parts_of(alloc: Global, opened: &Opened) -> Result<Vec<RunPart>, BundleError>
-    requires { IsOpened opened.now }
-    ensures parts { IfOk result (λ parts. HaveParts (opened_view opened.now) opened.now.runs.items parts.items) }
-    ensures refused { IfRefused is_bundle_memory result (RefusesRuns (opened_view opened.now)) }
+pub(crate) fn parts_of(
+    alloc: Global,
+    template: &Template,
+    metrics: &[MetricPart],
+    runs: Vec<Run>,
+) -> Result<Vec<RunPart>, BundleError>
+    requires { length metrics.now ≡ length template.now.metrics }
+    ensures parts { IfOk result (λ parts.
+        HaveParts (opened_with template.now metrics.now runs.items) runs.items parts.items) }
+    ensures refused { IfRefused is_bundle_memory result
+        (RefusesRuns (opened_with template.now metrics.now runs.items)) }
 {
-    let mut parts = Vec::with_capacity(alloc, opened.runs.len())?;
-    for (number, run) in opened.runs.iter().enumerate() {
-        let part = part_of(alloc, opened, run, number, &parts)?;
+    let mut parts = Vec::with_capacity(alloc, runs.len())?;
+    for run in runs {
+        let part = part_of(alloc, template, metrics, run, &parts)?;
         try_push(&mut parts, part)?;
     }
     Ok(parts)

@@ -7,8 +7,7 @@ ghost use Rattle.ar_value.specs.Answer.{Gives, each_after, holds_or};
 ghost use Rattle.ar_value.specs.Limits.{most_runs};
 ghost use Rattle.ar_document.specs.Document.{is_bundle_memory};
 ghost use Rattle.ar_document.specs.Opening.{are_new, names_of, index_of_name, own_arguments, run_items, run_of, runs_in, texts_by_name};
-ghost use Rattle.ar_document.specs.Private.Made.{with_argument_text};
-ghost use Rattle.ar_document.specs.Private.Naming.{AreNumbers, fed_members};
+ghost use Rattle.ar_document.specs.Private.Naming.{AreNumbers, fed_members, with_argument_text};
 ghost use Rattle.ar_document.specs.declared.error.BundleError.TheVariants.{DoubleRun};
 
 use crate::error::BundleError;

@@ -1,5 +1,5 @@
 -- Entries, while they are read one after another.
-use Rattle.std.specs.Prelude.{◌≡◌, ◌⊎◌, ◌<◌, ◌≤◌, ◌+◌, false, List, [], ◌∷◌, ◌++◌, length, map, codes, Result, Ok, IfOk, Vec}
+use Rattle.std.specs.Prelude.{◌≡◌, ◌⊎◌, ◌<◌, ◌≤◌, ◌+◌, ℕ, false, List, [], ◌∷◌, ◌++◌, length, map, codes, Result, Ok, IfOk, Vec}
 use Rattle.std.specs.List.{AllByRecursion}
 use Rattle.std.specs.declared.alloc.Global.{Global}
 use Rattle.serde_json.specs.Data.{Data, Members}
@@ -22,6 +22,9 @@ AreEntries opened entries = AllByRecursion (FitsBundle opened.metrics.items (len
 -- entries with that of one more item
 abbrev pub with_one : Parts → (earlier : List Entry) → Data → Result (List Entry) BundleError
 with_one opened earlier item = entry_in opened earlier item >>= λ made. Ok (earlier ++ made ∷ [])
+
+abbrev pub listed_as : Result (Vec EventPart Global) BundleError → ℕ → Listed
+listed_as entries left = record { entries = entries; left = left }
 
 -- these entries are the defined ones, or this is their first fault
 pub record IsRead (opened : Opened) (defined : Result (List Entry) BundleError)

@@ -1,12 +1,19 @@
 -- What was opened of a document, as the code keeps it.
 use Rattle.std.specs.Prelude.{◌≡◌, ◌≤◌, ℕ, List, length, map}
 use Rattle.ar_value.specs.Limits.{most_metrics, most_runs}
+use Rattle.ar_manifest.specs.declared.template.Template.{Template}
+use Rattle.ar_bundle.specs.declared.bundle.MetricPart.{MetricPart}
 use Rattle.ar_document.specs.Opening.{Metric, Opened as Parts, metric_view, names_of, opened_as}
 use Rattle.ar_document.specs.Private.Naming.{AreNumbers}
 use Rattle.ar_document.specs.declared.opening.Opened.{Opened}
+use Rattle.ar_document.specs.declared.runs.Run.{Run}
+
+-- a template with its metrics and runs
+abbrev pub opened_with : Template → List MetricPart → List Run → Parts
+opened_with template metrics runs = opened_as template (map metric_view metrics) runs
 
 abbrev pub opened_view : Opened → Parts
-opened_view opened = opened_as opened.template (map metric_view opened.metrics.items) opened.runs.items
+opened_view opened = opened_with opened.template opened.metrics.items opened.runs.items
 
 abbrev pub metric_names : List Metric → List (List ℕ)
 metric_names metrics = map (λ metric. metric.name) metrics

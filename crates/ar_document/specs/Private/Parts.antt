@@ -3,12 +3,19 @@ use Rattle.std.specs.Prelude.{◌≡◌, ◌≢◌, ℕ, List, map, take, slice_
 use Rattle.ar_value.specs.View.{shape_view}
 use Rattle.ar_manifest.specs.declared.bound.BoundMetric.{BoundMetric}
 use Rattle.ar_judge.specs.Verdict.{Judge, RefusesTexts}
+use Rattle.ar_limits.specs.declared.limits.Limits.{Limits}
 use Rattle.ar_judge.specs.declared.error.BuildError.TheVariants as build
 use Rattle.ar_bundle.specs.declared.bundle.MetricPart.{MetricPart}
+use Rattle.ar_bundle.specs.declared.bundle.RunPart.{RunPart}
 use Rattle.ar_document.specs.Opening.{metric_view}
 use Rattle.ar_document.specs.Parts.{AreJudges}
 use Rattle.ar_document.specs.declared.error.BundleError.{BundleError}
 use Rattle.ar_document.specs.declared.error.BundleError.TheVariants.{Build}
+use Rattle.ar_document.specs.declared.runs.Run.{Run}
+
+-- the part of a run with these judges and limits
+abbrev pub part_with : Run → List Judge × List Limits → RunPart
+part_with run judged = record { name = run.name; judges = judged.0; limits = judged.1 }
 
 -- the conditions of the metric with a number can't be built
 abbrev pub RefusesJudge : (run number : ℕ) → MetricPart → BoundMetric → BundleError → Type 0

@@ -8,30 +8,20 @@ use Rattle.ar_stream.proofs.Taken.{item_refused, items_before, items_read}
 use Rattle.ar_document.proofs.Measuring.{all_read, one_listed}
 use Rattle.ar_document.proofs.measurements.read_list.Goals as goal
 
-pub returns-in_err-item-clause-refused : goal.returns-in_err-item-clause-refused
-returns-in_err-item-clause-refused c =
+pub returns-in_err-listed-clause-refused : goal.returns-in_err-listed-clause-refused
+returns-in_err-listed-clause-refused c =
     let l = c.items in
     let going : (after_end_array l.reader ≡ None) × (c.take_end_array.new.self ≡ l.reader) = grind arith in
     let error = err_from_is_err_and c.from_residual.result c.from_residual.ensures.1 in
     rw (error.1, error.2)
-    (leads (is_stream_memory c.in_err-item.field-0.0)
+    (leads (is_stream_memory c.in_err-listed.field-0.0)
     (λ none. l.invariant.3 ∙ ap (parse_map (items_before l.invariant.2)) (item_refused (value c.args.levels) l.invariant.0 l.reader going.0 (rw going.1 at none)))
-    c.in_err-item.ensures.refused)
-
-pub items-preserved-in_ok-listed : goal.items-preserved-in_ok-listed
-items-preserved-in_ok-listed c =
-    let read = c.in_ok-item.ensures.read in
-    one_listed c.args.opened.now c.args.levels c.args.reader.now c.items.reader c.take_end_array.new.self c.read_borrowed.new.reader c.items.listed c.in_ok-listed.listed read.0 (grind arith) read.2 c.in_ok-item.ensures.shorter c.items.invariant (c.in_ok-listed.ensures.read read.0 read.1)
-
-pub items-preserved-in_ok-listed-2 : goal.items-preserved-in_ok-listed-2
-items-preserved-in_ok-listed-2 c =
-    let read = c.in_ok-item.ensures.read in
-    one_listed c.args.opened.now c.args.levels c.args.reader.now c.items.reader c.take_end_array.new.self c.read_borrowed.new.reader c.items.listed c.in_ok-listed.listed read.0 (grind arith) read.2 c.in_ok-item.ensures.shorter c.items.invariant (c.in_ok-listed.ensures.read read.0 read.1)
+    c.in_err-listed.ensures.refused)
 
 pub items-preserved : goal.items-preserved
 items-preserved c =
-    let read = c.in_ok-item.ensures.read in
-    one_listed c.args.opened.now c.args.levels c.args.reader.now c.items.reader c.take_end_array.new.self c.read_borrowed.new.reader c.items.listed c.in_ok-listed.listed read.0 (grind arith) read.2 c.in_ok-item.ensures.shorter c.items.invariant (c.in_ok-listed.ensures.read read.0 read.1)
+    let read = c.in_ok-listed.ensures.read in
+    one_listed c.args.opened.now c.args.levels c.args.reader.now c.items.reader c.take_end_array.new.self c.with_next.new.reader c.items.listed c.in_ok-listed.listed read.0 (grind arith) read.1 c.in_ok-listed.ensures.shorter c.items.invariant read.2
 
 pub returns-clause-read : goal.returns-clause-read
 returns-clause-read c =
