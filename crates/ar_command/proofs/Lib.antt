@@ -5,3 +5,4 @@ pub mod OneNumbering
 pub mod OneReason
 pub mod OneReport
 pub mod Naming
+mod Reasons

@@ -1,10 +1,12 @@
 //! What `explain` says of an input.
 
 ghost use Rattle.std.specs.Prelude.{◌≡◌, ℕ, Err, IfOk, List, Ok, string_bytes};
+ghost use Rattle.serde_json.specs.Data.{Data};
 ghost use Rattle.serde_json.specs.View.{view};
 ghost use Rattle.ar_value.specs.Answer.{IfRefused};
 ghost use Rattle.ar_bundle.specs.Finished.{AreFinished};
 ghost use Rattle.ar_document.specs.Document.{ReadsInput};
+ghost use Rattle.ar_document.specs.Misfits.{KeepsMisfits};
 ghost use Rattle.ar_document.specs.Opening.{index_of_name};
 ghost use Rattle.ar_json.specs.Document.{json_in};
 ghost use Rattle.ar_reason.specs.Reason.{reasons_of};
@@ -65,36 +67,37 @@ fn chosen_of(bundle: &Bundle, selection: Selection<'_>) -> Option<Chosen>
     }
 }
 
-/// What led to the events that are asked for, as it is to be written.
+/// What led to the events that are asked for, as it is to be written, where these values are given.
 fn reasons(
     alloc: Global,
     format: Format,
-    document: &Json,
+    given: &Json,
     bundle: &Bundle,
     finished: &Finished,
     chosen: Chosen,
 ) -> Result<String, AllocError>
     requires { AreFinished bundle.now finished.now }
     ensures { IfOk result (λ text. IsPrinted format
-        (reasons_text (reasons_of (view document.now) bundle.now chosen finished.now.histories))
-        (reasons_data (reasons_of (view document.now) bundle.now chosen finished.now.histories))
+        (reasons_text (reasons_of (view given.now) bundle.now chosen finished.now.histories))
+        (reasons_data (reasons_of (view given.now) bundle.now chosen finished.now.histories))
         (string_bytes text)) }
 {
     match format {
-        Format::Text => reasons_text(alloc, document, bundle, finished, chosen),
-        Format::Json => reasons_json(alloc, document, bundle, finished, chosen),
+        Format::Text => reasons_text(alloc, given, bundle, finished, chosen),
+        Format::Json => reasons_json(alloc, given, bundle, finished, chosen),
     }
 }
 
-/// What `explain` says of a bundle and its document.
+/// What `explain` says of a bundle, of whose document the values that don't fit are kept.
 fn said_of(
     alloc: Global,
     selection: Selection<'_>,
     format: Format,
-    document: &Json,
+    kept: &Json,
     bundle: &Bundle,
 ) -> Result<String, ServeError>
-    ensures said { (input : List ℕ) → json_in input ≡ Ok (view document.now) → ReadsInput input (Ok bundle.now)
+    ensures said { (input : List ℕ) (document : Data) → json_in input ≡ Ok document
+        → KeepsMisfits bundle.now document (view kept.now) → ReadsInput input (Ok bundle.now)
         → IfOk result (λ text. Explains (selected selection.entry) format input (string_bytes text)) }
     ensures refused { (input : List ℕ) → ReadsInput input (Ok bundle.now) → IfRefused is_serve_memory result
         (NamesRefusal (RefusesInput (commands.Explain selection.entry format) input)) }
@@ -103,7 +106,7 @@ fn said_of(
         return Err(ServeError::Refused(Refusal::NotThere));
     };
     let finished = finish_plain(alloc, bundle)?;
-    Ok(reasons(alloc, format, document, bundle, &finished, chosen)?)
+    Ok(reasons(alloc, format, kept, bundle, &finished, chosen)?)
 }
 
 pub(crate) fn explained(
@@ -118,7 +121,7 @@ pub(crate) fn explained(
     ensures refused { IfRefused is_serve_memory result
         (NamesRefusal (RefusesInput (commands.Explain selection.entry format) input.now)) }
 {
-    let (document, Reading { bundle, warnings }) = read_kept(alloc, input)?;
-    let text = said_of(alloc, selection, format, &document, &bundle)?;
+    let (kept, Reading { bundle, warnings }) = read_kept(alloc, input)?;
+    let text = said_of(alloc, selection, format, &kept, &bundle)?;
     Ok(well_said(text, warnings))
 }
