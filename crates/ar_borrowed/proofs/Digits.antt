@@ -1,8 +1,10 @@
 -- Numbers of texts that are digits alone.
-use Rattle.std.proofs.Common.{◌≡◌, ◌^◌, ◌<◌, ℕ, true, false, List, [], ◌∷◌, ◌++◌, length, get_or, Some, refl, sym, ap, ◌∙◌, arith, append-nil, lt-ltb, ne_eqb}
+use Rattle.std.proofs.Common.{◌≡◌, ◌^◌, ◌<◌, ◌≤◌, ℕ, true, false, List, [], ◌∷◌, ◌++◌, length, get_or, is_some, Some, refl, sym, ap, ◌∙◌, arith, append-nil, lit<, lt-ltb, ne_eqb}
 use Rattle.std.specs.Char.{digit_value, is_ascii_digit}
 use Rattle.std.specs.List.{list_all}
 use Rattle.std.specs.Str.Parse.{AllDigits, digits_value}
+use Rattle.std.proofs.Math.Nat.{pow-le-pow_right}
+use Rattle.std.proofs.lemmas.Int.Digits.{digits_value-lt}
 use Rattle.fast_float.specs.Text.{IsWellFormed, Parts, scan}
 use Rattle.fast_float.proofs.Writing.{scan-text_of}
 use Rattle.serde_json.specs.Data.{unsigned}
@@ -27,3 +29,13 @@ spelled digits are some small =
 pub digits_alone : (digits : List ℕ) (whole : ℕ) → list_all is_ascii_digit digits ≡ true → 0 < length digits → digits_value 10 digits < 2 ^ 64 → whole ≡ digits_value 10 digits
     → number_of digits ≡ Some (unsigned whole)
 digits_alone digits whole are some small is = rw is (spelled digits (AllDigits-from_list_all digits are) some small)
+
+-- ---- a few digits
+
+pub few_digits : (digits : List ℕ) → list_all is_ascii_digit digits ≡ true → 0 < length digits → length digits ≤ 19 → is_some (number_of digits) ≡ true
+few_digits digits are some few =
+    let all : AllDigits 10 digits = AllDigits-from_list_all digits are in
+    let spells : digits_value 10 digits < 10 ^ length digits = digits_value-lt 10 digits all in
+    let power : 10 ^ length digits ≤ 10 ^ 19 = pow-le-pow_right (lit< tt) few in
+    let fits : 10 ^ 19 < 2 ^ 64 = lit< tt in
+    ap is_some (spelled digits all some (omega (arith, spells, power, fits)))

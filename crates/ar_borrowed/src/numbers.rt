@@ -87,11 +87,22 @@ fn nearest(negative: bool, numeral: &Numeral<'_>) -> Option<Number>
     Number::from_f64(numeral.to_float(negative))
 }
 
+/// So many digits fit 64 bits, whichever they are.
+const FEW_DIGITS: usize = 19;
+
+/// Is a text a few digits, and nothing else?
+#[tactic(auto, using(crate::proofs::Digits::few_digits))]
+fn are_few_digits(bytes: &[u8]) -> bool
+    ensures { result ≡ true → is_some (number_of bytes.now) ≡ true }
+{
+    !bytes.is_empty() && bytes.len() <= FEW_DIGITS && are_digits(bytes)
+}
+
 /// Is a JSON number's text in the range of floats?
 pub fn is_in_range(text: &str) -> bool
     ensures { result ≡ is_some (number_of text.now) }
 {
-    number_of(text).is_some()
+    are_few_digits(text.as_bytes()) || number_of(text).is_some()
 }
 
 /// The whole number of a JSON number's text, where it is written as one and fits 64 bits, with a sign or without.
