@@ -1,5 +1,4 @@
 mod Signs
 mod Digits
 mod Making
-mod Ranging
 pub mod Members

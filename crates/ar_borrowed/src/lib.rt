@@ -12,10 +12,8 @@
 //! either. Depth is not limited here: whoever reads the borrowed value limits it.
 //!
 //! - [`trees`]: serde_json's value of a borrowed one
-//! - [`ranges`]: whether a borrowed value is data
 //! - [`numbers`]: the number of a text
 #![tactic(auto)]
 
 pub mod numbers;
-pub mod ranges;
 pub mod trees;

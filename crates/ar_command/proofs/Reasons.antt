@@ -1,4 +1,4 @@
--- What led to events is said alike where of their document the values that don't fit are kept.
+-- What led to events is said alike where of their document the measurements that gave no value are kept.
 use Rattle.std.proofs.Common.{◌≡◌, ℕ, suc, true, if◌then◌else◌, List, [], ◌∷◌, ◌++◌, map, codes, Option, Some, None, option_and_then, Result, Ok, Err, refl, sym, ap, ap₂, ◌∙◌, subst}
 use Rattle.std.specs.Prelude.{slice_get}
 use Rattle.serde_json.specs.Data.{Data}
@@ -16,7 +16,7 @@ use Rattle.ar_bundle.specs.declared.bundle.What.{What}
 use Rattle.ar_bundle.specs.declared.bundle.What.TheVariants.{Measure, Stop}
 use Rattle.ar_bundle.specs.declared.history.Entry.{Entry}
 use Rattle.ar_document.specs.Document.{FollowsJson, ReadsInput}
-use Rattle.ar_document.specs.Misfits.{IsNoDocument, KeepsMisfits, is_misfit, is_misfit_there, measurement_at, measures_misfit}
+use Rattle.ar_document.specs.Unmeasured.{IsNoDocument, KeepsUnmeasured, lacks_value, is_unmeasured_there, measurement_at, gave_no_value}
 use Rattle.ar_document.specs.declared.error.BundleError.{BundleError}
 use Rattle.ar_facts.specs.Facts.{event_facts, facts_of_metrics}
 use Rattle.ar_reason.specs.Reason.{Reason, RunReasons, conditions_of, gave_misfit, given_by, given_of, misfit_words, reason_if_there, reason_of, reason_with, reasons_from, reasons_of, run_reasons}
@@ -24,14 +24,14 @@ use Rattle.ar_reason.specs.Steps.{chosen_steps, is_chosen_run}
 use Rattle.ar_reason.specs.declared.chosen.Chosen.{Chosen}
 use Rattle.ar_reason.specs.declared.steps.Step.{Step}
 
--- what was given is looked at only where it doesn't fit
-given_alike : (text other : Text) (sample : Sample) → (is_misfit sample ≡ true → text ≡ other) → given_by text sample ≡ given_by other sample
+-- a document is looked at only where there is no value
+given_alike : (text other : Text) (sample : Sample) → (lacks_value sample ≡ true → text ≡ other) → given_by text sample ≡ given_by other sample
 given_alike text other provider same = refl
 given_alike text other (misfit fault) same = ap gave_misfit (same refl)
 given_alike text other (measured found) same = refl
 
-module _ (bundle : Bundle) (document kept : Data) (keeps : KeepsMisfits bundle document kept) where
-  same_given : (number : ℕ) (what : What) → (measures_misfit what ≡ true → measurement_at kept number ≡ measurement_at document number)
+module _ (bundle : Bundle) (document kept : Data) (keeps : KeepsUnmeasured bundle document kept) where
+  same_given : (number : ℕ) (what : What) → (gave_no_value what ≡ true → measurement_at kept number ≡ measurement_at document number)
       → given_of kept bundle number what ≡ given_of document bundle number what
   same_given number (Measure metric sample) same =
       given_alike _ _ (sample_view sample)
@@ -41,7 +41,7 @@ module _ (bundle : Bundle) (document kept : Data) (keeps : KeepsMisfits bundle d
   same_there : (step : Step) (there : Option EventPart) → slice_get bundle.entries step.entry.number ≡ there → reason_if_there kept bundle step there ≡ reason_if_there document bundle step there
   same_there step (Some part) is =
       ap (λ given. reason_with (event_facts bundle step.entry.number step.entry.effect) given (conditions_of bundle part.run part.what) step)
-      (same_given step.entry.number part.what (λ unfit. keeps.same step.entry.number (ap is_misfit_there is ∙ unfit)))
+      (same_given step.entry.number part.what (λ unfit. keeps.same step.entry.number (ap is_unmeasured_there is ∙ unfit)))
   same_there step None is = refl
 
   same_each : (steps : List Step) → map (reason_of kept bundle) steps ≡ map (reason_of document bundle) steps

@@ -6,7 +6,7 @@ ghost use Rattle.serde_json.specs.View.{view};
 ghost use Rattle.ar_value.specs.Answer.{IfRefused};
 ghost use Rattle.ar_bundle.specs.Finished.{AreFinished};
 ghost use Rattle.ar_document.specs.Document.{ReadsInput};
-ghost use Rattle.ar_document.specs.Misfits.{KeepsMisfits};
+ghost use Rattle.ar_document.specs.Unmeasured.{KeepsUnmeasured};
 ghost use Rattle.ar_document.specs.Opening.{index_of_name};
 ghost use Rattle.ar_json.specs.Document.{json_in};
 ghost use Rattle.ar_reason.specs.Reason.{reasons_of};
@@ -88,7 +88,7 @@ fn reasons(
     }
 }
 
-/// What `explain` says of a bundle, of whose document the values that don't fit are kept.
+/// What `explain` says of a bundle, of whose document the measurements that gave no value are kept.
 fn said_of(
     alloc: Global,
     selection: Selection<'_>,
@@ -97,7 +97,7 @@ fn said_of(
     bundle: &Bundle,
 ) -> Result<String, ServeError>
     ensures said { (input : List ℕ) (document : Data) → json_in input ≡ Ok document
-        → KeepsMisfits bundle.now document (view kept.now) → ReadsInput input (Ok bundle.now)
+        → KeepsUnmeasured bundle.now document (view kept.now) → ReadsInput input (Ok bundle.now)
         → IfOk result (λ text. Explains (selected selection.entry) format input (string_bytes text)) }
     ensures refused { (input : List ℕ) → ReadsInput input (Ok bundle.now) → IfRefused is_serve_memory result
         (NamesRefusal (RefusesInput (commands.Explain selection.entry format) input)) }

@@ -11,6 +11,6 @@ mod Bundling
 mod Answering
 mod Measuring
 mod Inputs
-mod Unfit
+mod Lacking
 pub mod OneAnswer
 pub mod Earlier

@@ -1,12 +1,13 @@
 -- Entries of a list, one more at a time.
-use Rattle.std.proofs.Common.{◌≡◌, ◌≢◌, ◌⊎◌, ◌+◌, ◌-◌, ◌<◌, ◌≤◌, ℕ, true, false, List, [], ◌∷◌, ◌++◌, length, map, Option, Some, None, Result, Ok, Err, Vec, Global, refl, sym, ap, ◌∙◌, subst, inl, inr, arith, length-append}
+use Rattle.std.proofs.Common.{◌≡◌, ◌≢◌, ◌⊎◌, ◌+◌, ◌-◌, ◌<◌, ◌≤◌, ℕ, true, false, List, [], ◌∷◌, ◌++◌, length, map, Option, Some, None, Result, Ok, Err, Vec, Global, refl, sym, ap, ◌∙◌, subst, inl, inr, arith, length-append, option_map}
 use Rattle.std.specs.Prelude.{IfOk, codes, nat_lt}
 use Rattle.std.proofs.lemmas.Bool.Decides.{nat_tests}
-use Rattle.json.specs.Json.{after_end_array, items, parse_map, value}
+use Rattle.json.specs.Json.{Json, after_end_array, items, members, parse_map, read_key, value}
+use Rattle.json.specs.Lex.{tokens}
 use Rattle.json.specs.Token.{Token}
-use Rattle.serde_json.specs.Data.{Data, Items, Members, array, no_items, object, put}
-use Rattle.serde_json.specs.Find.{get, get_member}
-use Rattle.serde_json.specs.Read.{converted, of_items}
+use Rattle.serde_json.specs.Data.{Data, Items, Members, array, boolean, no_items, no_members, null, number, object, put, string}
+use Rattle.serde_json.specs.Find.{as_array, as_null, get, get_member}
+use Rattle.serde_json.specs.Read.{converted, of_items, of_json, of_members, read}
 use Rattle.serde_json.proofs.Views.{get_member-put, get_member-put_other}
 use Rattle.ar_value.specs.Answer.{◌>>=◌, Gives, IfRefused, each_after}
 use Rattle.ar_bundle.specs.declared.bundle.EventPart.{EventPart}
@@ -16,14 +17,16 @@ use Rattle.ar_limits.specs.Replay.{most_events}
 use Rattle.ar_stream.specs.Passing.{data_at}
 use Rattle.ar_stream.specs.Error.{is_stream_memory}
 use Rattle.ar_stream.specs.declared.error.StreamError.{StreamError}
-use Rattle.ar_stream.proofs.Taken.{array_at, item_read, items_before, one_before}
+use Rattle.ar_stream.proofs.Kept.{member_read, member_refused, members_read, no_name}
+use Rattle.ar_stream.proofs.Taken.{array_at, item_read, item_refused, items_before, items_read, none_before, one_before}
+use Rattle.ar_stream.proofs.Whole.{is_object, no_object_read}
 use Rattle.ar_document.specs.Document.{is_bundle_memory}
 use Rattle.ar_document.specs.Entries.{Entry, entries_in, entries_of_list, entries_given, entry_in, entry_view, few_entries}
 use Rattle.ar_document.specs.Opening.{Opened as Parts}
-use Rattle.ar_document.specs.Private.Measured.{AreEntries, HasRead, IsRead, IsReadOf, listed_as, with_one}
+use Rattle.ar_document.specs.Private.Measured.{AreEntries, HasRead, IfFound, IsRead, IsReadOf, listed_as, with_one}
 use Rattle.ar_document.specs.Private.Opened.{opened_view}
 use Rattle.ar_document.specs.declared.error.BundleError.{BundleError}
-use Rattle.ar_document.specs.declared.error.BundleError.TheVariants.{TooManyMeasurements}
+use Rattle.ar_document.specs.declared.error.BundleError.TheVariants.{BadEntry, TooManyMeasurements}
 use Rattle.ar_document.specs.declared.measurements.Listed.{Listed}
 use Rattle.ar_document.specs.declared.opening.Opened.{Opened}
 
@@ -167,36 +170,148 @@ module _ (opened : Opened) (done : List Data) (so_far : Listed) (has : HasRead o
   pub all_read : IsRead opened (entries_of_list (opened_view opened) (listed (items_before done no_items))) so_far.entries
   all_read = record { exact = rw (all_before done) has.exact; fit = few_read so_far.entries refl }
 
--- what was read of a list whose rest begins here
+-- ---- what is found, where something is
+
+module _ {A : Type 0} (left : List Token) (holds : A → Type 0) where
+  pub some_found : (made : A) (found : Option (A × List Token)) → found ≡ Some (made, left) → holds made → IfFound found left holds
+  some_found made found is here = subst (λ (found : Option (A × List Token)). IfFound found left holds) (sym is) (refl, here)
+
+  pub found_where : (found : Option (A × List Token)) → ((all : A × List Token) → found ≡ Some all → (made : A) × (Some all ≡ Some (made, left)) × holds made) → IfFound found left holds
+  found_where None each = tt
+  found_where (Some all) each = let here = each all refl in some_found here.0 (Some all) here.1 here.2
+
+  pub found_maps : {B : Type 0} (f : B → A) (own : B → Type 0) (found : Option (B × List Token)) → ((made : B) → own made → holds (f made)) → IfFound found left own → IfFound (parse_map f found) left holds
+  found_maps f own None leads here = tt
+  found_maps f own (Some pair) leads here = (here.0, leads pair.0 here.1)
+
+  pub found_same : (own : A → Type 0) (found : Option (A × List Token)) → ((made : A) → own made → holds made) → IfFound found left own → IfFound found left holds
+  found_same own None leads here = tt
+  found_same own (Some pair) leads here = (here.0, leads pair.0 here.1)
+
+none_where : {A : Type 0} (found : Option A) → ((all : A) → found ≡ Some all → ⊥) → found ≡ None
+none_where None never = refl
+none_where (Some all) never = absurd (never all refl)
+
+none_is_some : {A : Type 0} {all : A} → ◌≡◌ {A = Option A} (Some all) None → ⊥
+none_is_some same = absurd (cc)
+
+-- the data of a value
+module _ (j : Json) (left : List Token) (holds : Data → Type 0) (each : (made : Data) → of_json j ≡ Some made → holds made) where
+  found_of : (found : Option Data) → of_json j ≡ found → IfFound (option_map (λ (made : Data). (made, left)) found) left holds
+  found_of None is = tt
+  found_of (Some made) is = (refl, each made is)
+
+pub next_found : {A E : Type 0} (levels : ℕ) (old left : List Token) (j : Json) (holds : Data → A → Type 0) (result : Result A E) → value levels old ≡ Some (j, left)
+    → ((made : Data) → of_json j ≡ Some made → IfOk result (holds made)) → IfOk result (λ later. IfFound (data_at levels old) left (λ made. holds made later))
+next_found levels old left j holds (Ok later) is each = rw is (found_of j left (λ made. holds made later) each (of_json j) refl)
+next_found levels old left j holds (Err refusal) is each = tt
+
+-- what was read of a list whose rest begins here, where it is a list
+abbrev pub ListedSoFar : Opened → (levels n : ℕ) → (all : Items × List Token) → (now : List Token) → Listed → Type 0
+ListedSoFar opened levels n all now so_far =
+    (done : List Data) × (Some all ≡ parse_map (items_before done) (converted of_items (items (value levels) n now))) × HasRead opened done so_far
+
 abbrev pub Listing : Opened → (levels : ℕ) → (first now : List Token) → Listed → Type 0
 Listing opened levels first now so_far =
-    (n : ℕ) × (length now ≤ n) × (done : List Data)
-    × (converted of_items (items (value levels) (length first) first) ≡ parse_map (items_before done) (converted of_items (items (value levels) n now)))
-    × HasRead opened done so_far × (length now ≤ length first)
+    (n : ℕ) × (length now ≤ n) × (length now ≤ length first)
+    × ((all : Items × List Token) → converted of_items (items (value levels) (length first) first) ≡ Some all → ListedSoFar opened levels n all now so_far)
 
-pub one_listed : (opened : Opened) (levels : ℕ) (first now taken later : List Token) (so_far next : Listed) (made : Data)
-    → (after_end_array now ≡ None) × (taken ≡ now) → data_at levels taken ≡ Some (made, later) → length later < length taken → Listing opened levels first now so_far
-    → ((done : List Data) → HasRead opened done so_far → HasRead opened (done ++ made ∷ []) next) → Listing opened levels first later next
-one_listed opened levels first now taken later so_far next made going read shorter listing more =
+pub none_listed : (opened : Opened) (levels : ℕ) (first : List Token) (so_far : Listed) → HasRead opened [] so_far → Listing opened levels first first so_far
+none_listed opened levels first so_far has = (length first, omega arith, omega arith, λ all is. ([], sym is ∙ none_before _, has))
+
+-- no item begins here, so this is no list
+pub no_list : (opened : Opened) (levels : ℕ) (first now : List Token) (so_far : Listed) → Listing opened levels first now so_far → after_end_array now ≡ None → data_at levels now ≡ None
+    → converted of_items (items (value levels) (length first) first) ≡ None
+no_list opened levels first now so_far listing going none =
+    none_where _ (λ all is. let own = listing.3 all is in none_is_some (own.1 ∙ ap (parse_map (items_before own.0)) (item_refused (value levels) listing.0 now going none)))
+
+module _ (opened : Opened) (levels n : ℕ) (all : Items × List Token) (now later : List Token) (so_far next : Listed) (some : 0 < n) (going : after_end_array now ≡ None) where
+  listed_more : (found : Option (Data × List Token)) → data_at levels now ≡ found → IfFound found later (λ made. (done : List Data) → HasRead opened done so_far → HasRead opened (done ++ made ∷ []) next)
+      → ListedSoFar opened levels n all now so_far → ListedSoFar opened levels (n - 1) all later next
+  listed_more None none read own = absurd (none_is_some (own.1 ∙ ap (parse_map (items_before own.0)) (item_refused (value levels) n now going none)))
+  listed_more (Some (made, rest)) is read own = (
+    own.0 ++ made ∷ [],
+    own.1 ∙ ap (parse_map (items_before own.0)) (item_read (value levels) n now later made some going (is ∙ ap (λ left. Some (made, left)) read.0)) ∙ one_before own.0 made _,
+    read.1 own.0 own.2,
+  )
+
+pub one_listed : (opened : Opened) (levels : ℕ) (first now taken later : List Token) (so_far next : Listed)
+    → (after_end_array now ≡ None) × (taken ≡ now) → IfFound (data_at levels taken) later (λ made. (done : List Data) → HasRead opened done so_far → HasRead opened (done ++ made ∷ []) next)
+    → length later < length taken → Listing opened levels first now so_far → Listing opened levels first later next
+one_listed opened levels first now taken later so_far next going read shorter listing =
     let same = going.1 in
     let less : length later < length now = rw same at shorter in (
       listing.0 - 1,
       omega (arith, less, listing.1),
-      listing.2 ++ made ∷ [],
-      listing.3
-          ∙ ap (parse_map (items_before listing.2)) (item_read (value levels) listing.0 now later made (omega (arith, less, listing.1)) going.0 (rw same at read))
-          ∙ one_before listing.2 made _,
-      more listing.2 listing.4,
-      omega (arith, less, listing.5),
+      omega (arith, less, listing.2),
+      λ all is. listed_more opened levels listing.0 all now later so_far next (omega (arith, less, listing.1)) going.0 (data_at levels now) refl (rw same at read) (listing.3 all is),
     )
+
+-- the list ends here
+pub whole_list : (opened : Opened) (levels : ℕ) (first now left : List Token) (so_far : Listed) → Listing opened levels first now so_far → after_end_array now ≡ Some left
+    → IfFound (converted of_items (items (value levels) (length first) first)) left (λ list. IsRead opened (entries_of_list (opened_view opened) (listed list)) so_far.entries)
+whole_list opened levels first now left so_far listing ends =
+    found_where left _ _ (λ all is. let own = listing.3 all is in (
+      items_before own.0 no_items,
+      own.1 ∙ ap (parse_map (items_before own.0)) (items_read (value levels) listing.0 now left listing.1 ends),
+      all_read opened own.0 so_far own.2,
+    ))
+
+-- ---- members, one after another
+
+abbrev pub MembersSoFar : Opened → (levels n : ℕ) → (all : Members × List Token) → (now : List Token) → Result (Vec EventPart Global) BundleError → Type 0
+MembersSoFar opened levels n all now entries =
+    (earlier : Members) × (Some all ≡ converted (λ found. of_members found earlier) (members (value levels) n now)) × IsReadOf opened earlier entries
+
+-- what was read of an object whose rest begins here, where it is an object
+abbrev pub Reading : Opened → (levels : ℕ) → (first now : List Token) → Result (Vec EventPart Global) BundleError → Type 0
+Reading opened levels first now entries =
+    (n : ℕ) × (length now ≤ n) × ((all : Members × List Token) → converted (λ found. of_members found no_members) (members (value levels) (length first) first) ≡ Some all → MembersSoFar opened levels n all now entries)
+
+pub no_name_read : (opened : Opened) (levels : ℕ) (first now : List Token) (entries : Result (Vec EventPart Global) BundleError) → Reading opened levels first now entries → read_key now ≡ None
+    → converted (λ found. of_members found no_members) (members (value levels) (length first) first) ≡ None
+no_name_read opened levels first now entries reading none =
+    none_where _ (λ all is. let own = reading.2 all is in none_is_some (own.1 ∙ no_name (value levels) own.0 reading.0 now none))
+
+pub no_member_read : (opened : Opened) (levels : ℕ) (first now taken : List Token) (name : List ℕ) (entries : Result (Vec EventPart Global) BundleError) → Reading opened levels first now entries
+    → read_key now ≡ Some (Some name, taken) → data_at levels taken ≡ None → converted (λ found. of_members found no_members) (members (value levels) (length first) first) ≡ None
+no_member_read opened levels first now taken name entries reading named none =
+    none_where _ (λ all is. let own = reading.2 all is in none_is_some (own.1 ∙ member_refused (value levels) own.0 reading.0 name now taken named none))
+
+module _ (opened : Opened) (levels n : ℕ) (all : Members × List Token) (now taken later : List Token) (name : List ℕ) (so_far next : Result (Vec EventPart Global) BundleError) (some : 0 < n) (named : read_key now ≡ Some (Some name, taken)) where
+  members_more : (found : Option (Data × List Token)) → data_at levels taken ≡ found → IfFound found later (λ given. (earlier : Members) → IsReadOf opened earlier so_far → IsReadOf opened (put name given earlier) next)
+      → MembersSoFar opened levels n all now so_far → MembersSoFar opened levels (n - 1) all later next
+  members_more None none read own = absurd (none_is_some (own.1 ∙ member_refused (value levels) own.0 n name now taken named none))
+  members_more (Some (given, rest)) is read own = (
+    put name given own.0,
+    own.1 ∙ member_read (value levels) own.0 n name now taken later given some named (is ∙ ap (λ left. Some (given, left)) read.0),
+    read.1 own.0 own.2,
+  )
+
+pub member_more : (opened : Opened) (levels : ℕ) (first now taken later : List Token) (name : List ℕ) (so_far next : Result (Vec EventPart Global) BundleError)
+    → read_key now ≡ Some (Some name, taken) → length taken < length now → length later < length taken
+    → IfFound (data_at levels taken) later (λ given. (earlier : Members) → IsReadOf opened earlier so_far → IsReadOf opened (put name given earlier) next)
+    → Reading opened levels first now so_far → Reading opened levels first later next
+member_more opened levels first now taken later name so_far next named less lesser read reading = (
+  reading.0 - 1,
+  omega (arith, reading.1, less, lesser),
+  λ all is. members_more opened levels reading.0 all now taken later name so_far next (omega (arith, reading.1, less)) named (data_at levels taken) refl read (reading.2 all is),
+)
+
+pub whole_object : (opened : Opened) (levels : ℕ) (first now left : List Token) (entries : Result (Vec EventPart Global) BundleError) → Reading opened levels first now entries → read_key now ≡ Some (None, left)
+    → IfFound (converted (λ found. of_members found no_members) (members (value levels) (length first) first)) left (λ all. IsReadOf opened all entries)
+whole_object opened levels first now left entries reading ends =
+    found_where left _ _ (λ all is. let own = reading.2 all is in (own.0, own.1 ∙ members_read (value levels) own.0 reading.0 now left reading.1 ends, own.2))
 
 -- ---- measurements that are there or not
 
 module _ (levels : ℕ) (first rest : List Token) (some : 0 < levels) (begins : first ≡ Token.begin_array ∷ rest) where
   pub list_given : (opened : Opened) (left : List Token) (result : Result (Result (Vec EventPart Global) BundleError) StreamError)
-      → IfOk result (λ entries. (list : Items) × (converted of_items (items (value (levels - 1)) (length rest) rest) ≡ Some (list, left)) × IsRead opened (entries_of_list (opened_view opened) (listed list)) entries)
-      → IfOk result (λ entries. (given : Data) × (data_at levels first ≡ Some (given, left)) × IsRead opened (entries_given (opened_view opened) (unless_null (Some given))) entries)
-  list_given opened left (Ok entries) read = (array read.0, array_at levels first rest some begins ∙ ap (parse_map array) read.1, read.2)
+      → IfOk result (λ entries. IfFound (converted of_items (items (value (levels - 1)) (length rest) rest)) left (λ list. IsRead opened (entries_of_list (opened_view opened) (listed list)) entries))
+      → IfOk result (λ entries. IfFound (data_at levels first) left (λ given. IsRead opened (entries_given (opened_view opened) (unless_null (Some given))) entries))
+  list_given opened left (Ok entries) read =
+      subst (λ (found : Option (Data × List Token)). IfFound found left (λ given. IsRead opened (entries_given (opened_view opened) (unless_null (Some given))) entries)) (sym (array_at levels first rest some begins))
+      (found_maps left (λ given. IsRead opened (entries_given (opened_view opened) (unless_null (Some given))) entries) array _ _ (λ list here. here) read)
   list_given opened left (Err error) read = tt
 
   pub list_refused : {A : Type 0} (result : Result A StreamError) → IfRefused is_stream_memory result (λ error. converted of_items (items (value (levels - 1)) (length rest) rest) ≡ None)
@@ -210,6 +325,14 @@ none_given opened found none = record {
   exact = ap (λ items. Ok (map entry_view items)) (sym none);
   fit = (subst (AreEntries opened) (sym none) tt, omega (arith, ap length none));
 }
+
+pub other_given : (opened : Opened) (given : Data) → as_array given ≡ None → as_null given ≡ None → IsRead opened (entries_given (opened_view opened) (unless_null (Some given))) (Err (BadEntry 0))
+other_given opened null no_array no_null = absurd (cc)
+other_given opened (boolean value) no_array no_null = record { exact = refl; fit = tt }
+other_given opened (number digits) no_array no_null = record { exact = refl; fit = tt }
+other_given opened (string text) no_array no_null = record { exact = refl; fit = tt }
+other_given opened (array items) no_array no_null = absurd (cc)
+other_given opened (object all) no_array no_null = record { exact = refl; fit = tt }
 
 pub if_ok : {A E : Type 0} {P Q : A → Type 0} (result : Result A E) → ((found : A) → P found → Q found) → IfOk result P → IfOk result Q
 if_ok (Ok found) leads holds = leads found holds
@@ -227,6 +350,17 @@ other_member opened name given entries other earlier read =
     subst (λ (found : Option Data). IsRead opened (entries_given (opened_view opened) (unless_null found)) entries) (sym (get_member-put_other (codes "measurements") name given earlier other)) read
 
 -- ---- a whole document
+
+-- the members that a text's object has
+module _ (text : List ℕ) (document : Data) (rest left : List Token) (entries : Result (Vec EventPart Global) BundleError) (opened : Opened) (first : tokens text ≡ Token.begin_object ∷ rest) (is : read text ≡ Some document) where
+  read_of : (found : Option (Members × List Token)) → converted (λ found. of_members found no_members) (members (value 126) (length rest) rest) ≡ found → IfFound found left (λ all. IsReadOf opened all entries)
+      → (all : Members) × (document ≡ object all) × IsReadOf opened all entries
+  read_of None none read = absurd (no_object_read text document rest first none is)
+  read_of (Some (all, after)) found read = (all, is_object text document rest after all first found is, read.1)
+
+  pub document_read : IfFound (converted (λ found. of_members found no_members) (members (value 126) (length rest) rest)) left (λ all. IsReadOf opened all entries)
+      → (all : Members) × (document ≡ object all) × IsReadOf opened all entries
+  document_read read = read_of (converted (λ found. of_members found no_members) (members (value 126) (length rest) rest)) refl read
 
 pub never_memory : {X Y : Type 0} (view : X → Y) (result : Result X BundleError) (answer : Result Y BundleError) → Gives (λ error. false) view result answer → Gives is_bundle_memory view result answer
 never_memory view (Ok found) answer gives = gives

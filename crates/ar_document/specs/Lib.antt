@@ -3,5 +3,5 @@ pub mod Opening
 pub mod Parts
 pub mod Entries
 pub mod Document
-pub mod Misfits
+pub mod Unmeasured
 pub mod Refusals

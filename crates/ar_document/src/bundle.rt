@@ -10,7 +10,7 @@ ghost use Rattle.ar_json.specs.declared.document.JsonError.TheVariants as json_e
 ghost use Rattle.ar_limits.specs.Replay.{most_events};
 ghost use Rattle.ar_document.specs.Document.{IsHeadOf, Reads, ReadsInput, is_bundle_memory};
 ghost use Rattle.ar_document.specs.Entries.{entries_in, entry_view};
-ghost use Rattle.ar_document.specs.Misfits.{IsNoDocument};
+ghost use Rattle.ar_document.specs.Unmeasured.{IsNoDocument};
 ghost use Rattle.ar_document.specs.Opening.{opened_of};
 ghost use Rattle.ar_document.specs.Private.Made.{both_of};
 ghost use Rattle.ar_document.specs.Private.Measured.{AreEntries};

@@ -14,7 +14,7 @@ ghost use Rattle.ar_stream.specs.Passing.{data_at};
 ghost use Rattle.ar_stream.specs.declared.error.StreamError.TheVariants.{NotJson};
 ghost use Rattle.ar_document.specs.Document.{is_bundle_memory};
 ghost use Rattle.ar_document.specs.Entries.{entries_in, entries_of_list, entries_given, entry_view};
-ghost use Rattle.ar_document.specs.Private.Measured.{AreEntries, HasRead, IsRead, IsReadOf, listed_as, with_one};
+ghost use Rattle.ar_document.specs.Private.Measured.{AreEntries, HasRead, IfFound, IsRead, IsReadOf, listed_as, with_one};
 ghost use Rattle.ar_document.specs.Private.Opened.{IsOpened, opened_view};
 
 use crate::entries::entry_of;
@@ -75,9 +75,9 @@ fn with_next_entry(
     levels: usize,
 ) -> Result<Entries, StreamError>
     requires { IsOpened opened.now }
-    ensures read { IfOk result (λ later. (made : Data) × (data_at levels reader.old ≡ Some (made, reader.new))
-        × Gives (λ _. false) (λ found. map entry_view found.items) later
-        (with_one (opened_view opened.now) (map entry_view entries.items) made)) }
+    ensures read { IfOk result (λ later. IfFound (data_at levels reader.old) reader.new
+        (λ made. Gives (λ _. false) (λ found. map entry_view found.items) later
+        (with_one (opened_view opened.now) (map entry_view entries.items) made))) }
     ensures each { AreEntries opened.now entries.items → IfOk result (λ later. IfOk later (λ found.
         AreEntries opened.now found.items × (length found.items ≡ length entries.items + 1))) }
     ensures refused { IfRefused is_stream_memory result (λ _. data_at levels reader.old ≡ None) }
@@ -126,8 +126,8 @@ impl Listed {
         levels: usize,
     ) -> Result<Listed, StreamError>
         requires { IsOpened opened.now }
-        ensures read { IfOk result (λ later. (made : Data) × (data_at levels reader.old ≡ Some (made, reader.new))
-            × ((done : List Data) → HasRead opened.now done self → HasRead opened.now (done ++ made ∷ []) later)) }
+        ensures read { IfOk result (λ later. IfFound (data_at levels reader.old) reader.new (λ made.
+            (done : List Data) → HasRead opened.now done self → HasRead opened.now (done ++ made ∷ []) later)) }
         ensures refused { IfRefused is_stream_memory result (λ _. data_at levels reader.old ≡ None) }
         ensures after_fault { IsErr self.entries → IfErr result (λ error. error ≡ NotJson) }
         ensures shorter { OnOk result (length reader.new < length reader.old) }
@@ -154,9 +154,9 @@ fn read_list(
     levels: usize,
 ) -> Result<Entries, StreamError>
     requires { IsOpened opened.now }
-    ensures read { IfOk result (λ entries. (list : Items)
-        × (converted of_items (items (value levels) (length reader.old) reader.old) ≡ Some (list, reader.new))
-        × IsRead opened.now (entries_of_list (opened_view opened.now) (listed list)) entries) }
+    ensures read { IfOk result (λ entries.
+        IfFound (converted of_items (items (value levels) (length reader.old) reader.old)) reader.new
+        (λ list. IsRead opened.now (entries_of_list (opened_view opened.now) (listed list)) entries)) }
     ensures refused { IfRefused is_stream_memory result
         (λ _. converted of_items (items (value levels) (length reader.old) reader.old) ≡ None) }
     ensures no_longer { OnOk result (length reader.new ≤ length reader.old) }
@@ -176,8 +176,8 @@ fn read_measurements(
     levels: usize,
 ) -> Result<Entries, StreamError>
     requires { IsOpened opened.now }
-    ensures read { IfOk result (λ entries. (given : Data) × (data_at levels reader.old ≡ Some (given, reader.new))
-        × IsRead opened.now (entries_given (opened_view opened.now) (unless_null (Some given))) entries) }
+    ensures read { IfOk result (λ entries. IfFound (data_at levels reader.old) reader.new
+        (λ given. IsRead opened.now (entries_given (opened_view opened.now) (unless_null (Some given))) entries)) }
     ensures refused { IfRefused is_stream_memory result (λ _. data_at levels reader.old ≡ None) }
     ensures shorter { OnOk result (length reader.new < length reader.old) }
 {
@@ -198,8 +198,8 @@ fn with_member(
     levels: usize,
 ) -> Result<Entries, StreamError>
     requires { IsOpened opened.now }
-    ensures read { IfOk result (λ later. (given : Data) × (data_at levels reader.old ≡ Some (given, reader.new))
-        × ((earlier : Members) → IsReadOf opened.now earlier entries
+    ensures read { IfOk result (λ later. IfFound (data_at levels reader.old) reader.new
+        (λ given. (earlier : Members) → IsReadOf opened.now earlier entries
         → IsReadOf opened.now (put name.now given earlier) later)) }
     ensures refused { IfRefused is_stream_memory result (λ _. data_at levels reader.old ≡ None) }
     ensures shorter { OnOk result (length reader.new < length reader.old) }
@@ -219,9 +219,9 @@ fn read_members(
     levels: usize,
 ) -> Result<Entries, StreamError>
     requires { IsOpened opened.now }
-    ensures read { IfOk result (λ entries. (all : Members)
-        × (converted (λ found. of_members found no_members) (members (value levels) (length reader.old) reader.old)
-        ≡ Some (all, reader.new)) × IsReadOf opened.now all entries) }
+    ensures read { IfOk result (λ entries. IfFound
+        (converted (λ found. of_members found no_members) (members (value levels) (length reader.old) reader.old))
+        reader.new (λ all. IsReadOf opened.now all entries)) }
     ensures refused { IfRefused is_stream_memory result (λ _. converted (λ found. of_members found no_members)
         (members (value levels) (length reader.old) reader.old) ≡ None) }
 {

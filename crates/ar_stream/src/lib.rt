@@ -4,9 +4,9 @@
 //! of floats, and of members with one name the last counts. [`read_head`] checks the whole of a text, and keeps some
 //! members of the object that it is; [`read_picked`] keeps of one member the items that are picked. [`read_tree`],
 //! [`read_borrowed`] and [`pass_value`] take one value from the kit's reader of tokens: as a tree, as a tree that
-//! borrows its texts, or without one. [`enter`] and [`enter_object`] take the begin of an array or an object, whose
-//! items or members can then be taken one after another. How many levels such a value may have is limited by the
-//! caller.
+//! borrows its texts and whose numbers may be out of range, or without one. [`enter`] and [`enter_object`] take the
+//! begin of an array or an object, whose items or members can then be taken one after another. How many levels such a
+//! value may have is limited by the caller.
 //!
 //! What is proved, for all texts: each takes from the reader's tokens what the document's definition finds there
 //! (`specs/Passing`), and says that there is nothing just where there is; the head has the document's members of the

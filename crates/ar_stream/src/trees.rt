@@ -3,15 +3,12 @@
 ghost use Rattle.std.specs.Prelude.{◌≡◌, ◌<◌, IfOk, None, OnOk, Some, length};
 ghost use Rattle.json.specs.Json.{value};
 ghost use Rattle.json.specs.Value.{value_view};
-ghost use Rattle.serde_json.specs.Data.{Data};
-ghost use Rattle.serde_json.specs.Read.{of_json};
 ghost use Rattle.serde_json.specs.View.{view};
 ghost use Rattle.ar_value.specs.Answer.{IfRefused};
 ghost use Rattle.ar_stream.specs.Error.{is_stream_memory};
 ghost use Rattle.ar_stream.specs.Passing.{data_at};
 
 use crate::error::StreamError;
-use ar_borrowed::ranges::is_data;
 use ar_borrowed::trees::{TreeError, tree_of};
 use json::{Error as ReadError, Reader, Value as Borrowed};
 use serde_json::Value as Json;
@@ -39,7 +36,8 @@ pub fn read_tree(alloc: Global, reader: &mut Reader<'_>, levels: usize) -> Resul
     }
 }
 
-/// A reader's next value, of at most that many levels, as a tree that borrows its texts.
+/// A reader's next value, of at most that many levels, as a tree that borrows its texts. Its numbers may be out of
+/// range.
 ///
 /// # Errors
 ///
@@ -49,15 +47,12 @@ pub fn read_borrowed<'a>(
     reader: &mut Reader<'a>,
     levels: usize,
 ) -> Result<Borrowed<'a>, StreamError>
-    ensures read { IfOk result (λ tree. (made : Data) × (of_json (value_view tree) ≡ Some made)
-        × (data_at levels reader.old ≡ Some (made, reader.new))) }
-    ensures tree { IfOk result (λ tree. value levels reader.old ≡ Some (value_view tree, reader.new)) }
-    ensures refused { IfRefused is_stream_memory result (λ _. data_at levels reader.old ≡ None) }
+    ensures read { IfOk result (λ tree. value levels reader.old ≡ Some (value_view tree, reader.new)) }
+    ensures refused { IfRefused is_stream_memory result (λ _. value levels reader.old ≡ None) }
     ensures shorter { OnOk result (length reader.new < length reader.old) }
 {
     match Borrowed::read(alloc, reader, levels) {
-        Ok(value) if is_data(&value) => Ok(value),
-        Ok(_) => Err(StreamError::NotJson),
+        Ok(value) => Ok(value),
         Err(ReadError::OutOfMemory) => Err(StreamError::OutOfMemory),
         Err(_) => Err(StreamError::NotJson),
     }

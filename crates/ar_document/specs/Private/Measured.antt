@@ -1,7 +1,8 @@
 -- Entries, while they are read one after another.
-use Rattle.std.specs.Prelude.{◌≡◌, ◌⊎◌, ◌<◌, ◌≤◌, ◌+◌, ℕ, false, List, [], ◌∷◌, ◌++◌, length, map, codes, Result, Ok, IfOk, Vec}
+use Rattle.std.specs.Prelude.{◌≡◌, ◌⊎◌, ◌<◌, ◌≤◌, ◌+◌, ℕ, false, List, [], ◌∷◌, ◌++◌, length, map, codes, Option, Result, Ok, IfOk, IfSome, Vec}
 use Rattle.std.specs.List.{AllByRecursion}
 use Rattle.std.specs.declared.alloc.Global.{Global}
+use Rattle.json.specs.Token.{Token}
 use Rattle.serde_json.specs.Data.{Data, Members}
 use Rattle.serde_json.specs.Find.{get_member}
 use Rattle.ar_value.specs.Answer.{◌>>=◌, Gives}
@@ -15,6 +16,10 @@ use Rattle.ar_document.specs.Private.Opened.{opened_view}
 use Rattle.ar_document.specs.declared.error.BundleError.{BundleError}
 use Rattle.ar_document.specs.declared.measurements.Listed.{Listed}
 use Rattle.ar_document.specs.declared.opening.Opened.{Opened}
+
+-- where something is found, it leaves these tokens, and this holds of it
+abbrev pub IfFound : {A : Type 0} → Option (A × List Token) → (left : List Token) → (A → Type 0) → Type 0
+IfFound found left holds = IfSome found (λ pair. (pair.1 ≡ left) × holds pair.0)
 
 abbrev pub AreEntries : Opened → List EventPart → Type 0
 AreEntries opened entries = AllByRecursion (FitsBundle opened.metrics.items (length opened.runs.items)) entries

@@ -1,37 +1,28 @@
-use Rattle.std.proofs.Common.{◌≡◌, ◌-◌, length, Some, refl, ◌∙◌, arith}
+use Rattle.std.proofs.Common.{◌≡◌, length, Some, refl, sym, arith}
 use Rattle.std.proofs.lemmas.Result.{err_from_is_err_and}
-use Rattle.json.specs.Json.{read_key, value}
+use Rattle.json.specs.Json.{read_key}
 use Rattle.json.proofs.Grammar.{read_key-shorter}
-use Rattle.serde_json.specs.Data.{no_members, put}
+use Rattle.serde_json.specs.Data.{no_members}
 use Rattle.ar_value.proofs.Steps.{leads}
 use Rattle.ar_stream.specs.Error.{is_stream_memory}
-use Rattle.ar_stream.proofs.Kept.{member_read, member_refused, members_read, no_name}
-use Rattle.ar_document.proofs.Measuring.{none_given}
+use Rattle.ar_document.proofs.Measuring.{member_more, no_member_read, no_name_read, none_given, whole_object}
 use Rattle.ar_document.proofs.measurements.read_members.Goals as goal
 
 pub members-init : goal.members-init
-members-init c = (length c.args.reader.now, omega arith, no_members, refl, none_given c.args.opened.now c.new.result c.new.ensures.items)
+members-init c = (length c.args.reader.now, omega arith, λ all is. (no_members, sym is, none_given c.args.opened.now c.new.result c.new.ensures.items))
 
 pub returns-in_err-name-clause-refused : goal.returns-in_err-name-clause-refused
 returns-in_err-name-clause-refused c =
     let l = c.members in
     let error = err_from_is_err_and c.from_residual.result c.from_residual.ensures.1 in
-    rw (error.1, error.2) (l.invariant.3 ∙ no_name (value c.args.levels) l.invariant.2 l.invariant.0 l.reader c.in_err-name.ensures.value)
+    rw (error.1, error.2) (no_name_read c.args.opened.now c.args.levels c.args.reader.now l.reader l.entries l.invariant c.in_err-name.ensures.value)
 
 pub members-preserved : goal.members-preserved
 members-preserved c =
     let l = c.members in
     let named : read_key l.reader ≡ Some (Some c.in-Some.name.now, c.next_key.new.self) = grind arith in
     let less = read_key-shorter l.reader _ _ named in
-    let lesser = c.in_ok-entries.ensures.shorter in
-    let read = c.in_ok-entries.ensures.read in (
-      l.invariant.0 - 1,
-      omega (arith, l.invariant.1),
-      put c.in-Some.name.now read.0 l.invariant.2,
-      l.invariant.3
-          ∙ member_read (value c.args.levels) l.invariant.2 l.invariant.0 _ l.reader c.next_key.new.self _ read.0 (omega (arith, l.invariant.1)) named read.1,
-      read.2 l.invariant.2 l.invariant.4,
-    )
+    member_more c.args.opened.now c.args.levels c.args.reader.now l.reader c.next_key.new.self c.with_member.new.reader c.in-Some.name.now l.entries c.in_ok-entries.entries named less c.in_ok-entries.ensures.shorter c.in_ok-entries.ensures.read l.invariant
 
 pub returns-in_err-entries-clause-refused : goal.returns-in_err-entries-clause-refused
 returns-in_err-entries-clause-refused c =
@@ -39,12 +30,11 @@ returns-in_err-entries-clause-refused c =
     let named : read_key l.reader ≡ Some (Some c.in-Some.name.now, c.next_key.new.self) = grind arith in
     let error = err_from_is_err_and c.from_residual-in_err-entries.result c.from_residual-in_err-entries.ensures.1 in
     rw (error.1, error.2)
-    (leads (is_stream_memory c.in_err-entries.field-0.0) (λ none. l.invariant.3 ∙ member_refused (value c.args.levels) l.invariant.2 l.invariant.0 _ l.reader c.next_key.new.self named none) c.in_err-entries.ensures.refused)
+    (leads (is_stream_memory c.in_err-entries.field-0.0)
+    (λ none. no_member_read c.args.opened.now c.args.levels c.args.reader.now l.reader c.next_key.new.self c.in-Some.name.now l.entries l.invariant named none)
+    c.in_err-entries.ensures.refused)
 
 pub returns-clause-read : goal.returns-clause-read
 returns-clause-read c =
-    let l = c.members in (
-      l.invariant.2,
-      l.invariant.3 ∙ members_read (value c.args.levels) l.invariant.2 l.invariant.0 l.reader c.next_key.new.self l.invariant.1 (grind arith),
-      l.invariant.4,
-    )
+    let l = c.members in
+    whole_object c.args.opened.now c.args.levels c.args.reader.now l.reader c.next_key.new.self l.entries l.invariant (grind arith)

@@ -1,4 +1,4 @@
--- Measurements of values that don't fit, and those that are picked.
+-- Measurements without a value, and those that are picked.
 use Rattle.std.proofs.Common.{◌≡◌, ◌≢◌, ℕ, zero, suc, Bool, true, false, ◌||◌, if◌then◌else◌, List, [], ◌∷◌, map, codes, Option, Some, None, option_map, option_and_then, Result, Ok, Err, true≢false, refl, sym, ap, ◌∙◌}
 use Rattle.std.specs.Prelude.{slice_get}
 use Rattle.std.specs.List.{list_any}
@@ -15,7 +15,7 @@ use Rattle.ar_bundle.specs.Bundle.{Bundle}
 use Rattle.ar_bundle.specs.declared.bundle.EventPart.{EventPart}
 use Rattle.ar_stream.specs.Picked.{HasPicked, picked_items, picked_of}
 use Rattle.ar_document.specs.Document.{is_bundle_memory}
-use Rattle.ar_document.specs.Misfits.{IsNoDocument, KeepsMisfits, has_misfit, is_misfit_at, is_misfit_there, measurement_at}
+use Rattle.ar_document.specs.Unmeasured.{IsNoDocument, KeepsUnmeasured, is_unmeasured, is_unmeasured_at, is_unmeasured_there, measurement_at}
 use Rattle.ar_document.specs.declared.error.BundleError.{BundleError}
 use Rattle.ar_document.specs.declared.error.BundleError.TheVariants as errors
 
@@ -49,7 +49,7 @@ there_picked : (flags : List Bool) (number : ℕ) (found : Option Data)
 there_picked flags number None = refl
 there_picked flags number (Some found) = at_picked flags number found
 
-flag_is : (entries : List EventPart) (number : ℕ) → flag_at (map has_misfit entries) number ≡ is_misfit_there (slice_get entries number)
+flag_is : (entries : List EventPart) (number : ℕ) → flag_at (map is_unmeasured entries) number ≡ is_unmeasured_there (slice_get entries number)
 flag_is [] number = refl
 flag_is (first ∷ entries) zero = refl
 flag_is (first ∷ entries) (suc number) = flag_is entries number
@@ -68,14 +68,14 @@ only_null : (there : Option Data) (found : Data) → option_map (if_picked false
 only_null None found some = absurd (cc)
 only_null (Some there) found some = sym (ap (data_or found) some)
 
-module _ (bundle : Bundle) (document kept : Data) (no_others : (name : List ℕ) → name ≢ codes "measurements" → get name kept ≡ None) (picked : get (codes "measurements") kept ≡ option_map (picked_of (map has_misfit bundle.entries)) (get (codes "measurements") document)) where
-  each : (number : ℕ) (flag : Bool) → is_misfit_at bundle number ≡ flag → measurement_at kept number ≡ option_map (if_picked flag) (measurement_at document number)
+module _ (bundle : Bundle) (document kept : Data) (no_others : (name : List ℕ) → name ≢ codes "measurements" → get name kept ≡ None) (picked : get (codes "measurements") kept ≡ option_map (picked_of (map is_unmeasured bundle.entries)) (get (codes "measurements") document)) where
+  each : (number : ℕ) (flag : Bool) → is_unmeasured_at bundle number ≡ flag → measurement_at kept number ≡ option_map (if_picked flag) (measurement_at document number)
   each number flag is =
-      ap (option_and_then (at number)) picked ∙ there_picked (map has_misfit bundle.entries) number (get (codes "measurements") document)
+      ap (option_and_then (at number)) picked ∙ there_picked (map is_unmeasured bundle.entries) number (get (codes "measurements") document)
       ∙ ap (λ flag. option_map (if_picked flag) (measurement_at document number)) (flag_is bundle.entries number ∙ is)
 
-  picks_misfits : KeepsMisfits bundle document kept
-  picks_misfits = record {
+  picks_unmeasured : KeepsUnmeasured bundle document kept
+  picks_unmeasured = record {
     same = λ number is. each number true is ∙ all_of (measurement_at document number);
     others = λ number is found some. only_null (measurement_at document number) found (sym (each number false is) ∙ some);
     no_members = no_others;
@@ -85,14 +85,14 @@ abbrev ok_or : Data → Result Data JsonError → Data
 ok_or other (Ok found) = found
 ok_or other (Err error) = other
 
-pub keeps_misfits : (bundle : Bundle) (input text : List ℕ) (flags : List Bool) (kept : Data) → text ≡ input → flags ≡ map has_misfit bundle.entries
+pub keeps_unmeasured : (bundle : Bundle) (input text : List ℕ) (flags : List Bool) (kept : Data) → text ≡ input → flags ≡ map is_unmeasured bundle.entries
     → json_in input ≡ there_or Utf8OrJson (read input) → HasPicked (codes "measurements") flags text kept
-    → (document : Data) → json_in input ≡ Ok document → KeepsMisfits bundle document kept
-keeps_misfits bundle input text flags kept same are reads has document is =
+    → (document : Data) → json_in input ≡ Ok document → KeepsUnmeasured bundle document kept
+keeps_unmeasured bundle input text flags kept same are reads has document is =
     let own : document ≡ has.document = ap (ok_or document) (sym is ∙ reads ∙ ap (there_or Utf8OrJson) (ap read (sym same) ∙ has.is_read)) in
-    picks_misfits bundle document kept has.no_others
+    picks_unmeasured bundle document kept has.no_others
     (has.picked ∙ ap (λ flags. option_map (picked_of flags) (get (codes "measurements") has.document)) are
-    ∙ ap (λ document. option_map (picked_of (map has_misfit bundle.entries)) (get (codes "measurements") document)) (sym own))
+    ∙ ap (λ document. option_map (picked_of (map is_unmeasured bundle.entries)) (get (codes "measurements") document)) (sym own))
 
 -- what is refused is no document
 pub no_document : {A : Type 0} (input text : List ℕ) → text ≡ input → json_in input ≡ there_or Utf8OrJson (read input)
@@ -103,18 +103,18 @@ no_document input text same reads (Err error) refused =
     (λ none. record { cause = Utf8OrJson; is_none = reads ∙ ap (there_or Utf8OrJson) (ap read (sym same) ∙ none.0); named = none.1 })
     refused
 
--- ---- where nothing is a misfit
+-- ---- where each measurement has a value
 
 neither : (one others : Bool) → (one || others) ≡ false → (one ≡ false) × (others ≡ false)
 neither true others none = absurd (true≢false none)
 neither false others none = (refl, none)
 
-none_there : (entries : List EventPart) (number : ℕ) → list_any has_misfit entries ≡ false → is_misfit_there (slice_get entries number) ≡ false
+none_there : (entries : List EventPart) (number : ℕ) → list_any is_unmeasured entries ≡ false → is_unmeasured_there (slice_get entries number) ≡ false
 none_there [] number none = refl
-none_there (first ∷ entries) zero none = (neither (has_misfit first) (list_any has_misfit entries) none).0
-none_there (first ∷ entries) (suc number) none = none_there entries number (neither (has_misfit first) (list_any has_misfit entries) none).1
+none_there (first ∷ entries) zero none = (neither (is_unmeasured first) (list_any is_unmeasured entries) none).0
+none_there (first ∷ entries) (suc number) none = none_there entries number (neither (is_unmeasured first) (list_any is_unmeasured entries) none).1
 
-pub nothing_kept : (bundle : Bundle) (document : Data) → list_any has_misfit bundle.entries ≡ false → KeepsMisfits bundle document null
+pub nothing_kept : (bundle : Bundle) (document : Data) → list_any is_unmeasured bundle.entries ≡ false → KeepsUnmeasured bundle document null
 nothing_kept bundle document none = record {
   same = λ number is. absurd (true≢false (sym is ∙ none_there bundle.entries number none));
   others = λ number is found some. absurd (cc);

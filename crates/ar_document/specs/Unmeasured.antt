@@ -1,4 +1,5 @@
--- The measurements of a document whose values don't fit their metrics' shapes.
+-- The measurements of a document that gave no value of their metrics' shapes: the value doesn't fit, or the provider
+-- failed.
 use Rattle.std.specs.Prelude.{◌≡◌, ◌≢◌, Bool, true, false, codes, slice_get, Option, Some, None, option_and_then, Err}
 use Rattle.ar_value.specs.Terms.{Bytes, Text}
 use Rattle.serde_json.specs.Data.{Data, null}
@@ -14,37 +15,37 @@ use Rattle.ar_bundle.specs.declared.bundle.What.TheVariants.{Measure, Stop}
 use Rattle.ar_document.specs.Document.{bundle_json_error}
 use Rattle.ar_document.specs.declared.error.BundleError.{BundleError}
 
-abbrev pub is_misfit : Sample → Bool
-is_misfit (misfit fault) = true
-is_misfit (measured value) = false
-is_misfit provider = false
+abbrev pub lacks_value : Sample → Bool
+lacks_value (misfit fault) = true
+lacks_value provider = true
+lacks_value (measured value) = false
 
-abbrev pub measures_misfit : What → Bool
-measures_misfit (Measure metric sample) = is_misfit (sample_view sample)
-measures_misfit Stop = false
+abbrev pub gave_no_value : What → Bool
+gave_no_value (Measure metric sample) = lacks_value (sample_view sample)
+gave_no_value Stop = false
 
--- an entry is a measurement of a value that doesn't fit its metric's shape
-abbrev pub has_misfit : EventPart → Bool
-has_misfit entry = measures_misfit entry.what
+-- an entry is a measurement that gave no value of its metric's shape
+abbrev pub is_unmeasured : EventPart → Bool
+is_unmeasured entry = gave_no_value entry.what
 
-abbrev pub is_misfit_there : Option EventPart → Bool
-is_misfit_there (Some entry) = has_misfit entry
-is_misfit_there None = false
+abbrev pub is_unmeasured_there : Option EventPart → Bool
+is_unmeasured_there (Some entry) = is_unmeasured entry
+is_unmeasured_there None = false
 
 -- the entry with a number is such a measurement
-abbrev pub is_misfit_at : Bundle → (number : EventNumber) → Bool
-is_misfit_at bundle number = is_misfit_there (slice_get bundle.entries number)
+abbrev pub is_unmeasured_at : Bundle → (number : EventNumber) → Bool
+is_unmeasured_at bundle number = is_unmeasured_there (slice_get bundle.entries number)
 
 -- the measurement with a number, as a document has it
 abbrev pub measurement_at : (document : Data) → (number : EventNumber) → Option Data
 measurement_at document number = option_and_then (at number) (get (codes "measurements") document)
 
--- of a document's measurements, those of values that don't fit are kept, each at its place, and null is in place of the
+-- of a document's measurements, those that gave no value are kept, each at its place, and null is in place of the
 -- others; of its other members nothing is kept
-pub record KeepsMisfits (bundle : Bundle) (document kept : Data) : Type 0 where
-  pub same : (number : EventNumber) → is_misfit_at bundle number ≡ true
+pub record KeepsUnmeasured (bundle : Bundle) (document kept : Data) : Type 0 where
+  pub same : (number : EventNumber) → is_unmeasured_at bundle number ≡ true
       → measurement_at kept number ≡ measurement_at document number
-  pub others : (number : EventNumber) → is_misfit_at bundle number ≡ false
+  pub others : (number : EventNumber) → is_unmeasured_at bundle number ≡ false
       → (found : Data) → measurement_at kept number ≡ Some found → found ≡ null
   pub no_members : (name : Text) → name ≢ codes "measurements" → get name kept ≡ None
 

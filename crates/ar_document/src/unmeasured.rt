@@ -1,4 +1,4 @@
-//! The measurements of a document whose values don't fit their metrics' shapes.
+//! The measurements of a document that gave no value of their metrics' shapes.
 
 ghost use Rattle.std.specs.Prelude.{◌≡◌, IfOk, IsOkAnd, None, Ok, codes, false, map};
 ghost use Rattle.std.specs.List.{list_any};
@@ -9,7 +9,7 @@ ghost use Rattle.ar_value.specs.Answer.{IfRefused};
 ghost use Rattle.ar_json.specs.Document.{json_in};
 ghost use Rattle.ar_stream.specs.Picked.{HasPicked};
 ghost use Rattle.ar_document.specs.Document.{is_bundle_memory};
-ghost use Rattle.ar_document.specs.Misfits.{IsNoDocument, KeepsMisfits, has_misfit};
+ghost use Rattle.ar_document.specs.Unmeasured.{IsNoDocument, KeepsUnmeasured, is_unmeasured};
 ghost use Rattle.ar_document.specs.declared.error.BundleError.TheVariants.{Utf8OrJson};
 
 use crate::bundle::text_of;
@@ -22,31 +22,31 @@ use json::Scratch;
 use serde_json::Value as Json;
 use std::alloc::{AllocError, Global};
 
-/// Is an entry a measurement of a value that doesn't fit its metric's shape?
-fn has_misfit(entry: &EventPart) -> bool
-    ensures { result ≡ has_misfit entry.now }
+/// Is an entry a measurement that gave no value of its metric's shape?
+fn is_unmeasured(entry: &EventPart) -> bool
+    ensures { result ≡ is_unmeasured entry.now }
 {
     match &entry.what {
-        What::Measure(_, Sample::Misfit(_)) => true,
-        What::Measure(_, Sample::Measured(_) | Sample::Provider) => false,
+        What::Measure(_, Sample::Misfit(_) | Sample::Provider) => true,
+        What::Measure(_, Sample::Measured(_)) => false,
         What::Stop => false,
     }
 }
 
 /// Is one of these entries such a measurement?
-fn have_misfit(entries: &[EventPart]) -> bool
-    ensures { result ≡ list_any has_misfit entries.now }
+fn are_unmeasured(entries: &[EventPart]) -> bool
+    ensures { result ≡ list_any is_unmeasured entries.now }
 {
-    entries.iter().any(has_misfit)
+    entries.iter().any(is_unmeasured)
 }
 
 /// Which of these entries are such measurements?
-fn misfits_among(alloc: Global, entries: &[EventPart]) -> Result<Vec<bool>, AllocError>
-    ensures { IfOk result (λ flags. flags.items ≡ map has_misfit entries.now) }
+fn unmeasured_among(alloc: Global, entries: &[EventPart]) -> Result<Vec<bool>, AllocError>
+    ensures { IfOk result (λ flags. flags.items ≡ map is_unmeasured entries.now) }
 {
     let mut flags = Vec::with_capacity(alloc, entries.len())?;
     for entry in entries {
-        try_push(&mut flags, has_misfit(entry))?;
+        try_push(&mut flags, is_unmeasured(entry))?;
     }
     Ok(flags)
 }
@@ -69,24 +69,24 @@ fn picked_of(
     }
 }
 
-/// A document that has, of the measurements of a bundle's document, those of values that don't fit their metrics'
-/// shapes, each at its place, and null in place of the others. Where there is no such value, it is null: nothing is
-/// read, and nothing can fail.
+/// A document that has, of the measurements of a bundle's document, those that gave no value of their metrics' shapes,
+/// each at its place, and null in place of the others: there the value doesn't fit, or the provider failed. Where there
+/// is no such measurement, it is null: nothing is read, and nothing can fail.
 ///
 /// # Errors
 ///
 /// `TooLarge` or `Utf8OrJson` where the input is no document.
-pub fn read_misfits(alloc: Global, input: &[u8], bundle: &Bundle) -> Result<Json, BundleError>
+pub fn read_unmeasured(alloc: Global, input: &[u8], bundle: &Bundle) -> Result<Json, BundleError>
     ensures kept { IfOk result
-        (λ kept. (document : Data) → json_in input.now ≡ Ok document → KeepsMisfits bundle.now document (view kept)) }
+        (λ kept. (document : Data) → json_in input.now ≡ Ok document → KeepsUnmeasured bundle.now document (view kept)) }
     ensures refused { IfRefused is_bundle_memory result (IsNoDocument input.now) }
-    ensures none { list_any has_misfit bundle.now.entries ≡ false → IsOkAnd result (λ kept. view kept ≡ null) }
+    ensures none { list_any is_unmeasured bundle.now.entries ≡ false → IsOkAnd result (λ kept. view kept ≡ null) }
 {
     let entries = bundle.entries();
-    if !have_misfit(entries) {
+    if !are_unmeasured(entries) {
         return Ok(Json::Null);
     }
-    let picks = misfits_among(alloc, entries)?;
+    let picks = unmeasured_among(alloc, entries)?;
     let text = text_of(input)?;
     let mut scratch = Scratch::new(alloc);
     picked_of(alloc, &picks, text, &mut scratch)
