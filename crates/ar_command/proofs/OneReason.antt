@@ -31,7 +31,7 @@ use Rattle.ar_command_line.specs.declared.command_line.Command.TheVariants as co
 use Rattle.ar_command_line.specs.declared.command_line.Format.{Format}
 use Rattle.ar_document.specs.Entries.{Entry, entry_view, what_view}
 use Rattle.ar_document.specs.Opening.{Metric, metric_view}
-use Rattle.ar_reason.specs.Reason.{conditions_by, conditions_of, evaluated_if_there, given_by, given_of, misfit_words, reason_if_there, reason_of, reasons_from, reasons_of, run_reasons, measured_value}
+use Rattle.ar_reason.specs.Reason.{conditions_by, conditions_of, error_given, evaluated_if_there, given_by, given_of, measured_member, misfit_words, reason_if_there, reason_of, reasons_from, reasons_of, run_reasons}
 use Rattle.ar_reason.specs.ReasonData.{reasons_data}
 use Rattle.ar_reason.specs.ReasonText.{reasons_text}
 use Rattle.ar_reason.specs.Steps.{chosen_steps, is_chosen_run, steps_after}
@@ -147,8 +147,8 @@ module _ (one other : Bundle) (same : IsSameBundle one other) where
   same_given document number (Measure metric sample) (Measure place also) view =
       let metric_is : metric ≡ place = cc in
       let sample_is : sample_view sample ≡ sample_view also = cc in
-      let words = same_misfit_words (measured_value document number) (slice_get one.metrics place) (slice_get other.metrics place) (same_metric one.metrics other.metrics place same.metrics) in
-      rw metric_is (rw sample_is (ap (λ words. given_by words (sample_view also)) words))
+      let words = same_misfit_words (measured_member (codes "value") document number) (slice_get one.metrics place) (slice_get other.metrics place) (same_metric one.metrics other.metrics place same.metrics) in
+      rw metric_is (rw sample_is (ap (λ words. given_by words (error_given (measured_member (codes "error") document number)) (sample_view also)) words))
   same_given document number (Measure metric sample) Stop view = absurd cc
   same_given document number Stop (Measure place also) view = absurd cc
   same_given document number Stop Stop view = refl

@@ -19,23 +19,26 @@ use Rattle.ar_document.specs.Document.{FollowsJson, ReadsInput}
 use Rattle.ar_document.specs.Unmeasured.{IsNoDocument, KeepsUnmeasured, lacks_value, is_unmeasured_there, measurement_at, gave_no_value}
 use Rattle.ar_document.specs.declared.error.BundleError.{BundleError}
 use Rattle.ar_facts.specs.Facts.{event_facts, facts_of_metrics}
-use Rattle.ar_reason.specs.Reason.{Reason, RunReasons, conditions_of, gave_misfit, given_by, given_of, misfit_words, reason_if_there, reason_of, reason_with, reasons_from, reasons_of, run_reasons}
+use Rattle.ar_reason.specs.Reason.{Given, Reason, RunReasons, conditions_of, error_given, gave_misfit, given_by, given_of, misfit_words, reason_if_there, reason_of, reason_with, reasons_from, reasons_of, run_reasons}
 use Rattle.ar_reason.specs.Steps.{chosen_steps, is_chosen_run}
 use Rattle.ar_reason.specs.declared.chosen.Chosen.{Chosen}
 use Rattle.ar_reason.specs.declared.steps.Step.{Step}
 
 -- a document is looked at only where there is no value
-given_alike : (text other : Text) (sample : Sample) → (lacks_value sample ≡ true → text ≡ other) → given_by text sample ≡ given_by other sample
-given_alike text other provider same = refl
-given_alike text other (misfit fault) same = ap gave_misfit (same refl)
-given_alike text other (measured found) same = refl
+given_alike : (text other : Text) (error also : Given) (sample : Sample) → (lacks_value sample ≡ true → (text ≡ other) × (error ≡ also)) → given_by text error sample ≡ given_by other also sample
+given_alike text other error also provider same = (same refl).1
+given_alike text other error also (misfit fault) same = ap gave_misfit (same refl).0
+given_alike text other error also (measured found) same = refl
 
 module _ (bundle : Bundle) (document kept : Data) (keeps : KeepsUnmeasured bundle document kept) where
   same_given : (number : ℕ) (what : What) → (gave_no_value what ≡ true → measurement_at kept number ≡ measurement_at document number)
       → given_of kept bundle number what ≡ given_of document bundle number what
   same_given number (Measure metric sample) same =
-      given_alike _ _ (sample_view sample)
-      (λ is. ap (λ found. misfit_words (option_and_then (get (codes "value")) found) (slice_get bundle.metrics metric)) (same is))
+      given_alike _ _ _ _ (sample_view sample)
+      (λ is. (
+        ap (λ found. misfit_words (option_and_then (get (codes "value")) found) (slice_get bundle.metrics metric)) (same is),
+        ap (λ found. error_given (option_and_then (get (codes "error")) found)) (same is),
+      ))
   same_given number Stop same = refl
 
   same_there : (step : Step) (there : Option EventPart) → slice_get bundle.entries step.entry.number ≡ there → reason_if_there kept bundle step there ≡ reason_if_there document bundle step there

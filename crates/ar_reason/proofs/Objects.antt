@@ -12,7 +12,7 @@ use Rattle.ar_facts.specs.Facts.{MetricFacts}
 use Rattle.ar_facts.specs.ReportData.{event_data}
 use Rattle.ar_object.specs.Object.{count_data, text_or_null}
 use Rattle.ar_reason.specs.Reason.{EvaluatedCondition, Reason, RunReasons}
-use Rattle.ar_reason.specs.ReasonData.{change_data, evaluated_data, failure_if_there, given_misfit, given_value, operands_if_there, part_data, reason_data, reasons_data, run_reasons_data, value_if_there, waiting_data}
+use Rattle.ar_reason.specs.ReasonData.{change_data, evaluated_data, failure_if_there, given_error, given_misfit, given_value, operands_if_there, part_data, reason_data, reasons_data, run_reasons_data, value_if_there, waiting_data}
 use Rattle.ar_reason.specs.Waiting.{waits_for}
 use Rattle.ar_reason.specs.Why.{why_words}
 use Rattle.ar_reason.specs.declared.steps.Change.{Change}
@@ -51,7 +51,7 @@ finding_small reason = let is = finding_flat reason.event reason.event.finding i
 
 reason_flat : (reason : Reason) → depth (reason_data reason) ≤ 7
 reason_flat reason =
-    six_deep _ _ _ _ _ _ 6 (above (none_deep evaluated_data 5 evaluated_flat reason.conditions)) (change_flat reason.change) (finding_small reason) (text_small (given_misfit reason.given) 6) (text_small (option_map why_words reason.why) 6) (text_small (given_value reason.given) 6)
+    seven_deep _ _ _ _ _ _ _ 6 (above (none_deep evaluated_data 5 evaluated_flat reason.conditions)) (change_flat reason.change) (text_small (given_error reason.given) 6) (finding_small reason) (text_small (given_misfit reason.given) 6) (text_small (option_map why_words reason.why) 6) (text_small (given_value reason.given) 6)
 
 waiting_flat : (metric : MetricFacts) → depth (waiting_data metric) ≡ 3
 waiting_flat metric = rw (metric_flat metric, text_flat (waits_for metric.phase metric.limits metric.counts)) refl

@@ -2,7 +2,7 @@
 use Rattle.ar_judge.specs.Condition.{Condition}
 use Rattle.std.specs.Prelude.{ℕ, suc, Bool, true, false, if◌then◌else◌, List, [], ◌∷◌, ◌++◌, codes, map, slice_get, Option, Some, None, option_and_then, Result, Ok, Err}
 use Rattle.std.specs.List.{list_any}
-use Rattle.serde_json.specs.Data.{Data}
+use Rattle.serde_json.specs.Data.{Data, string}
 use Rattle.serde_json.specs.Find.{at, get}
 use Rattle.ar_value.specs.Terms.{Text}
 use Rattle.ar_value.specs.Value.{Value}
@@ -28,7 +28,7 @@ use Rattle.ar_explain.specs.Lines.{Explanation, Outcome, earlier_lines, explaine
 use Rattle.ar_misfit.specs.Misfit.{misfit}
 use Rattle.ar_misfit.specs.MisfitText.{misfit_text_of}
 use Rattle.ar_facts.specs.Facts.{EventFacts, MetricFacts, event_facts, facts_of_metrics}
-use Rattle.ar_show.specs.Values.{shown_value}
+use Rattle.ar_show.specs.Values.{shown_text, shown_value}
 use Rattle.ar_reason.specs.Steps.{chosen_steps, is_chosen_run}
 use Rattle.ar_reason.specs.Why.{why_of}
 use Rattle.ar_reason.specs.declared.chosen.Chosen.{Chosen}
@@ -39,30 +39,38 @@ use Rattle.ar_reason.specs.declared.why.Why.{Why}
 -- ---- what the provider of a metric gave
 
 pub data Given : Type 0 where
-  -- nothing: the event is a stop, or the provider failed
+  -- nothing: the event is a stop, or the provider failed without a text
   gave_nothing : Given
+  -- an error with a text, which is shown so
+  gave_error : (text : Text) → Given
   -- a value, which is shown so
   gave_value : (text : Text) → Given
   -- what doesn't fit the metric's shape: where, and what was expected
   gave_misfit : (text : Text) → Given
 
--- the value of a measurement, as the document has it
-abbrev pub measured_value : (document : Data) → (number : EventNumber) → Option Data
-measured_value document number =
-    option_and_then (get (codes "value")) (option_and_then (at number) (get (codes "measurements") document))
+-- a member of a measurement, as the document has it
+abbrev pub measured_member : (name : Text) → (document : Data) → (number : EventNumber) → Option Data
+measured_member name document number =
+    option_and_then (get name) (option_and_then (at number) (get (codes "measurements") document))
+
+abbrev pub error_given : (found : Option Data) → Given
+error_given (Some (string text)) = gave_error (shown_text text)
+error_given found = gave_nothing
 
 abbrev pub misfit_words : (found : Option Data) → (metric : Option MetricPart) → Text
 misfit_words (Some found) (Some metric) = misfit_text_of (misfit (shape_view metric.shape) found)
 misfit_words found metric = []
 
-abbrev pub given_by : (misfit_there : Text) → Sample → Given
-given_by misfit_there provider = gave_nothing
-given_by misfit_there (unfit fault) = gave_misfit misfit_there
-given_by misfit_there (measured found) = gave_value (shown_value found)
+abbrev pub given_by : (misfit_there : Text) → (error_there : Given) → Sample → Given
+given_by misfit_there error_there provider = error_there
+given_by misfit_there error_there (unfit fault) = gave_misfit misfit_there
+given_by misfit_there error_there (measured found) = gave_value (shown_value found)
 
 abbrev pub given_of : (document : Data) → Bundle → (number : EventNumber) → What → Given
 given_of document bundle number (Measure metric sample) =
-    given_by (misfit_words (measured_value document number) (slice_get bundle.metrics metric)) (sample_view sample)
+    given_by
+    (misfit_words (measured_member (codes "value") document number) (slice_get bundle.metrics metric))
+    (error_given (measured_member (codes "error") document number)) (sample_view sample)
 given_of document bundle number Stop = gave_nothing
 
 -- ---- what the conditions said of it

@@ -8,7 +8,7 @@ use Rattle.ar_facts.specs.Facts.{MetricFacts}
 use Rattle.ar_facts.specs.ReportData.{counts_data, event_data, limits_data, metric_data, named_list, run_with}
 use Rattle.ar_object.specs.Object.{array_of, count_data, text_or_null}
 use Rattle.ar_show.specs.PartText.{shown_part}
-use Rattle.ar_reason.specs.Reason.{EvaluatedCondition, Given, Reason, RunReasons, gave_misfit, gave_value}
+use Rattle.ar_reason.specs.Reason.{EvaluatedCondition, Given, Reason, RunReasons, gave_error, gave_misfit, gave_value}
 use Rattle.ar_reason.specs.ReasonText.{failure_name}
 use Rattle.ar_reason.specs.Waiting.{waits_for}
 use Rattle.ar_reason.specs.Why.{why_words}
@@ -63,6 +63,10 @@ abbrev pub given_value : Given → Option Text
 given_value (gave_value text) = Some text
 given_value given = None
 
+abbrev pub given_error : Given → Option Text
+given_error (gave_error text) = Some text
+given_error given = None
+
 abbrev pub given_misfit : Given → Option Text
 given_misfit (gave_misfit text) = Some text
 given_misfit given = None
@@ -73,19 +77,20 @@ change_data change = object
     (member (codes "before") (counts_data change.before.counts)
     (member (codes "limits") (limits_data change.limits) no_members)))
 
-abbrev pub reason_members : (conditions : List Data) → (counts event misfit reason value : Data) → Data
-reason_members conditions counts event misfit reason value = object
+abbrev pub reason_members : (conditions : List Data) → (counts error event misfit reason value : Data) → Data
+reason_members conditions counts error event misfit reason value = object
     (member (codes "conditions") (array_of conditions)
     (member (codes "counts") counts
+    (member (codes "error") error
     (member (codes "event") event
     (member (codes "misfit") misfit
     (member (codes "reason") reason
-    (member (codes "value") value no_members))))))
+    (member (codes "value") value no_members)))))))
 
 abbrev pub reason_data : Reason → Data
 reason_data reason =
     reason_members (map evaluated_data reason.conditions) (option_map_or change_data reason.change null)
-    (event_data reason.event) (text_or_null (given_misfit reason.given))
+    (text_or_null (given_error reason.given)) (event_data reason.event) (text_or_null (given_misfit reason.given))
     (text_or_null (option_map why_words reason.why)) (text_or_null (given_value reason.given))
 
 -- ---- a run

@@ -10,7 +10,7 @@ use Rattle.ar_facts.specs.Names.{phase_name}
 use Rattle.ar_facts.specs.Report.{event_line, metric_line, run_line}
 use Rattle.ar_show.specs.PartText.{shown_part}
 use Rattle.ar_reason.specs.Counts.{changed_counts}
-use Rattle.ar_reason.specs.Reason.{EvaluatedCondition, Given, Reason, RunReasons, gave_misfit, gave_nothing, gave_value}
+use Rattle.ar_reason.specs.Reason.{EvaluatedCondition, Given, Reason, RunReasons, gave_error, gave_misfit, gave_nothing, gave_value}
 use Rattle.ar_reason.specs.Waiting.{waits_for}
 use Rattle.ar_reason.specs.Why.{why_words}
 use Rattle.ar_reason.specs.declared.steps.Change.{Change}
@@ -58,6 +58,7 @@ condition_text condition =
 abbrev pub given_line : Given → Text
 given_line gave_nothing = []
 given_line (gave_value text) = codes "  value: " ++ (text ++ codes "\n")
+given_line (gave_error text) = codes "  error: " ++ (text ++ codes "\n")
 given_line (gave_misfit text) = codes "  misfit: " ++ (text ++ codes "\n")
 
 -- a stop changes no counts

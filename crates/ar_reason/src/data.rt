@@ -20,7 +20,7 @@ ghost use Rattle.ar_object.specs.Written.{AddsMember, AddsValue, AddsValues};
 ghost use Rattle.ar_tree.specs.Views.{typed_view};
 ghost use Rattle.ar_show.specs.PartText.{shown_part};
 ghost use Rattle.ar_reason.specs.Reason.{conditions_by, conditions_of, conditions_on, evaluated_if_there, evaluated_with, has_failed, reason_of, reason_with, reasons_of, run_reasons};
-ghost use Rattle.ar_reason.specs.ReasonData.{change_data, evaluated_data, evaluation_data, failure_if_there, given_misfit, given_value, operands_if_there, part_data, reason_data, reasons_data, run_reasons_data, value_if_there, waiting_data, was_needed};
+ghost use Rattle.ar_reason.specs.ReasonData.{change_data, evaluated_data, evaluation_data, failure_if_there, given_error, given_misfit, given_value, operands_if_there, part_data, reason_data, reasons_data, run_reasons_data, value_if_there, waiting_data, was_needed};
 ghost use Rattle.ar_reason.specs.Views.{given_view};
 ghost use Rattle.ar_reason.specs.Waiting.{waits_for};
 ghost use Rattle.ar_reason.specs.Why.{why_of, why_words};
@@ -264,7 +264,16 @@ fn given_value(given: &Given) -> Option<&str>
 {
     match given {
         Given::Value(text) => Some(text.as_str()),
-        Given::Nothing | Given::Misfit(_) => None,
+        Given::Nothing | Given::Error(_) | Given::Misfit(_) => None,
+    }
+}
+
+fn given_error(given: &Given) -> Option<&str>
+    ensures { option_map (λ text. text.now) result ≡ given_error (given_view given.now) }
+{
+    match given {
+        Given::Error(text) => Some(text.as_str()),
+        Given::Nothing | Given::Misfit(_) | Given::Value(_) => None,
     }
 }
 
@@ -273,7 +282,7 @@ fn given_misfit(given: &Given) -> Option<&str>
 {
     match given {
         Given::Misfit(text) => Some(text.as_str()),
-        Given::Nothing | Given::Value(_) => None,
+        Given::Nothing | Given::Error(_) | Given::Value(_) => None,
     }
 }
 
@@ -338,6 +347,7 @@ fn write_reason_of(
     write_evaluated(alloc, json, bundle, run, trees, what)?;
     json.end_list();
     put_change(json, step.change);
+    json.put_text_if_there("error", given_error(given));
     json.put_key("event");
     write_event(json, bundle, step.entry);
     json.put_text_if_there("misfit", given_misfit(given));

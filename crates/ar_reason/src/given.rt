@@ -5,13 +5,13 @@ ghost use Rattle.serde_json.specs.View.{view};
 ghost use Rattle.ar_judge.specs.Verdict.{sample_view};
 ghost use Rattle.ar_show.specs.Values.{shown_value};
 ghost use Rattle.ar_value.specs.View.{value_view};
-ghost use Rattle.ar_reason.specs.Reason.{given_by, given_of, misfit_words, measured_value};
+ghost use Rattle.ar_reason.specs.Reason.{error_given, given_by, given_of, misfit_words, measured_member};
 ghost use Rattle.ar_reason.specs.Views.{given_view};
 
 use ar_bundle::{Bundle, MetricPart, What};
 use ar_judge::Sample;
 use ar_machine::operand::OperandRef;
-use ar_machine::operand::borrowed::value_ref;
+use ar_machine::operand::borrowed::{ValueRef, value_ref};
 use ar_misfit::push_misfit;
 use ar_show::push_value;
 use ar_value::value::Value;
@@ -21,22 +21,25 @@ use std::alloc::{AllocError, Global};
 /// What the provider of a metric gave.
 #[derive(Drop)]
 pub(crate) enum Given {
-    /// Nothing: the event is a stop, or the provider failed.
+    /// Nothing: the event is a stop, or the provider failed without a text.
     Nothing,
+    /// An error with a text, which is shown so.
+    Error(String),
     /// A value, which is shown so.
     Value(String),
     /// What doesn't fit the metric's shape: where, and what was expected.
     Misfit(String),
 }
 
-/// The value of a measurement, as the document has it.
-fn measured_value<'d>(document: &'d Json, number: u64) -> Option<&'d Json>
-    ensures { option_map (λ json. view json.now) result ≡ measured_value (view document.now) number }
+/// A member of a measurement, as the document has it.
+fn measured_member<'d>(document: &'d Json, number: u64, name: &str) -> Option<&'d Json>
+    ensures { option_map (λ json. view json.now) result
+        ≡ measured_member name.now (view document.now) number }
 {
     document
         .get("measurements")?
         .get(number as usize)?
-        .get("value")
+        .get(name)
 }
 
 /// Where a value doesn't fit the shape of its metric.
@@ -64,20 +67,34 @@ fn value_text(alloc: Global, value: &Value) -> Result<String, AllocError>
     Ok(text)
 }
 
-/// What a sample is, of which the document has a value there and the metric is known.
+/// The text of a provider's error, where the document has one.
+fn error_given(alloc: Global, found: Option<&Json>) -> Result<Given, AllocError>
+    ensures { IfOk result
+        (λ given. given_view given ≡ error_given (option_map (λ json. view json.now) found.entry)) }
+{
+    let Some(Json::String(text)) = found else {
+        return Ok(Given::Nothing);
+    };
+    let mut shown = String::new(alloc);
+    push_value(&mut shown, OperandRef::Borrowed(ValueRef::Text(text.as_str())))?;
+    Ok(Given::Error(shown))
+}
+
+/// What a sample is, of which the document has a value or an error there and the metric is known.
 fn sample_given(
     alloc: Global,
     sample: &Sample,
-    found: Option<&Json>,
+    value: Option<&Json>,
+    error: Option<&Json>,
     metric: Option<&MetricPart>,
 ) -> Result<Given, AllocError>
     ensures { IfOk result (λ given. given_view given ≡ given_by (misfit_words
-        (option_map (λ json. view json.now) found.entry) (option_map (λ metric. metric.now) metric.entry))
-        (sample_view sample.now)) }
+        (option_map (λ json. view json.now) value.entry) (option_map (λ metric. metric.now) metric.entry))
+        (error_given (option_map (λ json. view json.now) error.entry)) (sample_view sample.now)) }
 {
     match sample {
-        Sample::Provider => Ok(Given::Nothing),
-        Sample::Misfit(_) => Ok(Given::Misfit(misfit_words(alloc, found, metric)?)),
+        Sample::Provider => error_given(alloc, error),
+        Sample::Misfit(_) => Ok(Given::Misfit(misfit_words(alloc, value, metric)?)),
         Sample::Measured(value) => Ok(Given::Value(value_text(alloc, value)?)),
     }
 }
@@ -95,8 +112,9 @@ pub(crate) fn given_of(
 {
     match what {
         What::Measure(metric, sample) => {
-            let found = measured_value(document, number);
-            sample_given(alloc, sample, found, bundle.metrics().get(*metric))
+            let value = measured_member(document, number, "value");
+            let error = measured_member(document, number, "error");
+            sample_given(alloc, sample, value, error, bundle.metrics().get(*metric))
         }
         What::Stop => Ok(Given::Nothing),
     }

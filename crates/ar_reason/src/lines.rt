@@ -49,6 +49,7 @@ fn push_given(out: &mut String, given: &Given) -> Result<(), AllocError>
     match given {
         Given::Nothing => Ok(()),
         Given::Value(text) => push_line(out, "  value: ", text),
+        Given::Error(text) => push_line(out, "  error: ", text),
         Given::Misfit(text) => push_line(out, "  misfit: ", text),
     }
 }
