@@ -41,7 +41,7 @@ def head(condition):
 
 def lines_of_event(one, head_of=head):
     """The lines below an event's own; `head_of`: the line of a condition."""
-    lines = [f"  {name}: {one[name]}" for name in ("value", "misfit") if one[name] is not None]
+    lines = [f"  {name}: {one[name]}" for name in ("value", "error", "misfit") if one[name] is not None]
     for condition in one["conditions"]:
         lines += [head_of(condition), *map(part_line, condition["parts"])]
         lines += [f"    and {condition['leftOut']} more lines"] if condition["leftOut"] else []

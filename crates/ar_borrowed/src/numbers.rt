@@ -87,7 +87,7 @@ fn nearest(negative: bool, numeral: &Numeral<'_>) -> Option<Number>
     Number::from_f64(numeral.to_float(negative))
 }
 
-/// So many digits fit 64 bits, whichever they are.
+/// Any number of this many digits fits 64 bits.
 const FEW_DIGITS: usize = 19;
 
 /// Is a text a few digits, and nothing else?

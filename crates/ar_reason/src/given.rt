@@ -76,7 +76,10 @@ fn error_given(alloc: Global, found: Option<&Json>) -> Result<Given, AllocError>
         return Ok(Given::Nothing);
     };
     let mut shown = String::new(alloc);
-    push_value(&mut shown, OperandRef::Borrowed(ValueRef::Text(text.as_str())))?;
+    push_value(
+        &mut shown,
+        OperandRef::Borrowed(ValueRef::Text(text.as_str())),
+    )?;
     Ok(Given::Error(shown))
 }
 
