@@ -72,6 +72,7 @@ fn bundle_of(
     text: &str,
     scratch: &mut Scratch,
 ) -> Result<Bundle, BundleError>
+    requires { (document : Data) × (read text.now ≡ Some document) }
     ensures { (document : Data) → read text.now ≡ Some document → IsHeadOf document (view head.now)
         → UnlessMemory is_bundle_memory result (Reads document) }
 {

@@ -239,7 +239,8 @@ pub(crate) fn read_entries(
     text: &str,
     scratch: &mut Scratch,
 ) -> Result<Vec<EventPart>, BundleError>
-    requires { IsOpened opened.now }
+    requires opened { IsOpened opened.now }
+    requires document { (document : Data) × (read text.now ≡ Some document) }
     ensures exact { (document : Data) → read text.now ≡ Some document → Gives is_bundle_memory
         (λ entries. map entry_view entries.items) result (entries_in (opened_view opened.now) document) }
     ensures fit { IfOk result (λ entries. AreEntries opened.now entries.items × (length entries.items ≤ most_events)) }

@@ -27,3 +27,9 @@ pub returns-in-Err-NotJson-clause-exact : goal.returns-in-Err-NotJson-clause-exa
 returns-in-Err-NotJson-clause-exact c document is =
     let first : tokens c.args.text.now ≡ Token.begin_object ∷ c.enter_object.new.reader = sym c.in_ok-reader.ensures.ok ∙ c.if-not-enter_object.ensures.object refl in
     absurd (no_object_read c.args.text.now document c.enter_object.new.reader first (rw c.in-Err-NotJson.field-0-is at c.in-Err-NotJson.ensures.refused) is)
+
+pub returns-in-Ok-clause-fit : goal.returns-in-Ok-clause-fit
+returns-in-Ok-clause-fit c =
+    let document = c.requires.document in
+    let first : tokens c.args.text.now ≡ Token.begin_object ∷ c.enter_object.new.reader = sym c.in_ok-reader.ensures.ok ∙ c.if-not-enter_object.ensures.object refl in
+    (document_read c.args.text.now document.0 c.enter_object.new.reader _ c.in-Ok.entries c.args.opened.now first document.1 c.in-Ok.ensures.read).2.fit

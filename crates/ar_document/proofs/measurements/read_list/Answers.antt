@@ -7,7 +7,7 @@ use Rattle.ar_document.proofs.Measuring.{no_list, none_listed, one_listed, whole
 use Rattle.ar_document.proofs.measurements.read_list.Goals as goal
 
 pub items-init : goal.items-init
-items-init c = none_listed c.args.opened.now c.args.levels c.args.reader.now c.new.result (c.new.ensures c.args.opened.now)
+items-init c = none_listed c.args.opened.now c.args.levels c.args.reader.now c.new-listed.result (c.new-listed.ensures c.args.opened.now)
 
 pub returns-in_err-listed-clause-refused : goal.returns-in_err-listed-clause-refused
 returns-in_err-listed-clause-refused c =
