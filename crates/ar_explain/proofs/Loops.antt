@@ -142,6 +142,9 @@ module _ (predicate : Predicate) (holds : Value → Result Bool Failure) (values
       sym left ∙ rest_is counted kept
       ∙ ap (λ m. m >>= λ it. unless_decided (decided predicate it) (over_rest predicate holds (count_with predicate it counted) (kept_with predicate it value kept) (items_of (drop (number + 1) values)))) holds_is
 
+pub none_within : (n m : ℕ) → n ≡ 0 → n ≤ m
+none_within n m is = omega arith
+
 -- ---- its lines
 
 continues_on : (predicate : Predicate) (it : Bool) → None ≡ decided predicate it → continues predicate it ≡ true

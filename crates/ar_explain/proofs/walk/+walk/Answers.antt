@@ -15,7 +15,7 @@ use Rattle.ar_explain.specs.Lines.{Seen, each_item_lines, none_seen, unneeded_li
 use Rattle.ar_explain.specs.Private.Failed.{on_of}
 use Rattle.ar_explain.specs.Private.Places.{ExplainsOn, earlier_at, failed_at, holds_meant, holds_on, items_failed_at, items_lines_at, items_meant, lines_at, lines_on, meant, operated, operated_on, over_failed_on, place_view, scalar_failed_at, scalar_meant, seen_view, typeds_view, with_lines_at}
 use Rattle.ar_explain.proofs.Walks.{after_left, after_list, after_taken, failure_came, held_on, look_once, look_twice, more, otherwise, own_after, value_came, value_is}
-use Rattle.ar_explain.proofs.Loops.{all_items_made, all_lines_said, failed_after, failed_here, item_lines_after, item_lines_failed, items_after, items_failed, lines_after, rest_after, rest_of_all}
+use Rattle.ar_explain.proofs.Loops.{all_items_made, all_lines_said, failed_after, failed_here, item_lines_after, item_lines_failed, items_after, items_failed, lines_after, none_within, rest_after, rest_of_all}
 use Rattle.ar_explain.proofs.walk.+walk.Goals as goal
 
 pub binary-returns-in-Ok : goal.binary-returns-in-Ok
@@ -178,8 +178,8 @@ each_item-loop-number-init t c =
       rw c.new-kept.ensures.items (rest_of_all (holds_on place body) c.args.predicate (items_of (list_values c.args.list))),
       ap (λ seen. with_lines_at place c.args.out.now (each_item_lines c.args.predicate body (holds_on place body) (lines_on place body) seen 0 (items_of (list_values c.args.list)))) none,
       omega arith,
-      ap (λ (seen : Seen). seen.items) none,
-      ap (λ (seen : Seen). seen.held) none,
+      none_within _ 0 (ap (λ (seen : Seen). seen.items) none),
+      none_within _ 0 (ap (λ (seen : Seen). seen.held) none),
     )
 
 pub each_item-loop-number-preserved : goal.each_item-loop-number-preserved
