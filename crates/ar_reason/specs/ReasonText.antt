@@ -35,11 +35,14 @@ operands_text (Some on) = codes ": " ++ on
 abbrev pub between_text : (what : Text) → ℕ → Text
 between_text what number = decimal number ++ (codes " " ++ (units what number ++ codes " between"))
 
+abbrev pub hold_word : (held : ℕ) → Text
+hold_word held = if held == 1 then codes "holds" else codes "hold"
+
 -- of how many of some items a body holds
 abbrev pub held_text : (items held : ℕ) → Text
 held_text items held =
     if held == 0 then codes "none holds" else if held == items then codes "each holds"
-    else decimal held ++ codes (if held == 1 then " holds" else " hold")
+    else decimal held ++ (codes " " ++ hold_word held)
 
 abbrev pub said_text : Outcome → Text
 said_text (valued text) = codes " = " ++ text

@@ -152,11 +152,7 @@ fn write_parts(alloc: Global, json: &mut JsonText, lines: &[Line<'_>]) -> Result
 }
 
 /// Writes the first parts, then the last ones.
-fn put_parts(
-    alloc: Global,
-    json: &mut JsonText,
-    parts: &Explanation<'_>,
-) -> Result<(), AllocError>
+fn put_parts(alloc: Global, json: &mut JsonText, parts: &Explanation<'_>) -> Result<(), AllocError>
     ensures { OnOk result (AddsMember (codes "parts") (array_of (map part_data
         ((explanation_view parts.now).lines ++ (explanation_view parts.now).last)))
         json.old.written json.new.written) }

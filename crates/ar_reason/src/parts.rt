@@ -10,7 +10,7 @@ ghost use Rattle.ar_show.specs.PartText.{shown_part};
 ghost use Rattle.ar_show.specs.Words.{plural};
 ghost use Rattle.ar_reason.specs.Reason.{conditions_on, evaluated_if_there, evaluated_with, has_failed, is_failure};
 ghost use Rattle.ar_reason.specs.Private.Trees.{condition_tree, trees_of, judge_trees_view};
-ghost use Rattle.ar_reason.specs.ReasonText.{condition_text, between_text, failure_name, held_text, item_text, left_out_line, operands_text, part_line, parts_text, said_part, said_text};
+ghost use Rattle.ar_reason.specs.ReasonText.{condition_text, between_text, failure_name, held_text, hold_word, item_text, left_out_line, operands_text, part_line, parts_text, said_part, said_text};
 
 use crate::evaluated::{JudgeTrees, NamedTree};
 use ar_explain::{Explanation, Line, Said, tell};
@@ -60,6 +60,12 @@ fn push_between(out: &mut String, what: &str, number: u64) -> Result<(), AllocEr
     write!(out, "{number} {what}{} between", plural(number))
 }
 
+fn hold_word(held: usize) -> &'static str
+    ensures { result.now ≡ hold_word held }
+{
+    if held == 1 { "holds" } else { "hold" }
+}
+
 /// Of how many of some items a body holds.
 fn push_held(out: &mut String, items: usize, held: usize) -> Result<(), AllocError>
     ensures { OnOk result (string_bytes out.new ≡ string_bytes out.old ++ held_text items held) }
@@ -70,8 +76,7 @@ fn push_held(out: &mut String, items: usize, held: usize) -> Result<(), AllocErr
     if held == items {
         return out.push_str("each holds");
     }
-    write!(out, "{held}")?;
-    out.push_str(if held == 1 { " holds" } else { " hold" })
+    write!(out, "{held} {}", hold_word(held))
 }
 
 fn push_gap(out: &mut String, items: usize, held: usize) -> Result<(), AllocError>
@@ -154,15 +159,22 @@ fn push_last(out: &mut String, lines: &VecDeque<Line<'_>>) -> Result<(), AllocEr
     push_lines(out, second)
 }
 
+fn push_lines_between(out: &mut String, number: u64) -> Result<(), AllocError>
+    ensures { OnOk result (string_bytes out.new ≡ string_bytes out.old
+        ++ (codes "    " ++ (between_text (codes "line") number ++ codes "\n"))) }
+{
+    out.push_str("    ")?;
+    push_between(out, "line", number)?;
+    out.push_str("\n")
+}
+
 fn push_left_out(out: &mut String, left_out: u64) -> Result<(), AllocError>
     ensures { OnOk result (string_bytes out.new ≡ string_bytes out.old ++ left_out_line left_out) }
 {
     if left_out == 0 {
         return Ok(());
     }
-    out.push_str("    ")?;
-    push_between(out, "line", left_out)?;
-    out.push_str("\n")
+    push_lines_between(out, left_out)
 }
 
 fn push_parts(out: &mut String, parts: &Explanation<'_>) -> Result<(), AllocError>
