@@ -144,15 +144,15 @@ module _ (predicate : Predicate) (body : Typed) (holds : Value → Result Bool F
   values_of stretches = flat_map stretch_values stretches
 
   -- these lines and entries are those of stretches, the first of which has items that are already passed
-  record Told (passed : List Value) (start : ℕ) (lines : List Line) (found : List TraceEntry) : Type 0 where
+  record Covered (passed : List Value) (start : ℕ) (lines : List Line) (found : List TraceEntry) : Type 0 where
     stretches : List Stretch
     are_all : map Some (values_of stretches) ≡ map Some passed ++ items_of_body found
     have_lines : lines ≡ lines_from start stretches
 
   -- a gap and an item that is shown, with what comes later
   show_one : (passed : List Value) (start number : ℕ) (first : Value) (seen : Seen) (later : List Line) (found : List TraceEntry) → seen.items ≡ length passed
-      → seen.held ≡ length (filter it_holds passed) → number ≡ start + length passed → Told [] (number + 1) later found
-      → Told passed start ((gap_lines body seen ++ lines_on_item number (said first)) ++ later) (on_item number (entries first) ++ found)
+      → seen.held ≡ length (filter it_holds passed) → number ≡ start + length passed → Covered [] (number + 1) later found
+      → Covered passed start ((gap_lines body seen ++ lines_on_item number (said first)) ++ later) (on_item number (entries first) ++ found)
   show_one [] start number first seen later found items held at more = record {
     stretches = shown first ∷ more.stretches;
     are_all = ap (λ rest. Some first ∷ rest) more.are_all ∙ ap (λ own. own ++ items_of_body found) (sym (one number first)) ∙ sym (found_in_two (on_item number (entries first)) found);
@@ -175,7 +175,7 @@ module _ (predicate : Predicate) (body : Typed) (holds : Value → Result Bool F
         ∙ ap (λ n. passed_line body (length (value ∷ passed)) (length (filter it_holds (value ∷ passed))) ∷ (lines_on_item n (said first) ++ lines_from (n + 1) more.stretches)) at;
   }
 
-  none_later : (start : ℕ) → Told [] start [] []
+  none_later : (start : ℕ) → Covered [] start [] []
   none_later start = record { stretches = []; are_all = refl; have_lines = refl }
 
   abbrev entries_after : ℕ → Items → Bool → List TraceEntry
@@ -185,23 +185,23 @@ module _ (predicate : Predicate) (body : Typed) (holds : Value → Result Bool F
   lines_after seen number items it = if continues predicate it then each_item_lines predicate body holds said (after_item predicate seen it) (suc number) items else []
 
   -- the lines and the entries of items
-  abbrev Tells : List Value → Seen → (start number : ℕ) → Items → Type 0
-  Tells passed seen start number items = Told passed start (each_item_lines predicate body holds said seen number items) (each_item predicate holds entries number items)
+  abbrev Covers : List Value → Seen → (start number : ℕ) → Items → Type 0
+  Covers passed seen start number items = Covered passed start (each_item_lines predicate body holds said seen number items) (each_item predicate holds entries number items)
 
   module _ (passed : List Value) (seen : Seen) (start number : ℕ) (items_are : seen.items ≡ length passed) (held_are : seen.held ≡ length (filter it_holds passed)) (at : number ≡ start + length passed) (first : Value) where
     -- an item that is shown
     shows : (items : Items) (later : List Line) (found : List TraceEntry) → is_shown predicate seen (is_empty items) (holds first) ≡ true
-        → if_value (holds first) (lines_after seen number items) ≡ later → if_value (holds first) (entries_after number items) ≡ found → Told [] (number + 1) later found
-        → Tells passed seen start number (item first items)
+        → if_value (holds first) (lines_after seen number items) ≡ later → if_value (holds first) (entries_after number items) ≡ found → Covered [] (number + 1) later found
+        → Covers passed seen start number (item first items)
     shows items later found is lines_are found_are more =
-        let told = show_one passed start number first seen later found items_are held_are at more in record {
-          stretches = told.stretches;
-          are_all = told.are_all ∙ ap (λ found. map Some passed ++ items_of_body (on_item number (entries first) ++ found)) (sym found_are);
+        let covered = show_one passed start number first seen later found items_are held_are at more in record {
+          stretches = covered.stretches;
+          are_all = covered.are_all ∙ ap (λ found. map Some passed ++ items_of_body (on_item number (entries first) ++ found)) (sym found_are);
           have_lines = ap (λ b. (if b then gap_lines body seen ++ lines_on_item number (said first) else []) ++ if_value (holds first) (lines_after seen number items)) is
-              ∙ ap (λ later. (gap_lines body seen ++ lines_on_item number (said first)) ++ later) lines_are ∙ told.have_lines;
+              ∙ ap (λ later. (gap_lines body seen ++ lines_on_item number (said first)) ++ later) lines_are ∙ covered.have_lines;
         }
 
-    fails : (items : Items) (failure : Failure) → holds first ≡ Err failure → Tells passed seen start number (item first items)
+    fails : (items : Items) (failure : Failure) → holds first ≡ Err failure → Covers passed seen start number (item first items)
     fails items failure is =
         shows items [] [] (ap (λ m. is_shown predicate seen (is_empty items) m) is) (ap (λ m. if_value m (lines_after seen number items)) is) (ap (λ m. if_value m (entries_after number items)) is)
         (none_later (number + 1))
@@ -210,7 +210,7 @@ module _ (predicate : Predicate) (body : Typed) (holds : Value → Result Bool F
     or_true true = refl
     or_true false = refl
 
-    decides : (items : Items) (it : Bool) → holds first ≡ Ok it → continues predicate it ≡ false → Tells passed seen start number (item first items)
+    decides : (items : Items) (it : Bool) → holds first ≡ Ok it → continues predicate it ≡ false → Covers passed seen start number (item first items)
     decides items it is off =
         shows items [] []
         (ap (λ m. is_shown predicate seen (is_empty items) m) is ∙ last_shown predicate seen (is_empty items) (Ok it) (ap (λ b. is_empty items || not b) off ∙ or_true (is_empty items)))
@@ -222,7 +222,7 @@ module _ (predicate : Predicate) (body : Typed) (holds : Value → Result Bool F
     no_more true = refl
     no_more false = refl
 
-    at_end : (it : Bool) → holds first ≡ Ok it → Tells passed seen start number (item first no_items)
+    at_end : (it : Bool) → holds first ≡ Ok it → Covers passed seen start number (item first no_items)
     at_end it is =
         shows no_items [] [] (ap (λ m. is_shown predicate seen true m) is ∙ last_shown predicate seen true (Ok it) refl)
         (ap (λ m. if_value m (lines_after seen number no_items)) is ∙ no_more (continues predicate it))
@@ -230,35 +230,35 @@ module _ (predicate : Predicate) (body : Typed) (holds : Value → Result Bool F
 
     -- what comes after an item, where something does
     abbrev Later : Seen → List Value → ℕ → Items → Type 0
-    Later seen passed start items = Told passed start (each_item_lines predicate body holds said seen (suc number) items) (each_item predicate holds entries (suc number) items)
+    Later seen passed start items = Covered passed start (each_item_lines predicate body holds said seen (suc number) items) (each_item predicate holds entries (suc number) items)
 
-    goes_on : (items : Items) (it : Bool) → holds first ≡ Ok it → continues predicate it ≡ true
+    proceeds : (items : Items) (it : Bool) → holds first ≡ Ok it → continues predicate it ≡ true
         → if_value (holds first) (lines_after seen number items) ≡ each_item_lines predicate body holds said (after_item predicate seen it) (suc number) items
-    goes_on items it is on =
+    proceeds items it is on =
         ap (λ m. if_value m (lines_after seen number items)) is ∙ ap (λ b. if b then each_item_lines predicate body holds said (after_item predicate seen it) (suc number) items else []) on
 
-    goes_on_too : (items : Items) (it : Bool) → holds first ≡ Ok it → continues predicate it ≡ true → if_value (holds first) (entries_after number items) ≡ each_item predicate holds entries (suc number) items
-    goes_on_too items it is on = ap (λ m. if_value m (entries_after number items)) is ∙ ap (λ b. if b then each_item predicate holds entries (suc number) items else []) on
+    proceeds_too : (items : Items) (it : Bool) → holds first ≡ Ok it → continues predicate it ≡ true → if_value (holds first) (entries_after number items) ≡ each_item predicate holds entries (suc number) items
+    proceeds_too items it is on = ap (λ m. if_value m (entries_after number items)) is ∙ ap (λ b. if b then each_item predicate holds entries (suc number) items else []) on
 
     early : (items : Items) (it : Bool) → holds first ≡ Ok it → continues predicate it ≡ true → is_early predicate seen it ≡ true
-        → Later (after_item predicate seen it) [] (number + 1) items → Tells passed seen start number (item first items)
+        → Later (after_item predicate seen it) [] (number + 1) items → Covers passed seen start number (item first items)
     early items it is on among more =
-        shows items _ _ (ap (λ m. is_shown predicate seen (is_empty items) m) is ∙ ap (λ b. b || is_last predicate (is_empty items) (Ok it)) among) (goes_on items it is on) (goes_on_too items it is on) more
+        shows items _ _ (ap (λ m. is_shown predicate seen (is_empty items) m) is ∙ ap (λ b. b || is_last predicate (is_empty items) (Ok it)) among) (proceeds items it is on) (proceeds_too items it is on) more
 
     passes : (next : Value) (items : Items) (it : Bool) → holds first ≡ Ok it → continues predicate it ≡ true → is_early predicate seen it ≡ false
-        → Later (after_item predicate seen it) (passed ++ first ∷ []) start (item next items) → Tells passed seen start number (item first (item next items))
+        → Later (after_item predicate seen it) (passed ++ first ∷ []) start (item next items) → Covers passed seen start number (item first (item next items))
     passes next items it is on late more = record {
       stretches = more.stretches;
       are_all = more.are_all ∙ ap (λ own. own ++ items_of_body (each_item predicate holds entries (suc number) (item next items))) (map-append Some passed (first ∷ []))
           ∙ append_assoc (map Some passed) (Some first ∷ []) (items_of_body (each_item predicate holds entries (suc number) (item next items)))
           ∙ ap (λ own. map Some passed ++ (own ++ items_of_body (each_item predicate holds entries (suc number) (item next items)))) (sym (one number first))
           ∙ ap (λ found. map Some passed ++ found) (sym (found_in_two (on_item number (entries first)) (each_item predicate holds entries (suc number) (item next items))))
-          ∙ ap (λ found. map Some passed ++ items_of_body (on_item number (entries first) ++ found)) (sym (goes_on_too (item next items) it is on));
+          ∙ ap (λ found. map Some passed ++ items_of_body (on_item number (entries first) ++ found)) (sym (proceeds_too (item next items) it is on));
       have_lines =
           let hidden : is_shown predicate seen false (holds first) ≡ false =
           ap (λ m. is_shown predicate seen false m) is ∙ ap (λ b. b || not (continues predicate it)) late ∙ ap (λ b. not b) on in
           ap (λ b. (if b then gap_lines body seen ++ lines_on_item number (said first) else []) ++ if_value (holds first) (lines_after seen number (item next items))) hidden
-          ∙ goes_on (item next items) it is on ∙ more.have_lines;
+          ∙ proceeds (item next items) it is on ∙ more.have_lines;
     }
 
     abbrev seen_then : (it among : Bool) → Seen
@@ -300,11 +300,11 @@ module _ (predicate : Predicate) (body : Typed) (holds : Value → Result Bool F
   -- what is said of the items from a next one on
   abbrev Rest : ℕ → Items → Type 0
   Rest number items = (passed : List Value) (seen : Seen) (start : ℕ) → seen.items ≡ length passed → seen.held ≡ length (filter it_holds passed) → number ≡ start + length passed
-      → Tells passed seen start number items
+      → Covers passed seen start number items
 
   by_early : (passed : List Value) (seen : Seen) (start number : ℕ) → seen.items ≡ length passed → seen.held ≡ length (filter it_holds passed) → number ≡ start + length passed
       → (first next : Value) (items : Items) (it among : Bool) → holds first ≡ Ok it → continues predicate it ≡ true → is_early predicate seen it ≡ among → Rest (suc number) (item next items)
-      → Tells passed seen start number (item first (item next items))
+      → Covers passed seen start number (item first (item next items))
   by_early passed seen start number items_are held_are at first next items it true is on among rest =
       early passed seen start number items_are held_are at first (item next items) it is on among
       (rest [] (after_item predicate seen it) (number + 1) (shown_items passed seen start number items_are held_are at first it among) (shown_held passed seen start number items_are held_are at first it among) (omega arith))
@@ -315,36 +315,36 @@ module _ (predicate : Predicate) (body : Typed) (holds : Value → Result Bool F
 
   by_continuing : (passed : List Value) (seen : Seen) (start number : ℕ) → seen.items ≡ length passed → seen.held ≡ length (filter it_holds passed) → number ≡ start + length passed
       → (first next : Value) (items : Items) (it more : Bool) → holds first ≡ Ok it → continues predicate it ≡ more → Rest (suc number) (item next items)
-      → Tells passed seen start number (item first (item next items))
+      → Covers passed seen start number (item first (item next items))
   by_continuing passed seen start number items_are held_are at first next items it true is on rest =
       by_early passed seen start number items_are held_are at first next items it (is_early predicate seen it) is on refl rest
   by_continuing passed seen start number items_are held_are at first next items it false is off rest =
       decides passed seen start number items_are held_are at first (item next items) it is off
 
   by_holding : (passed : List Value) (seen : Seen) (start number : ℕ) → seen.items ≡ length passed → seen.held ≡ length (filter it_holds passed) → number ≡ start + length passed
-      → (first next : Value) (items : Items) (m : Result Bool Failure) → holds first ≡ m → Rest (suc number) (item next items) → Tells passed seen start number (item first (item next items))
+      → (first next : Value) (items : Items) (m : Result Bool Failure) → holds first ≡ m → Rest (suc number) (item next items) → Covers passed seen start number (item first (item next items))
   by_holding passed seen start number items_are held_are at first next items (Ok it) is rest =
       by_continuing passed seen start number items_are held_are at first next items it (continues predicate it) is refl rest
   by_holding passed seen start number items_are held_are at first next items (Err failure) is rest =
       fails passed seen start number items_are held_are at first (item next items) failure is
 
   by_end : (passed : List Value) (seen : Seen) (start number : ℕ) → seen.items ≡ length passed → seen.held ≡ length (filter it_holds passed) → number ≡ start + length passed
-      → (first : Value) (m : Result Bool Failure) → holds first ≡ m → Tells passed seen start number (item first no_items)
+      → (first : Value) (m : Result Bool Failure) → holds first ≡ m → Covers passed seen start number (item first no_items)
   by_end passed seen start number items_are held_are at first (Ok it) is = at_end passed seen start number items_are held_are at first it is
   by_end passed seen start number items_are held_are at first (Err failure) is = fails passed seen start number items_are held_are at first no_items failure is
 
-  tells_from : (first : Value) (items : Items) (number : ℕ) → Rest number (item first items)
-  tells_from first no_items number passed seen start items_are held_are at = by_end passed seen start number items_are held_are at first (holds first) refl
-  tells_from first (item next items) number passed seen start items_are held_are at =
-      by_holding passed seen start number items_are held_are at first next items (holds first) refl (tells_from next items (suc number))
+  covers_from : (first : Value) (items : Items) (number : ℕ) → Rest number (item first items)
+  covers_from first no_items number passed seen start items_are held_are at = by_end passed seen start number items_are held_are at first (holds first) refl
+  covers_from first (item next items) number passed seen start items_are held_are at =
+      by_holding passed seen start number items_are held_are at first next items (holds first) refl (covers_from next items (suc number))
 
-  tells_items : (items : Items) → Tells [] none_seen 0 0 items
-  tells_items no_items = none_later 0
-  tells_items (item first items) = tells_from first items 0 [] none_seen 0 refl refl refl
+  covers_items : (items : Items) → Covers [] none_seen 0 0 items
+  covers_items no_items = none_later 0
+  covers_items (item first items) = covers_from first items 0 [] none_seen 0 refl refl refl
 
-  tells_value : (m : Result Items Failure) → Told [] 0 (if_value m (each_item_lines predicate body holds said none_seen 0)) (if_value m (each_item predicate holds entries 0))
-  tells_value (Ok items) = tells_items items
-  tells_value (Err failure) = none_later 0
+  covers_value : (m : Result Items Failure) → Covered [] 0 (if_value m (each_item_lines predicate body holds said none_seen 0)) (if_value m (each_item predicate holds entries 0))
+  covers_value (Ok items) = covers_items items
+  covers_value (Err failure) = none_later 0
 
 -- ---- predicates
 
@@ -353,14 +353,14 @@ says_all result here predicate many body =
     let holds : Value → Result Bool Failure = λ value. mean result (Some value) body >>= boolean in
     let entries : Value → List TraceEntry = λ value. in_child 1 (trace result (Some value) body) in
     let said : Value → List Line = λ value. with_own result (Some value) body (earlier_lines result (Some value) body) in
-    let told = tells_value predicate body holds entries said (λ number value. one_found result body number value) (mean result here many >>= items_in) in
+    let covered = covers_value predicate body holds entries said (λ number value. one_found result body number value) (mean result here many >>= items_in) in
     let of_list = in_child 0 (trace result here many) in
     let of_items = if_value (mean result here many >>= items_in) (each_item predicate holds entries 0) in
     let root = root_entry result here (typed.predicate predicate many body) in
     record {
-      stretches = told.stretches;
-      are_all = told.are_all
+      stretches = covered.stretches;
+      are_all = covered.are_all
           ∙ sym (found_in_two (of_list ++ of_items) (root ∷ []) ∙ append-nil (items_of_body (of_list ++ of_items)) ∙ found_in_two of_list of_items
           ∙ ap (λ found. found ++ items_of_body of_items) (no_items_found of_list (of_another 0 1 [] (trace result here many) refl)));
-      have_lines = ap (λ lines. with_own result here many (earlier_lines result here many) ++ lines) told.have_lines;
+      have_lines = ap (λ lines. with_own result here many (earlier_lines result here many) ++ lines) covered.have_lines;
     }

@@ -37,7 +37,7 @@ pub data Outcome : Type 0 where
   failed : Failure → (on : Option Text) → Outcome
   -- it wasn't needed
   unneeded : Outcome
-  -- it is a predicate's body, evaluated on so many items that aren't shown, of so many of which it holds
+  -- it is a predicate's body, evaluated on this many items that aren't shown, of `held` of which it holds
   passed : (items held : ℕ) → Outcome
 
 pub record Line : Type 0 where
@@ -252,7 +252,7 @@ kept_of most first rest = record {
   last = drop (length rest - most) rest;
 }
 
--- at most so many lines at each end
+-- at most `most` lines at each end
 abbrev pub ends_of : (most : ℕ) → List Line → Explanation
 ends_of most lines = kept_of most (take most lines) (drop most lines)
 

@@ -95,7 +95,8 @@ items_of_body entries =
 
 -- The lines of a predicate's items, after those of its list, are those of stretches, and in these is each item on which
 -- the trace has the body, once.
-pub record SaysAllItems (result : Value) (here : Option Value) (predicate : Predicate) (many body : Typed) : Type 0 where
+pub record SaysAllItems (result : Value) (here : Option Value) (predicate : Predicate) (many body : Typed)
+    : Type 0 where
   pub stretches : List Stretch
   pub are_all : map Some (flat_map stretch_values stretches)
       ≡ items_of_body (trace result here (typed.predicate predicate many body))

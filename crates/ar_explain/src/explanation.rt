@@ -127,8 +127,8 @@ impl<'t> Explanation<'t> {
         }
     }
 
-    /// Lets the first of the last lines go, and counts it.
-    fn let_go(&mut self)
+    /// Drops the first of the last lines, and counts it.
+    fn drop_first(&mut self)
         ensures lines { self.new.lines ≡ self.old.lines }
         ensures left_out { self.new.left_out ≡ min (self.old.left_out + 1) (2 ^ 64 - 1) }
         ensures last { self.new.last.items ≡ drop 1 self.old.last.items }
@@ -139,14 +139,14 @@ impl<'t> Explanation<'t> {
 
     fn push_last(&mut self, line: Line<'t>) -> Result<(), AllocError>
         ensures { OnOk result (explanation_view self.new ≡ record (explanation_view self.old) {
-            last = map line_view self.old.last.items ++ line_view line.entry ∷ [];
+          last = map line_view self.old.last.items ++ line_view line.entry ∷ [];
         }) }
     {
         self.last.push_back(line)?;
         Ok(())
     }
 
-    /// Keeps a line as one of the last. Where there is no room the first of those is let go.
+    /// Keeps a line as one of the last. Where there is no room the first of those is dropped.
     fn keep_last(&mut self, line: Line<'t>) -> Result<(), AllocError>
         ensures { OnOk result
             (explanation_view self.new ≡ with_last (explanation_view self.old) (line_view line.entry)) }
@@ -154,7 +154,7 @@ impl<'t> Explanation<'t> {
         if self.last.len() < MOST_AT_EACH_END {
             return self.push_last(line);
         }
-        self.let_go();
+        self.drop_first();
         self.push_last(line)
     }
 

@@ -15,5 +15,5 @@ returns c =
     let old = c.args.self.now in
     let full : 500 ≤ length old.last.items = search rules in
     on_ok_weaker c.push_last-2.result
-    (line_counted old.lines.items old.left_out c.let_go.new.self.left_out c.let_go.new.self.lines.items old.last.items c.let_go.new.self.last.items (line_view c.args.line)
-    (explanation_view c.push_last-2.new.self) full (ap (λ lines. lines.items) c.let_go.ensures.lines) c.let_go.ensures.left_out c.let_go.ensures.last) c.push_last-2.ensures
+    (line_counted old.lines.items old.left_out c.drop_first.new.self.left_out c.drop_first.new.self.lines.items old.last.items c.drop_first.new.self.last.items (line_view c.args.line)
+    (explanation_view c.push_last-2.new.self) full (ap (λ lines. lines.items) c.drop_first.ensures.lines) c.drop_first.ensures.left_out c.drop_first.ensures.last) c.push_last-2.ensures
