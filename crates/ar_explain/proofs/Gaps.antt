@@ -1,5 +1,5 @@
 -- Each item that a predicate looks at is shown, or counted with those that aren't.
-use Rattle.std.proofs.Common.{arith, ◌≡◌, ℕ, suc, ◌+◌, Bool, true, false, List, [], ◌∷◌, ◌++◌, length, map, Option, Some, Result, Ok, Err, refl, ap, sym, ◌∙◌, subst, append_assoc, true≢false}
+use Rattle.std.proofs.Common.{arith, ◌≡◌, ℕ, suc, ◌+◌, Bool, true, false, List, [], ◌∷◌, ◌++◌, length, map, Option, Some, Result, Ok, Err, refl, ap, sym, ◌∙◌, append_assoc, true≢false}
 use Rattle.std.specs.Prelude.{◌||◌, ◌==◌, filter, flat_map, if◌then◌else◌, not}
 use Rattle.std.proofs.lemmas.Bool.Decides.{nat_tests}
 use Rattle.std.proofs.lemmas.List.{append-nil, length-append, map-append}
@@ -11,10 +11,10 @@ use Rattle.ar_value.specs.declared.operator.Predicate.{Predicate}
 use Rattle.ar_tree.specs.Meaning.{mean}
 use Rattle.ar_tree.specs.Typed.{Typed, Typeds}
 use Rattle.ar_tree.specs.Typed as typed
-use Rattle.ar_explain.specs.Lines.{Line, Seen, after_item, each_item_lines, earlier_lines, gap_lines, is_early, is_empty, is_last, is_shown, item_lines, lines_on_item, none_seen, passed_line, with_own}
+use Rattle.ar_explain.specs.Lines.{Line, Seen, after_item, each_item_lines, earlier_lines, gap_lines, is_early, is_empty, is_last, is_shown, lines_on_item, none_seen, passed_line, with_own}
 use Rattle.ar_explain.specs.Parts.{is_evaluated, same_path}
 use Rattle.ar_explain.specs.Sources.{SaysAllItems, Stretch, is_held, items_of_body, lines_of_stretches, shown, skipped, stretch_values}
-use Rattle.ar_explain.specs.Trace.{TraceEntry, continues, each_item, if_value, in_child, items_trace, on_item, root_entry, trace, with_root}
+use Rattle.ar_explain.specs.Trace.{TraceEntry, continues, each_item, if_value, in_child, items_trace, on_item, root_entry, trace}
 use Rattle.ar_explain.proofs.Entries.{of_another, of_child, of_item, of_items, of_two}
 use Rattle.ar_explain.proofs.LastItems.{last_shown}
 

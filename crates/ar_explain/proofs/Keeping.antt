@@ -5,7 +5,7 @@ use Rattle.std.proofs.lemmas.List.{append-nil, drop-append-le, drop-drop, drop-m
 use Rattle.std.proofs.lemmas.Bool.Decides.{nat_tests}
 use Rattle.std.proofs.Math.ListN.{drop_of_length-le}
 use Rattle.ar_tree.specs.Typed.{Typed}
-use Rattle.ar_explain.specs.Lines.{Explanation, Line, Outcome, ends_of, explained, kept_of, lines_on_item, most_at_each_end, most_left_out}
+use Rattle.ar_explain.specs.Lines.{Explanation, Line, Outcome, explained, kept_of, lines_on_item, most_at_each_end, most_left_out}
 use Rattle.ar_explain.specs.Private.Keeping.{on_items, with_last, with_line, with_lines}
 use Rattle.ar_explain.specs.Views.{line_view}
 use Rattle.ar_explain.specs.declared.explanation.Line.{Line as LineCode}

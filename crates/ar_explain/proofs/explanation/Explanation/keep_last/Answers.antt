@@ -1,4 +1,4 @@
-use Rattle.std.proofs.Common.{arith, rules, ◌<◌, ◌≤◌, length, map, ap}
+use Rattle.std.proofs.Common.{rules, ◌<◌, ◌≤◌, length, map, ap}
 use Rattle.std.proofs.lemmas.Result.{on_ok_weaker}
 use Rattle.ar_explain.proofs.Keeping.{line_counted, line_last}
 use Rattle.ar_explain.specs.Views.{explanation_view, line_view}
