@@ -5,6 +5,9 @@ from reports import event_line, metric_line
 # What is counted, and its limit.
 LIMITED = (("failed", "failureLimit"), ("inconclusive", "inconclusiveLimit"), ("consecutiveError", "consecutiveErrorLimit"))
 
+# How many parts come before those that are left out.
+FIRST = 500
+
 
 def change(before, after):
     return f"{after}" if before == after else f"{before} -> {after}"
@@ -30,9 +33,31 @@ def outcome(part, value):
     return f": {part['failure']}" + ("" if part["on"] is None else f": {part['on']}")
 
 
+def between(number, what):
+    return f"{number} {what}{'' if number == 1 else 's'} between"
+
+
+def gap(items, hold):
+    """How many items aren't shown, and of how many of them the part holds."""
+    some = f"{hold} hold{'s' if hold == 1 else ''}"
+    return f"{between(items, 'item')}, " + ("none holds" if hold == 0 else "each holds" if hold == items else some)
+
+
+def part_text(part):
+    if part["between"] is not None:
+        return gap(**part["between"])
+    return part["part"] + (outcome(part, "value") if part["needed"] else ": not needed")
+
+
 def part_line(part):
     items = "".join(f"item {number}: " for number in part["items"])
-    return f"    {items}{part['part']}" + (outcome(part, "value") if part["needed"] else ": not needed")
+    return f"    {items}{part_text(part)}"
+
+
+def part_lines(condition):
+    """The first parts, how many come between, and the last ones."""
+    lines, left_out = [part_line(part) for part in condition["parts"]], condition["leftOut"]
+    return [*lines[:FIRST], *([f"    {between(left_out, 'line')}"] if left_out else []), *lines[FIRST:]]
 
 
 def head(condition):
@@ -43,9 +68,7 @@ def lines_of_event(one, head_of=head):
     """The lines below an event's own; `head_of`: the line of a condition."""
     lines = [f"  {name}: {one[name]}" for name in ("value", "error", "misfit") if one[name] is not None]
     for condition in one["conditions"]:
-        lines += [head_of(condition), *map(part_line, condition["parts"])]
-        lines += [f"    and {condition['leftOut']} more lines"] if condition["leftOut"] else []
-        lines.append("    answer" + outcome(condition, "answer"))
+        lines += [head_of(condition), *part_lines(condition), "    answer" + outcome(condition, "answer")]
     lines += [f"  counts: {counts_text(one['counts'])}"] if one["counts"] is not None else []
     return lines + ([f"  {one['reason']}"] if one["reason"] is not None else [])
 

@@ -9,3 +9,4 @@ pub mod Keeping
 pub mod Walks
 pub mod Loops
 pub mod LastItems
+pub mod Gaps

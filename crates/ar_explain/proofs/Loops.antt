@@ -12,10 +12,11 @@ use Rattle.ar_value.specs.declared.operator.Predicate.TheVariants as predicates
 use Rattle.ar_op.specs.Machine.{decided}
 use Rattle.ar_machine.specs.Memory.{count_with, kept_with}
 use Rattle.ar_tree.specs.Meaning.{all_hold, any_holds, none_holds, over, those}
+use Rattle.ar_tree.specs.Typed.{Typed}
 use Rattle.ar_tree.specs.Typed as typed
 use Rattle.ar_tree.specs.Views.{typed_view}
 use Rattle.ar_tree.specs.declared.typed.Typed.{Typed as TypedCode}
-use Rattle.ar_explain.specs.Lines.{Explanation, Line, each_item_lines, is_empty, item_lines}
+use Rattle.ar_explain.specs.Lines.{Explanation, Line, Seen, after_item, each_item_lines, is_empty, item_lines}
 use Rattle.ar_explain.specs.Operands.{on_value, refused_or}
 use Rattle.ar_explain.specs.Private.Loops.{after_made, over_rest, prepended, unless_decided}
 use Rattle.ar_explain.specs.Private.Places.{Place, items_failed_at, items_lines_at, items_meant, lines_at, meant, scalar_failed_at, scalar_meant, typeds_view, with_lines_at}
@@ -141,6 +142,9 @@ module _ (predicate : Predicate) (holds : Value → Result Bool Failure) (values
       sym left ∙ rest_is counted kept
       ∙ ap (λ m. m >>= λ it. unless_decided (decided predicate it) (over_rest predicate holds (count_with predicate it counted) (kept_with predicate it value kept) (items_of (drop (number + 1) values)))) holds_is
 
+pub none_within : (n m : ℕ) → n ≡ 0 → n ≤ m
+none_within n m is = omega arith
+
 -- ---- its lines
 
 continues_on : (predicate : Predicate) (it : Bool) → None ≡ decided predicate it → continues predicate it ≡ true
@@ -172,34 +176,38 @@ at_end_is [] number false e within = absurd (omega arith)
 at_end_is (value ∷ values) number false e within =
     rw (drop-cons (value ∷ values) (number + 1) value (let m : number + 1 < length (value ∷ values) = grind (arith, nat_tests) in m)) refl
 
-module _ (place : Place) (predicate : Predicate) (holds : Value → Result Bool Failure) (said : Value → List Line) (values : List Value) (number : ℕ) (value : Value)
+module _ (place : Place) (predicate : Predicate) (body : Typed) (holds : Value → Result Bool Failure) (said : Value → List Line) (seen : Seen) (values : List Value) (number : ℕ) (value : Value)
     (is : drop number values ≡ value ∷ drop (suc number) values) (within : number < length values) (at_end : Bool) (at_end_as : at_end ≡ (number + 1 == length values))
     (old new : ExplanationCode) (all : Explanation)
-    (left : with_lines_at place old (each_item_lines predicate holds said number (items_of (drop number values))) ≡ all)
-    (one : explanation_view new ≡ with_lines_at place old (item_lines predicate number at_end (holds value) (said value))) where
-  abbrev later : Bool → List Line
-  later it = if continues predicate it then each_item_lines predicate holds said (number + 1) (items_of (drop (number + 1) values)) else []
+    (left : with_lines_at place old (each_item_lines predicate body holds said seen number (items_of (drop number values))) ≡ all)
+    (one : explanation_view new ≡ with_lines_at place old (item_lines predicate body seen number at_end (holds value) (said value))) where
+  abbrev rest : Bool → List Line
+  rest it = each_item_lines predicate body holds said (after_item predicate seen it) (number + 1) (items_of (drop (number + 1) values))
 
-  left_is : with_lines_at place old (item_lines predicate number at_end (holds value) (said value) ++ if_value (holds value) later) ≡ all
+  abbrev later : Bool → List Line
+  later it = if continues predicate it then rest it else []
+
+  left_is : with_lines_at place old (item_lines predicate body seen number at_end (holds value) (said value) ++ if_value (holds value) later) ≡ all
   left_is =
       rw (at_end_as, ← at_end_is values number (number + 1 == length values) refl within)
-      (subst (λ n. with_lines_at place old (item_lines predicate number (is_empty (items_of (drop (number + 1) values))) (holds value) (said value)
-      ++ if_value (holds value) (λ it. if continues predicate it then each_item_lines predicate holds said n (items_of (drop (number + 1) values)) else [])) ≡ all) (omega arith)
-      (subst (λ items. with_lines_at place old (each_item_lines predicate holds said number items) ≡ all) (one_left values number value is) left))
+      (subst (λ n. with_lines_at place old (item_lines predicate body seen number (is_empty (items_of (drop (number + 1) values))) (holds value) (said value)
+      ++ if_value (holds value) (λ it. if continues predicate it then each_item_lines predicate body holds said (after_item predicate seen it) n (items_of (drop (number + 1) values)) else [])) ≡ all) (omega arith)
+      (subst (λ items. with_lines_at place old (each_item_lines predicate body holds said seen number items) ≡ all) (one_left values number value is) left))
 
-  pub lines_after : (it : Bool) → holds value ≡ Ok it → None ≡ decided predicate it
-      → with_lines_at place new (each_item_lines predicate holds said (number + 1) (items_of (drop (number + 1) values))) ≡ all
-  lines_after it holds_is on =
-      subst (λ b. with_lines_at place new (if b then each_item_lines predicate holds said (number + 1) (items_of (drop (number + 1) values)) else []) ≡ all) (continues_on predicate it on)
-      (lines_go_on place old new (item_lines predicate number at_end (holds value) (said value)) (holds value) it later all holds_is left_is one)
+  pub lines_after : (it : Bool) (more : Seen) → holds value ≡ Ok it → None ≡ decided predicate it → more ≡ after_item predicate seen it
+      → with_lines_at place new (each_item_lines predicate body holds said more (number + 1) (items_of (drop (number + 1) values))) ≡ all
+  lines_after it more holds_is on after =
+      ap (λ seen. with_lines_at place new (each_item_lines predicate body holds said seen (number + 1) (items_of (drop (number + 1) values)))) after
+      ∙ subst (λ b. with_lines_at place new (if b then rest it else []) ≡ all) (continues_on predicate it on)
+      (lines_go_on place old new (item_lines predicate body seen number at_end (holds value) (said value)) (holds value) it later all holds_is left_is one)
 
   pub lines_decided : (it : Bool) (answer : Value) → holds value ≡ Ok it → Some answer ≡ decided predicate it → explanation_view new ≡ all
   lines_decided it answer holds_is decides =
-      subst (λ b. with_lines_at place new (if b then each_item_lines predicate holds said (number + 1) (items_of (drop (number + 1) values)) else []) ≡ all) (ends predicate it answer decides)
-      (lines_go_on place old new (item_lines predicate number at_end (holds value) (said value)) (holds value) it later all holds_is left_is one)
+      subst (λ b. with_lines_at place new (if b then rest it else []) ≡ all) (ends predicate it answer decides)
+      (lines_go_on place old new (item_lines predicate body seen number at_end (holds value) (said value)) (holds value) it later all holds_is left_is one)
 
   pub lines_failed : (failure : Failure) → holds value ≡ Err failure → explanation_view new ≡ all
-  lines_failed failure holds_is = lines_end place old new (item_lines predicate number at_end (holds value) (said value)) (holds value) failure later all holds_is left_is one
+  lines_failed failure holds_is = lines_end place old new (item_lines predicate body seen number at_end (holds value) (said value)) (holds value) failure later all holds_is left_is one
 
 -- ---- items of list literals
 

@@ -1,6 +1,6 @@
 -- Each line that says a value or a failure is of an entry of the trace.
 use Rattle.std.proofs.Common.{ℕ, Bool, true, false, List, Option, Some, refl, sym, subst, true≢false, inl, inr}
-use Rattle.std.specs.Prelude.{◌||◌, ◌++◌, if◌then◌else◌, nat_lt, suc, ◌∷◌, [], All, Result, Ok, Err}
+use Rattle.std.specs.Prelude.{◌==◌, ◌++◌, if◌then◌else◌, suc, ◌∷◌, [], All, Result, Ok, Err}
 use Rattle.std.specs.List.{AllByRecursion}
 use Rattle.std.proofs.lemmas.List.Elements.{All-from_recursion}
 use Rattle.ar_value.specs.Answer.{◌>>=◌}
@@ -10,7 +10,7 @@ use Rattle.ar_value.specs.declared.operator.Predicate.{Predicate}
 use Rattle.ar_tree.specs.Meaning.{mean}
 use Rattle.ar_tree.specs.Typed.{Typed, Typeds}
 use Rattle.ar_tree.specs.Typed as typed
-use Rattle.ar_explain.specs.Lines.{Line, each_item_lines, earlier_lines, is_empty, is_last, has_own_line, items_lines, all_lines, lines_on_item, own_line, unneeded_line, with_own}
+use Rattle.ar_explain.specs.Lines.{Line, Seen, after_item, each_item_lines, earlier_lines, gap_lines, is_empty, is_shown, has_own_line, items_lines, all_lines, lines_on_item, none_seen, own_line, passed_line, unneeded_line, with_own}
 use Rattle.ar_explain.specs.Operands.{failed_on}
 use Rattle.ar_explain.specs.Sources.{IsFrom, SaysOne}
 use Rattle.ar_explain.specs.Trace.{TraceEntry, continues, each_item, if_value, in_child, items_trace, on_item, root_entry, trace}
@@ -108,16 +108,22 @@ before_own result here tree entries said all = all_before result entries (root_e
 
 -- ---- items of predicates
 
-each_from : (result : Value) (predicate : Predicate) (holds : Value → Result Bool Failure) (entries : Value → List TraceEntry) (said : Value → List Line)
-    → ((value : Value) → AllByRecursion (IsFrom result (entries value)) (said value)) → (number : ℕ) (items : Items)
-    → AllByRecursion (IsFrom result (each_item predicate holds entries number items)) (each_item_lines predicate holds said number items)
-each_from result predicate holds entries said all number no_items = tt
-each_from result predicate holds entries said all number (item first items) =
+-- a gap says neither a value nor a failure
+gap_from : (result : Value) (entries : List TraceEntry) (body : Typed) (seen : Seen) (none : Bool) → AllByRecursion (IsFrom result entries) (if none then [] else passed_line body seen.items seen.held ∷ [])
+gap_from result entries body seen true = tt
+gap_from result entries body seen false = ((λ says. absurd (true≢false (sym says))), tt)
+
+each_from : (result : Value) (predicate : Predicate) (body : Typed) (holds : Value → Result Bool Failure) (entries : Value → List TraceEntry) (said : Value → List Line)
+    → ((value : Value) → AllByRecursion (IsFrom result (entries value)) (said value)) → (seen : Seen) (number : ℕ) (items : Items)
+    → AllByRecursion (IsFrom result (each_item predicate holds entries number items)) (each_item_lines predicate body holds said seen number items)
+each_from result predicate body holds entries said all seen number no_items = tt
+each_from result predicate body holds entries said all seen number (item first items) =
     both_from result _ _ _ _
-    (own_where result _ (lines_on_item number (said first)) (nat_lt number 3 || is_last predicate (is_empty items) (holds first))
-    (all_on_item result number (entries first) (said first) (all first)))
+    (own_where result _ (gap_lines body seen ++ lines_on_item number (said first)) (is_shown predicate seen (is_empty items) (holds first))
+    (all_of_two (IsFrom result (on_item number (entries first))) (gap_lines body seen) (lines_on_item number (said first)) (gap_from result _ body seen (seen.items == 0))
+    (all_on_item result number (entries first) (said first) (all first))))
     (value_from result (holds first) _ _
-    (λ it. where_from result (continues predicate it) _ [] _ [] (each_from result predicate holds entries said all (suc number) items) tt))
+    (λ it. where_from result (continues predicate it) _ [] _ [] (each_from result predicate body holds entries said all (after_item predicate seen it) (suc number) items) tt))
 
 -- ---- trees
 
@@ -160,9 +166,9 @@ mutual
       before_own result here (typed.predicate predicate many body) _ _
       (both_from result _ _ _ _ (all_in_child result 0 _ _ (of_part result here many (from result here many)))
       (value_from result (mean result here many >>= items_in) _ _
-      (each_from result predicate (λ value. mean result (Some value) body >>= boolean) (λ value. in_child 1 (trace result (Some value) body))
+      (each_from result predicate body (λ value. mean result (Some value) body >>= boolean) (λ value. in_child 1 (trace result (Some value) body))
       (λ value. with_own result (Some value) body (earlier_lines result (Some value) body))
-      (λ value. all_in_child result 1 _ _ (of_part result (Some value) body (from result (Some value) body))) 0)))
+      (λ value. all_in_child result 1 _ _ (of_part result (Some value) body (from result (Some value) body))) none_seen 0)))
 
   items_from : (result : Value) (here : Option Value) (number : ℕ) (items : Typeds) → AllByRecursion (IsFrom result (items_trace result here number items)) (items_lines result here items)
   items_from result here number typed.none = tt

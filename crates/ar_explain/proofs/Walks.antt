@@ -1,6 +1,6 @@
 -- What functions of the walk give and say, one after another.
-use Rattle.std.proofs.Common.{◌≡◌, ℕ, Bool, true, false, List, [], ◌++◌, Option, None, Result, Ok, Err, ap, sym, ◌∙◌, subst, true≢false}
-use Rattle.std.specs.Prelude.{◌||◌, IfOk, nat_lt, not, if◌then◌else◌}
+use Rattle.std.proofs.Common.{◌≡◌, ℕ, Bool, true, false, List, [], ◌++◌, Option, None, Result, Ok, Err, refl, ap, sym, ◌∙◌, subst, true≢false}
+use Rattle.std.specs.Prelude.{◌||◌, IfOk, not, if◌then◌else◌}
 use Rattle.std.specs.declared.alloc.AllocError.{AllocError}
 use Rattle.std.proofs.lemmas.List.{append-nil}
 use Rattle.ar_value.specs.Answer.{◌>>=◌}
@@ -12,7 +12,7 @@ use Rattle.ar_tree.specs.Meaning.{mean}
 use Rattle.ar_tree.specs.Typed.{Typed}
 use Rattle.ar_operand.specs.Operand.{Meets, failure_of}
 use Rattle.ar_operand.specs.declared.operand.Failure.{Failure as FailureCode}
-use Rattle.ar_explain.specs.Lines.{Explanation, Line, Outcome, earlier_lines, explained, few_items, is_last, item_lines, lines_on_item, own_lines, outcome_of}
+use Rattle.ar_explain.specs.Lines.{Explanation, Line, Outcome, Seen, earlier_lines, explained, gap_lines, is_shown, item_lines, lines_on_item, own_lines, outcome_of}
 use Rattle.ar_explain.specs.Operands.{failed_on, on_value}
 use Rattle.ar_explain.specs.Private.Failed.{MeetsOn, came, came_on, on_of}
 use Rattle.ar_explain.specs.Private.Keeping.{with_lines}
@@ -139,44 +139,44 @@ held_on place inner number value silent old new (Ok met) body is said =
     subst (λ (inner : Place). Explains (λ (it : Bool). it) inner old new (Ok met) (holds_meant inner body) (lines_at inner body)) is said in
     (at.0, at.1 ∙ with_item silent place.items number (explanation_view old) (lines_on place body value))
 
--- what is said of an item where it is one of the first few, or nothing is said at all, or it isn't the last
-pub one_look : (silent few last : Bool) (items : List ℕ) (e new : Explanation) (said : List Line) → (few || silent || not last) ≡ true
-    → new ≡ with_lines (silent || not few) items e said → new ≡ with_lines silent items e (if few || last then said else [])
-one_look true few last items e new said is one = one ∙ with_silence items e said ∙ sym (with_silence items e (if few || last then said else []))
-one_look false true last items e new said is one = one
-one_look false false true items e new said is one = absurd (true≢false (sym is))
-one_look false false false items e new said is one = one ∙ with_silence items e said
+-- nothing is said of an item that isn't shown, and nothing at all in silence
+one_look : (silent shown : Bool) (items : List ℕ) (e : Explanation) (said : List Line) → (silent || not shown) ≡ true → e ≡ with_lines silent items e (if shown then said else [])
+one_look true shown items e said is = sym (with_silence items e (if shown then said else []))
+one_look false true items e said is = absurd (true≢false (sym is))
+one_look false false items e said is = refl
 
--- what is said of an item that needs no second look
-pub look_once : (place : Place) (old new : ExplanationCode) (met : Result Bool FailureCode) (m : Result Bool Failure) (predicate : Predicate) (number : ℕ) (at_end : Bool) (said : List Line)
-    → Meets (λ (it : Bool). it) met m → (nat_lt number few_items || place.silent || not (is_last predicate at_end (as_meant (λ (it : Bool). it) met))) ≡ true
-    → explanation_view new ≡ with_lines (place.silent || not (nat_lt number few_items)) place.items (explanation_view old) (lines_on_item number said)
-    → explanation_view new ≡ with_lines_at place old (item_lines predicate number at_end m said)
-look_once place old new met m predicate number at_end said meets enough one =
-    one_look place.silent (nat_lt number few_items) (is_last predicate at_end (as_meant (λ (it : Bool). it) met)) place.items (explanation_view old) (explanation_view new) (lines_on_item number said) enough one
-    ∙ ap (λ m. with_lines_at place old (item_lines predicate number at_end m said)) (sym (meets_is (λ (it : Bool). it) met m meets))
+-- an item that needs no second look
+pub look_once : (place : Place) (old new : ExplanationCode) (met : Result Bool FailureCode) (m : Result Bool Failure) (predicate : Predicate) (body : Typed) (seen : Seen) (number : ℕ) (at_end : Bool)
+    (said : List Line)
+    → Meets (λ (it : Bool). it) met m → (place.silent || not (is_shown predicate seen at_end (as_meant (λ (it : Bool). it) met))) ≡ true
+    → explanation_view new ≡ with_lines true place.items (explanation_view old) (lines_on_item number said)
+    → explanation_view new ≡ with_lines_at place old (item_lines predicate body seen number at_end m said)
+look_once place old new met m predicate body seen number at_end said meets enough one =
+    one ∙ with_silence place.items (explanation_view old) (lines_on_item number said)
+    ∙ one_look place.silent (is_shown predicate seen at_end (as_meant (λ (it : Bool). it) met)) place.items (explanation_view old) (gap_lines body seen ++ lines_on_item number said) enough
+    ∙ ap (λ m. with_lines_at place old (item_lines predicate body seen number at_end m said)) (sym (meets_is (λ (it : Bool). it) met m meets))
 
 -- what is said of any other item, at the second look
-pub two_looks : (silent few last : Bool) (items : List ℕ) (e mid new : Explanation) (said : List Line) → (few || silent || not last) ≡ false
-    → mid ≡ with_lines (silent || not few) items e said → new ≡ with_lines false items mid said → new ≡ with_lines silent items e (if few || last then said else [])
-two_looks true true last items e mid new said is one two = absurd (true≢false is)
-two_looks true false last items e mid new said is one two = absurd (true≢false is)
-two_looks false true last items e mid new said is one two = absurd (true≢false is)
-two_looks false false false items e mid new said is one two = absurd (true≢false is)
-two_looks false false true items e mid new said is one two =
-    two ∙ ap (λ e. with_lines false items e said) (one ∙ with_silence items e said)
+two_looks : (silent shown : Bool) (items : List ℕ) (e mid new : Explanation) (gap said : List Line) → (silent || not shown) ≡ false
+    → mid ≡ with_lines silent items e gap → new ≡ with_lines false items mid said → new ≡ with_lines silent items e (if shown then gap ++ said else [])
+two_looks true shown items e mid new gap said is one two = absurd (true≢false is)
+two_looks false false items e mid new gap said is one two = absurd (true≢false is)
+two_looks false true items e mid new gap said is one two = two ∙ ap (λ e. with_lines false items e said) one ∙ with_more false items e gap said
 
-pub look_twice : (place : Place) (old mid new : ExplanationCode) (met : Result Bool FailureCode) (result : Result (Result Bool FailureCode) AllocError) (m : Result Bool Failure)
-    (predicate : Predicate) (number : ℕ) (at_end : Bool) (said : List Line)
-    → Meets (λ (it : Bool). it) met m → (nat_lt number few_items || place.silent || not (is_last predicate at_end (as_meant (λ (it : Bool). it) met))) ≡ false
-    → explanation_view mid ≡ with_lines (place.silent || not (nat_lt number few_items)) place.items (explanation_view old) (lines_on_item number said)
+pub look_twice : (place : Place) (old looked mid new : ExplanationCode) (met : Result Bool FailureCode) (result : Result (Result Bool FailureCode) AllocError) (m : Result Bool Failure)
+    (predicate : Predicate) (body : Typed) (seen : Seen) (number : ℕ) (at_end : Bool) (said : List Line)
+    → Meets (λ (it : Bool). it) met m → (place.silent || not (is_shown predicate seen at_end (as_meant (λ (it : Bool). it) met))) ≡ false
+    → explanation_view looked ≡ with_lines true place.items (explanation_view old) (lines_on_item number said)
+    → explanation_view mid ≡ with_lines_at place looked (gap_lines body seen)
     → IfOk result (λ holds. Meets (λ (it : Bool). it) holds m × (explanation_view new ≡ with_lines false place.items (explanation_view mid) (lines_on_item number said)))
-    → Explains (λ (it : Bool). it) place old new result m (item_lines predicate number at_end m said)
-look_twice place old mid new met (Err error) m predicate number at_end said meets enough one two = tt
-look_twice place old mid new met (Ok again) m predicate number at_end said meets enough one two = (
+    → Explains (λ (it : Bool). it) place old new result m (item_lines predicate body seen number at_end m said)
+look_twice place old looked mid new met (Err error) m predicate body seen number at_end said meets enough one gap two = tt
+look_twice place old looked mid new met (Ok again) m predicate body seen number at_end said meets enough one gap two = (
   two.0,
-  two_looks place.silent (nat_lt number few_items) (is_last predicate at_end (as_meant (λ (it : Bool). it) met)) place.items (explanation_view old) (explanation_view mid) (explanation_view new) (lines_on_item number said) enough one two.1
-      ∙ ap (λ m. with_lines_at place old (item_lines predicate number at_end m said)) (sym (meets_is (λ (it : Bool). it) met m meets)),
+  two_looks place.silent (is_shown predicate seen at_end (as_meant (λ (it : Bool). it) met)) place.items (explanation_view old) (explanation_view mid) (explanation_view new) (gap_lines body seen)
+      (lines_on_item number said) enough
+      (gap ∙ ap (λ e. with_lines place.silent place.items e (gap_lines body seen)) (one ∙ with_silence place.items (explanation_view old) (lines_on_item number said))) two.1
+      ∙ ap (λ m. with_lines_at place old (item_lines predicate body seen number at_end m said)) (sym (meets_is (λ (it : Bool). it) met m meets)),
 )
 
 -- ---- lines that are left
@@ -198,7 +198,7 @@ abbrev outside : Value → Place
 outside value = record { result = value; here = None; items = []; silent = false }
 
 pub parts_explained : (place : Place) (value : Value) (tree : Typed) (none new : ExplanationCode)
-    → place ≡ outside value → explanation_view none ≡ explanation [] 0 → explanation_view new ≡ with_lines_at place none (earlier_at place tree)
+    → place ≡ outside value → explanation_view none ≡ explanation [] 0 [] → explanation_view new ≡ with_lines_at place none (earlier_at place tree)
     → explanation_view new ≡ explained (earlier_lines value None tree)
 parts_explained place value tree none new is empty are =
     are ∙ ap (λ place. with_lines_at place none (earlier_at place tree)) is

@@ -1,8 +1,9 @@
 -- What is said of an evaluation to a person, in its order: the values and failures of parts, where they are news, and
 -- which parts weren't needed. Where a failure arises its line says on which operands.
-use Rattle.std.specs.Prelude.{ℕ, suc, pos, ◌-◌, ◌^◌, nat_lt, min, ◌≡◌, refl, Bool, true, false, not, ◌||◌, if◌then◌else◌, List, [], ◌∷◌, ◌++◌, codes, drop, length, map, take, Option, Some, None, Result, Ok, Err}
+use Rattle.std.specs.Prelude.{ℕ, suc, pos, ◌+◌, ◌-◌, ◌^◌, ◌==◌, nat_lt, min, ◌≡◌, refl, Bool, true, false, not, ◌&&◌, ◌||◌, if◌then◌else◌, List, [], ◌∷◌, ◌++◌, codes, drop, length, map, take, Option, Some, None, Result, Ok, Err}
 use Rattle.std.specs.Fmt.{digits}
 use Rattle.ar_value.specs.Answer.{◌>>=◌}
+use Rattle.ar_value.specs.Predicates.{gathers}
 use Rattle.ar_value.specs.Operators.{Failure, Meaning, boolean, faulted, items_in, scalar_item}
 use Rattle.ar_value.specs.Terms.{Text}
 use Rattle.ar_value.specs.Value.{Value, Items, bool, whole, list, nil, no_items, item, items_of}
@@ -11,6 +12,8 @@ use Rattle.ar_value.specs.declared.operator.BinaryOperator.TheVariants as binary
 use Rattle.ar_value.specs.declared.operator.Arithmetic.TheVariants.{Divide}
 use Rattle.ar_value.specs.declared.operator.Compared.TheVariants as compared
 use Rattle.ar_value.specs.declared.operator.Family.TheVariants as families
+use Rattle.ar_value.specs.declared.operator.Gather.{Gather}
+use Rattle.ar_value.specs.declared.operator.Gather.TheVariants.{Nothing, Number, Items as Gathered}
 use Rattle.ar_value.specs.declared.operator.Numbers.TheVariants as numbers
 use Rattle.ar_value.specs.declared.operator.Order.TheVariants.{Less}
 use Rattle.ar_value.specs.declared.operator.Predicate.{Predicate}
@@ -34,6 +37,8 @@ pub data Outcome : Type 0 where
   failed : Failure → (on : Option Text) → Outcome
   -- it wasn't needed
   unneeded : Outcome
+  -- it is a predicate's body, evaluated on this many items that aren't shown, of `held` of which it holds
+  passed : (items held : ℕ) → Outcome
 
 pub record Line : Type 0 where
   -- the numbers of the items on which the bodies of predicates around the part are evaluated, the outermost first
@@ -51,6 +56,10 @@ own_line tree meaning on = record { items = []; part = tree; said = outcome_of m
 
 abbrev pub unneeded_line : Typed → Line
 unneeded_line tree = record { items = []; part = tree; said = unneeded }
+
+-- that items aren't shown
+abbrev pub passed_line : Typed → (items held : ℕ) → Line
+passed_line body items held = record { items = []; part = body; said = passed items held }
 
 -- ---- parts that say nothing new
 
@@ -100,30 +109,72 @@ with_own result here tree earlier = earlier ++ own_lines tree (mean result here 
 abbrev pub few_items : ℕ
 few_items = 3
 
--- the lines of a predicate's body on an item
-abbrev pub lines_on_item : ℕ → List Line → List Line
-lines_on_item number lines = map (λ (line : Line). record line { items = number ∷ line.items }) lines
+-- the items that a predicate has looked at
+pub record Seen : Type 0 where
+  -- how many are shown
+  pub shown : ℕ
+  -- how many there are after the last shown one, and of how many of those the body holds
+  pub items : ℕ
+  pub held : ℕ
+
+abbrev pub none_seen : Seen
+none_seen = record { shown = 0; items = 0; held = 0 }
+
+-- whether an item may be among the first few: where items are found or counted, those of which the body holds
+abbrev pub may_show : Gather → (holds : Bool) → Bool
+may_show Nothing holds = true
+may_show Number holds = holds
+may_show Gathered holds = holds
+
+-- whether an item is among the first few
+abbrev pub is_early : Predicate → Seen → (holds : Bool) → Bool
+is_early predicate seen holds = nat_lt seen.shown few_items && may_show (gathers predicate) holds
 
 -- whether an item is the last that a predicate looks at: it fails or decides, or comes at the end
 abbrev pub is_last : Predicate → (at_end : Bool) → Result Bool Failure → Bool
 is_last predicate at_end (Ok holds) = at_end || not (continues predicate holds)
 is_last predicate at_end (Err failure) = true
 
+abbrev pub is_shown : Predicate → Seen → (at_end : Bool) → Result Bool Failure → Bool
+is_shown predicate seen at_end (Ok holds) = is_early predicate seen holds || is_last predicate at_end (Ok holds)
+is_shown predicate seen at_end (Err failure) = true
+
+-- after an item that isn't the last
+abbrev pub after_item : Predicate → Seen → (holds : Bool) → Seen
+after_item predicate seen holds =
+    if is_early predicate seen holds then record { shown = seen.shown + 1; items = 0; held = 0 }
+    else record {
+      shown = seen.shown;
+      items = seen.items + 1;
+      held = if holds then seen.held + 1 else seen.held;
+    }
+
 abbrev pub is_empty : Items → Bool
 is_empty no_items = true
 is_empty (item first items) = false
 
--- the lines of an item that is looked at, where it is among the first few or the last
-abbrev pub item_lines : Predicate → ℕ → (at_end : Bool) → Result Bool Failure → List Line → List Line
-item_lines predicate number at_end holds lines =
-    if nat_lt number few_items || is_last predicate at_end holds then lines_on_item number lines else []
+-- the lines of a predicate's body on an item
+abbrev pub lines_on_item : ℕ → List Line → List Line
+lines_on_item number lines = map (λ (line : Line). record line { items = number ∷ line.items }) lines
+
+-- how many items come before one that is shown, after the last shown one
+abbrev pub gap_lines : (body : Typed) → Seen → List Line
+gap_lines body seen = if seen.items == 0 then [] else passed_line body seen.items seen.held ∷ []
+
+-- the lines of an item that is looked at, where it is shown
+abbrev pub item_lines : Predicate → (body : Typed) → Seen → ℕ → (at_end : Bool) → Result Bool Failure → List Line
+    → List Line
+item_lines predicate body seen number at_end holds lines =
+    if is_shown predicate seen at_end holds then gap_lines body seen ++ lines_on_item number lines else []
 
 -- the lines of the items that are looked at, the first of which has a number
-abbrev pub each_item_lines : Predicate → (Value → Result Bool Failure) → (Value → List Line) → ℕ → Items → List Line
-each_item_lines predicate holds lines number no_items = []
-each_item_lines predicate holds lines number (item first items) =
-    item_lines predicate number (is_empty items) (holds first) (lines first) ++ if_value (holds first)
-    (λ it. if continues predicate it then each_item_lines predicate holds lines (suc number) items else [])
+abbrev pub each_item_lines : Predicate → (body : Typed) → (Value → Result Bool Failure) → (Value → List Line) → Seen
+    → ℕ → Items → List Line
+each_item_lines predicate body holds lines seen number no_items = []
+each_item_lines predicate body holds lines seen number (item first items) =
+    item_lines predicate body seen number (is_empty items) (holds first) (lines first) ++ if_value (holds first)
+    (λ it. if continues predicate it
+    then each_item_lines predicate body holds lines (after_item predicate seen it) (suc number) items else [])
 
 -- ---- trees
 
@@ -161,8 +212,8 @@ abbrev mutual
   earlier_lines result here (typed.predicate predicate many body) =
       with_own result here many (earlier_lines result here many)
       ++ if_value (mean result here many >>= items_in)
-      (each_item_lines predicate (λ value. mean result (Some value) body >>= boolean)
-      (λ value. with_own result (Some value) body (earlier_lines result (Some value) body)) 0)
+      (each_item_lines predicate body (λ value. mean result (Some value) body >>= boolean)
+      (λ value. with_own result (Some value) body (earlier_lines result (Some value) body)) none_seen 0)
 
   -- the items of a list literal
   pub items_lines : Value → Option Value → Typeds → List Line
@@ -178,22 +229,35 @@ all_lines result here tree =
 
 -- ---- what is kept of the lines
 
-unfoldable pub most_lines : ℕ
-most_lines = 1000
+-- how many of the first lines are kept, and how many of the last ones
+unfoldable pub most_at_each_end : ℕ
+most_at_each_end = 500
 
 -- the greatest number that 64 bits have
 unfoldable pub most_left_out : ℕ
 most_left_out = 2 ^ 64 - 1
 
--- of lines of parts the first are kept
+-- of lines of parts the first and the last are kept
 pub record Explanation : Type 0 where
   pub lines : List Line
-  -- how many lines come after those; where there are more than the greatest number, that one
+  -- how many lines come between; where there are more than the greatest number, that one
   pub left_out : ℕ
+  pub last : List Line
+
+-- `rest`: the lines after the first
+abbrev pub kept_of : (most : ℕ) → (first rest : List Line) → Explanation
+kept_of most first rest = record {
+  lines = first;
+  left_out = min most_left_out (length rest - most);
+  last = drop (length rest - most) rest;
+}
+
+-- at most `most` lines at each end
+abbrev pub ends_of : (most : ℕ) → List Line → Explanation
+ends_of most lines = kept_of most (take most lines) (drop most lines)
 
 abbrev pub explained : List Line → Explanation
-explained lines =
-    record { lines = take most_lines lines; left_out = min most_left_out (length lines - most_lines) }
+explained lines = ends_of most_at_each_end lines
 
 -- ---- worked rows
 
@@ -323,18 +387,35 @@ of_item number value holds =
     (number ∷ [], typed.item, the_value (whole (pos value)))
     ∷ (number ∷ [], is_below typed.item 8, the_value (bool holds)) ∷ []
 
+abbrev of_gap : Typed → (items held : ℕ) → List (List ℕ × Typed × Outcome)
+of_gap body items held = ([], body, passed items held) ∷ []
+
 -- `any(result, # < 8)` on 9, 8, 9, 8, 1 and 2: the first three items, and the fifth, which decides
 fifth_item_decides : map row_of (all_lines the_items None (typed.predicate predicates.Any typed.result
     (is_below typed.item 8)))
-    ≡ of_item 0 9 false ++ of_item 1 8 false ++ of_item 2 9 false ++ of_item 4 1 true
+    ≡ of_item 0 9 false ++ of_item 1 8 false ++ of_item 2 9 false
+    ++ of_gap (is_below typed.item 8) 1 0 ++ of_item 4 1 true
     ++ ([], typed.predicate predicates.Any typed.result (is_below typed.item 8), the_value (bool true)) ∷ []
 fifth_item_decides = refl
 
--- `count(result, # < 8)`: the last item is at the end
-last_item : map row_of
+-- `count(result, # < 8)`: the items of which it holds, after those before them
+counted_items : map row_of
     (all_lines the_items None (typed.predicate predicates.Count typed.result (is_below typed.item 8)))
-    ≡ of_item 0 9 false ++ of_item 1 8 false ++ of_item 2 9 false ++ of_item 5 2 true
+    ≡ of_gap (is_below typed.item 8) 4 0 ++ of_item 4 1 true ++ of_item 5 2 true
     ++ ([], typed.predicate predicates.Count typed.result (is_below typed.item 8), the_value (whole (pos 2))) ∷ []
+counted_items = refl
+
+-- `count(result, # < 8)` on 1, 2, 3, 4, 9, 5 and 9: of the three items between it holds of two
+abbrev seven_items : Value
+seven_items =
+    list (items_of (whole (pos 1) ∷ whole (pos 2) ∷ whole (pos 3) ∷ whole (pos 4) ∷ whole (pos 9) ∷ whole (pos 5)
+    ∷ whole (pos 9) ∷ []))
+
+last_item : map row_of
+    (all_lines seven_items None (typed.predicate predicates.Count typed.result (is_below typed.item 8)))
+    ≡ of_item 0 1 true ++ of_item 1 2 true ++ of_item 2 3 true
+    ++ of_gap (is_below typed.item 8) 3 2 ++ of_item 6 9 false
+    ++ ([], typed.predicate predicates.Count typed.result (is_below typed.item 8), the_value (whole (pos 5))) ∷ []
 last_item = refl
 
 -- `count(result, 1 / # == 0)` on 1, 2, 3, 0 and 5: the fourth item fails
@@ -345,13 +426,14 @@ is_quotient =
 
 abbrev fails_on_item : List (List ℕ × Typed × Outcome)
 fails_on_item =
-    (3 ∷ [], typed.item, the_value (whole (pos 0)))
+    ([], is_quotient, passed 3 0)
+    ∷ (3 ∷ [], typed.item, the_value (whole (pos 0)))
     ∷ (3 ∷ [], typed.binary (binary.Wholes Divide) (the_literal 1) typed.item, fails_on_zero)
     ∷ (3 ∷ [], is_quotient, failed (faulted DivisionByZero) None)
     ∷ ([], typed.predicate predicates.Count typed.result is_quotient, failed (faulted DivisionByZero) None) ∷ []
 
-fourth_item_fails : drop 9 (map row_of (all_lines (list (items_of (whole (pos 1) ∷ whole (pos 2) ∷ whole (pos 3)
-    ∷ whole (pos 0) ∷ whole (pos 5) ∷ []))) None (typed.predicate predicates.Count typed.result is_quotient)))
+fourth_item_fails : map row_of (all_lines (list (items_of (whole (pos 1) ∷ whole (pos 2) ∷ whole (pos 3)
+    ∷ whole (pos 0) ∷ whole (pos 5) ∷ []))) None (typed.predicate predicates.Count typed.result is_quotient))
     ≡ fails_on_item
 unfolding two_operands shown_value digits
 fourth_item_fails = refl
@@ -381,6 +463,25 @@ second_of_the_second_decides = refl
 
 -- few lines are all kept
 few_kept : explained (all_lines (whole (pos 7)) None (typed.both the_true (is_below typed.result 8)))
-    ≡ record { lines = all_lines (whole (pos 7)) None (typed.both the_true (is_below typed.result 8)); left_out = 0 }
-unfolding most_lines most_left_out
+    ≡ record {
+      lines = all_lines (whole (pos 7)) None (typed.both the_true (is_below typed.result 8));
+      left_out = 0;
+      last = [];
+    }
+unfolding most_at_each_end most_left_out
 few_kept = refl
+
+-- of five lines two at each end
+abbrev numbered : ℕ → Line
+numbered number = record { items = number ∷ []; part = typed.item; said = unneeded }
+
+two_at_each_end : ends_of 2 (map numbered (1 ∷ 2 ∷ 3 ∷ 4 ∷ 5 ∷ []))
+    ≡ record { lines = numbered 1 ∷ numbered 2 ∷ []; left_out = 1; last = numbered 4 ∷ numbered 5 ∷ [] }
+unfolding most_left_out
+two_at_each_end = refl
+
+-- of three lines none is left out
+one_after_the_first : ends_of 2 (map numbered (1 ∷ 2 ∷ 3 ∷ []))
+    ≡ record { lines = numbered 1 ∷ numbered 2 ∷ []; left_out = 0; last = numbered 3 ∷ [] }
+unfolding most_left_out
+one_after_the_first = refl

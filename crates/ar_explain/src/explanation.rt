@@ -1,22 +1,24 @@
 //! What is said of an evaluation.
 
-ghost use Rattle.std.specs.Prelude.{◌≡◌, [], ◌∷◌, IfOk, OnOk, option_map, string_bytes};
+ghost use Rattle.std.specs.Prelude.{◌≡◌, ◌+◌, ◌-◌, ◌^◌, ◌++◌, [], ◌∷◌, IfOk, OnOk, drop, map, min, option_map, string_bytes};
 ghost use Rattle.ar_tree.specs.Views.{typed_view};
 ghost use Rattle.ar_operand.specs.Operand.{operand_view};
-ghost use Rattle.ar_explain.specs.Private.Keeping.{with_line};
+ghost use Rattle.ar_explain.specs.Private.Keeping.{with_last, with_line};
 ghost use Rattle.ar_explain.specs.Private.Places.{place_view, said_by, with_lines_at};
 ghost use Rattle.ar_show.specs.Values.{shown_value};
 ghost use Rattle.ar_explain.specs.Views.{explanation_view, line_view, said_view};
 
 use crate::applied::operand_ref;
 use crate::place::Place;
+use crate::seen::Seen;
 use ar_operand::operand::{Failure, Operand};
 use ar_show::push_value;
 use ar_tree::Typed;
 use std::alloc::{AllocError, Global};
+use std::collections::VecDeque;
 
-/// How many lines are kept.
-const MOST_LINES: usize = 1_000;
+/// How many of the first lines are kept, and how many of the last ones.
+const MOST_AT_EACH_END: usize = 500;
 
 /// What is said of a part.
 #[derive(Drop)]
@@ -27,6 +29,8 @@ pub enum Said {
     Failed(Failure, Option<String>),
     /// It wasn't needed.
     Unneeded,
+    /// It is a predicate's body, evaluated on items that aren't shown, of `held` of which it holds.
+    Passed { items: usize, held: usize },
 }
 
 /// What is said of a part that is evaluated on these items, by their numbers, the outermost first.
@@ -37,18 +41,20 @@ pub struct Line<'t> {
     pub said: Said,
 }
 
-/// The first lines of parts.
+/// The first lines of parts, and the last ones.
 #[derive(Drop)]
 pub struct Explanation<'t> {
     pub lines: Vec<Line<'t>>,
-    /// How many lines come after those.
+    /// How many lines come between.
     pub left_out: u64,
+    /// The last of the lines after the first.
+    pub last: VecDeque<Line<'t>>,
 }
 
 /// What is said of the evaluation of a condition.
 #[derive(Drop)]
 pub struct Evaluation<'t> {
-    /// The first lines of its parts, in the order of evaluation.
+    /// The lines of its parts, in the order of evaluation.
     pub parts: Explanation<'t>,
     /// The value or the failure of the whole condition.
     pub answer: Said,
@@ -61,6 +67,8 @@ pub(crate) enum Remark<'s, 'v> {
     /// With the operands on which it arises in the part, if it does.
     Failure(Failure, Option<&'s str>),
     Unneeded,
+    /// Of items that aren't shown.
+    Passed(Seen),
 }
 
 fn text_of(alloc: Global, operand: &Operand<'_>) -> Result<String, AllocError>
@@ -87,6 +95,10 @@ pub(crate) fn said_of(alloc: Global, remark: Remark<'_, '_>) -> Result<Said, All
         Remark::Value(operand) => Ok(Said::Valued(text_of(alloc, operand)?)),
         Remark::Failure(failure, on) => Ok(Said::Failed(failure, owned(alloc, on)?)),
         Remark::Unneeded => Ok(Said::Unneeded),
+        Remark::Passed(seen) => Ok(Said::Passed {
+            items: seen.items,
+            held: seen.held,
+        }),
     }
 }
 
@@ -106,30 +118,55 @@ fn line_of<'t>(
 
 impl<'t> Explanation<'t> {
     pub(crate) fn new(alloc: Global) -> Explanation<'t>
-        ensures { explanation_view result ≡ record { lines = []; left_out = 0 } }
+        ensures { explanation_view result ≡ record { lines = []; left_out = 0; last = [] } }
     {
         Explanation {
             lines: Vec::new(alloc),
             left_out: 0,
+            last: VecDeque::new(alloc),
         }
     }
 
-    /// Keeps a line, or counts it where there is no room.
-    fn keep(
-        &mut self,
-        alloc: Global,
-        items: &[usize],
-        part: &'t Typed,
-        remark: Remark<'_, '_>,
-    ) -> Result<(), AllocError>
-        ensures { OnOk result (explanation_view self.new ≡ with_line (explanation_view self.old)
-            (record { items = items.now; part = typed_view part.now; said = said_by remark.entry })) }
+    /// Drops the first of the last lines, and counts it.
+    fn drop_first(&mut self)
+        ensures lines { self.new.lines ≡ self.old.lines }
+        ensures left_out { self.new.left_out ≡ min (self.old.left_out + 1) (2 ^ 64 - 1) }
+        ensures last { self.new.last.items ≡ drop 1 self.old.last.items }
     {
-        if self.lines.len() < MOST_LINES {
-            self.lines.push(line_of(alloc, items, part, remark)?)?;
-        } else {
-            self.left_out = self.left_out.saturating_add(1);
+        self.last.pop_front();
+        self.left_out = self.left_out.saturating_add(1);
+    }
+
+    fn push_last(&mut self, line: Line<'t>) -> Result<(), AllocError>
+        ensures { OnOk result (explanation_view self.new ≡ record (explanation_view self.old) {
+          last = map line_view self.old.last.items ++ line_view line.entry ∷ [];
+        }) }
+    {
+        self.last.push_back(line)?;
+        Ok(())
+    }
+
+    /// Keeps a line as one of the last. Where there is no room the first of those is dropped.
+    fn keep_last(&mut self, line: Line<'t>) -> Result<(), AllocError>
+        ensures { OnOk result
+            (explanation_view self.new ≡ with_last (explanation_view self.old) (line_view line.entry)) }
+    {
+        if self.last.len() < MOST_AT_EACH_END {
+            return self.push_last(line);
         }
+        self.drop_first();
+        self.push_last(line)
+    }
+
+    /// Keeps a line as one of the first where there is room.
+    fn keep(&mut self, line: Line<'t>) -> Result<(), AllocError>
+        ensures { OnOk result
+            (explanation_view self.new ≡ with_line (explanation_view self.old) (line_view line.entry)) }
+    {
+        if self.lines.len() >= MOST_AT_EACH_END {
+            return self.keep_last(line);
+        }
+        self.lines.push(line)?;
         Ok(())
     }
 
@@ -147,6 +184,6 @@ impl<'t> Explanation<'t> {
         if place.silent {
             return Ok(());
         }
-        self.keep(alloc, &place.items, part, remark)
+        self.keep(line_of(alloc, &place.items, part, remark)?)
     }
 }

@@ -9,7 +9,7 @@ ghost use Rattle.ar_tree.specs.Typed.{Typed};
 ghost use Rattle.ar_explain.specs.Lines.{Line, all_lines, own_line};
 ghost use Rattle.ar_explain.specs.Operands.{failed_on};
 ghost use Rattle.ar_explain.specs.Parts.{Fails, IsEntryOf, is_evaluated, with_part};
-ghost use Rattle.ar_explain.specs.Sources.{IsFrom, LooksLastAt};
+ghost use Rattle.ar_explain.specs.Sources.{IsFrom, LooksLastAt, SaysAllItems};
 ghost use Rattle.ar_explain.specs.Trace.{TraceEntry, root_entry, trace};
 
 /// Each entry is of a part of the tree, and has its meaning.
@@ -67,4 +67,11 @@ pub fn last_items_have_lines()
     ensures { (result : Value) (here : Option Value) (predicate : Predicate) (many body : Typed) (first : Value)
         (others : Items) → mean result here many ≡ Ok (list (item first others))
         → (number : ℕ) × (value : Value) × LooksLastAt result here predicate many body number value }
+{}
+
+/// Each item on which a predicate's body is evaluated is shown, or counted in the line of a gap with those next to it:
+/// the numbers of items and the counts of gaps are exact.
+pub fn items_are_shown_or_counted()
+    ensures { (result : Value) (here : Option Value) (predicate : Predicate) (many body : Typed)
+        → SaysAllItems result here predicate many body }
 {}

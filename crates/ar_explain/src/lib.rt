@@ -3,11 +3,12 @@
 //!
 //! [`tell`] evaluates a condition on a value and says what came of its parts: those whose value is news or that
 //! fail, and those that weren't needed. Where a failure arises it says on which operands, shortened. Of a list's
-//! items it says only what came of the first few and of the last one that was looked at, which decided if one did.
-//! By its contract the evaluation has the first lines of its parts by `specs/Lines`, at most 1,000, how many come
-//! after those, and what came of the whole condition. Only out of memory can keep it from that: lines that are kept
-//! take memory, lists that the condition makes, the numbers of the items that are looked at, and while an operator
-//! has such a list, the operands in words.
+//! items it says what came of the first few, in `count`, `filter` and `one` of those of which the body holds, and of
+//! the last one that was looked at; of the others, how many they are, and of how many of them the body holds. By its
+//! contract the evaluation has the lines of its parts by `specs/Lines`, 500 at each end, how many come between, and
+//! what came of the whole condition. Only out of memory can keep it from that: lines that are kept take memory, lists
+//! that the condition makes, the numbers of the items that are looked at, and while an operator has such a list, the
+//! operands in words.
 //!
 //! The definitions are `specs/Trace` (the trace of a typed tree), `specs/Parts` (parts by paths, and what an entry
 //! has), `specs/Operands` (on which operands a part fails), `specs/Lines` (what is said) and `specs/Sources` (which
@@ -16,11 +17,12 @@
 //! is said that they weren't needed, the definitions say alone. `specs/Private` follows the code.
 //!
 //! - [`laws`]: that entries are of parts and have their meanings, the root's is the last, a failure is the condition's,
-//!   and just what isn't needed is left out; that lines say what entries have, and the root's is the last
+//!   and just what isn't needed is left out; that lines say what entries have, the root's is the last, and each item
+//!   is shown or counted
 //! - [`explanation`]: lines, and those that are kept, with the texts of values by `ar_show`
 //! - `walk`: the walk over a condition; `place`: where a part is evaluated; `news`: which parts have lines of their
-//!   own; `looked`: items that predicates look at; `applied`: what operators make of operands; `failed`: operands in
-//!   words, where a failure arises
+//!   own; `looked`: items that predicates look at; `seen`: how many of those aren't shown; `applied`: what operators
+//!   make of operands; `failed`: operands in words, where a failure arises
 #![tactic(auto)]
 
 mod applied;
@@ -30,6 +32,7 @@ pub mod laws;
 mod looked;
 mod news;
 mod place;
+mod seen;
 mod walk;
 
 pub use explanation::{Evaluation, Explanation, Line, Said};

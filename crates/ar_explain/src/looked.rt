@@ -1,10 +1,11 @@
 //! Items that predicates look at, and what is said of them.
 
-ghost use Rattle.std.specs.Prelude.{◌≡◌, ◌||◌, nat_lt, not};
-ghost use Rattle.ar_explain.specs.Lines.{few_items, is_last};
-ghost use Rattle.ar_explain.specs.Private.Places.{as_meant};
+ghost use Rattle.std.specs.Prelude.{◌≡◌, ◌||◌, Ok, not};
+ghost use Rattle.ar_explain.specs.Lines.{is_last, is_shown};
+ghost use Rattle.ar_explain.specs.Private.Places.{as_meant, seen_view};
 
 use crate::place::Place;
+use crate::seen::Seen;
 use ar_machine::operand::borrowed::ValueRef;
 use ar_machine::operand::predicate::decided;
 use ar_operand::operand::Failure;
@@ -18,36 +19,35 @@ pub(crate) struct Looked<'v> {
     pub item: ValueRef<'v>,
     /// Whether no item comes after it.
     pub at_end: bool,
+    /// The items before it.
+    pub seen: Seen,
 }
 
-/// How many items of a list have lines, but for the last.
-const FEW_ITEMS: usize = 3;
-
-/// Whether nothing is said of an item at the first look.
-pub(crate) fn is_silent(looked: Looked<'_>, place: &Place<'_>) -> bool
-    ensures { result ≡ (place.now.silent || not (nat_lt looked.entry.number few_items)) }
-{
-    place.silent || looked.number >= FEW_ITEMS
-}
-
-/// Whether an item needs no second look: what is to be said of it was said at the first.
+/// Whether an item needs no second look: nothing is to be said of it.
 pub(crate) fn is_enough(
     looked: Looked<'_>,
     place: &Place<'_>,
     holds: &Result<bool, Failure>,
 ) -> bool
-    ensures { result ≡ (nat_lt looked.entry.number few_items || place.now.silent
-        || not (is_last looked.entry.predicate looked.entry.at_end (as_meant (λ it. it) holds.now))) }
+    ensures { result ≡ (place.now.silent || not (is_shown looked.entry.predicate (seen_view looked.entry.seen)
+        looked.entry.at_end (as_meant (λ it. it) holds.now))) }
 {
-    looked.number < FEW_ITEMS || place.silent || !is_last(looked.predicate, looked.at_end, holds)
+    place.silent || !is_shown(looked, holds)
 }
 
-/// Whether an item is the last that a predicate looks at.
-fn is_last(predicate: Predicate, at_end: bool, holds: &Result<bool, Failure>) -> bool
-    ensures { result ≡ is_last predicate at_end (as_meant (λ it. it) holds.now) }
+fn is_shown(looked: Looked<'_>, holds: &Result<bool, Failure>) -> bool
+    ensures { result ≡ is_shown looked.entry.predicate (seen_view looked.entry.seen) looked.entry.at_end
+        (as_meant (λ it. it) holds.now) }
 {
     match holds {
-        Ok(holds) => at_end || decided(predicate, *holds).is_some(),
+        Ok(holds) => { looked.seen.is_early(looked.predicate, *holds) || is_last(looked, *holds) }
         Err(_) => true,
     }
+}
+
+/// Whether a predicate looks at no item after one on which its body gave a boolean.
+fn is_last(looked: Looked<'_>, holds: bool) -> bool
+    ensures { result ≡ is_last looked.entry.predicate looked.entry.at_end (Ok holds) }
+{
+    looked.at_end || decided(looked.predicate, holds).is_some()
 }

@@ -4,14 +4,15 @@ ghost use Rattle.std.specs.Prelude.{◌≡◌, ◌∷◌, [], Ok, OnOk};
 ghost use Rattle.ar_value.specs.Value.{bool};
 ghost use Rattle.ar_tree.specs.Views.{typed_view};
 ghost use Rattle.ar_operand.specs.Operand.{operand_view};
-ghost use Rattle.ar_explain.specs.Lines.{changes_value, is_literal, own_lines, outcome_of, says_more, unneeded_line};
+ghost use Rattle.ar_explain.specs.Lines.{changes_value, gap_lines, is_literal, own_lines, outcome_of, says_more, unneeded_line};
 ghost use Rattle.ar_explain.specs.Private.Failed.{came, came_on};
-ghost use Rattle.ar_explain.specs.Private.Places.{Explains, place_view, said_by, with_lines_at};
+ghost use Rattle.ar_explain.specs.Private.Places.{Explains, place_view, said_by, seen_view, with_lines_at};
 ghost use Rattle.ar_explain.specs.Views.{explanation_view};
 
 use crate::explanation::{Explanation, Remark};
 use crate::failed::Failed;
 use crate::place::Place;
+use crate::seen::Seen;
 use ar_operand::operand::{Failure, Operand};
 use ar_tree::Typed;
 use ar_value::operator::UnaryOperator;
@@ -90,4 +91,21 @@ pub(crate) fn unneeded<'t, 'v>(
 {
     out.say(alloc, place, part, Remark::Unneeded)?;
     Ok(Ok(Operand::boolean(answer)))
+}
+
+/// Says of a predicate's body how many items aren't shown before the next that is, if there are some.
+pub(crate) fn say_gap<'t>(
+    alloc: Global,
+    body: &'t Typed,
+    seen: Seen,
+    place: &Place<'_>,
+    out: &mut Explanation<'t>,
+) -> Result<(), AllocError>
+    ensures { OnOk result (explanation_view out.new ≡ with_lines_at (place_view place.now) out.old
+        (gap_lines (typed_view body.now) (seen_view seen))) }
+{
+    if seen.items == 0 {
+        return Ok(());
+    }
+    out.say(alloc, place, body, Remark::Passed(seen))
 }

@@ -1,7 +1,7 @@
 //! The walk over a condition: it evaluates each part that is needed, and says what came of it.
 //!
-//! Of a list's items the first few are looked at once, each other one in silence, and the last of those again, to say
-//! what came of it. Where it is silent already, each item is looked at once.
+//! Each of a list's items is looked at in silence, and those that are shown again, to say what came of them: the first
+//! few and the last. Where it is silent already, each item is looked at once.
 
 ghost use Rattle.std.specs.Prelude.{◌≡◌, ◌++◌, ◌∷◌, [], None, IfOk, Ok, if◌then◌else◌};
 ghost use Rattle.ar_value.specs.Value.{bool, items_of};
@@ -11,19 +11,20 @@ ghost use Rattle.ar_tree.specs.Meaning.{literal_value, mean, over};
 ghost use Rattle.ar_tree.specs.Typed as typed;
 ghost use Rattle.ar_tree.specs.Views.{typed_view};
 ghost use Rattle.ar_operand.specs.Operand.{Meets, operand_view};
-ghost use Rattle.ar_explain.specs.Lines.{each_item_lines, earlier_lines, explained, item_lines, lines_on_item, outcome_of, unneeded_line};
+ghost use Rattle.ar_explain.specs.Lines.{each_item_lines, earlier_lines, explained, item_lines, lines_on_item, none_seen, outcome_of, unneeded_line};
 ghost use Rattle.ar_explain.specs.Operands.{failed_on};
 ghost use Rattle.ar_explain.specs.Private.Failed.{MeetsOn};
 ghost use Rattle.ar_explain.specs.Private.Keeping.{with_lines};
-ghost use Rattle.ar_explain.specs.Private.Places.{Explains, ExplainsOn, earlier_at, failed_at, holds_meant, holds_on, items_failed_at, items_lines_at, lines_at, lines_on, list_meant, meant, operated, operated_on, over_failed_on, over_lines, over_meant, place_view, scalar_failed_at, scalar_meant, typeds_view};
+ghost use Rattle.ar_explain.specs.Private.Places.{Explains, ExplainsOn, earlier_at, failed_at, holds_meant, holds_on, items_failed_at, items_lines_at, lines_at, lines_on, list_meant, meant, operated, operated_on, over_failed_on, over_lines, over_meant, place_view, scalar_failed_at, scalar_meant, seen_view, typeds_view};
 ghost use Rattle.ar_explain.specs.Views.{explanation_view, said_view};
 
 use crate::applied::{binary_on, field_on, inherited, operand_ref, plain, scalar_on, unary_on};
 use crate::explanation::{Evaluation, Explanation, Remark, said_of};
 use crate::failed::Failed;
-use crate::looked::{Looked, is_enough, is_silent};
-use crate::news::{remark_on, say_own, unneeded};
+use crate::looked::{Looked, is_enough};
+use crate::news::{remark_on, say_gap, say_own, unneeded};
 use crate::place::Place;
+use crate::seen::Seen;
 use ar_machine::operand::borrowed::{ValueRef, value_ref};
 use ar_machine::operand::list::ListRef;
 use ar_machine::operand::predicate::{count_with, decided};
@@ -423,11 +424,12 @@ fn each_item<'t: 'v, 'v>(
 ) -> Result<Result<Operand<'v>, Failure>, AllocError>
     ensures { Explains operand_view (place_view place.now) out.old out.new result
         (over predicate (holds_on (place_view place.now) (typed_view body.now)) (items_of (list_values list.entry)))
-        (each_item_lines predicate (holds_on (place_view place.now) (typed_view body.now))
-        (lines_on (place_view place.now) (typed_view body.now)) 0 (items_of (list_values list.entry))) }
+        (each_item_lines predicate (typed_view body.now) (holds_on (place_view place.now) (typed_view body.now))
+        (lines_on (place_view place.now) (typed_view body.now)) none_seen 0 (items_of (list_values list.entry))) }
 {
     let mut counted = 0;
     let mut kept = Vec::new(alloc);
+    let mut seen = Seen::none();
     let len = list.len();
     for number in 0..len {
         let looked = Looked {
@@ -435,6 +437,7 @@ fn each_item<'t: 'v, 'v>(
             number,
             item: list.item(number),
             at_end: number + 1 == len,
+            seen,
         };
         match look(alloc, body, looked, place, out)? {
             Ok(holds) => match decided(predicate, holds) {
@@ -442,6 +445,7 @@ fn each_item<'t: 'v, 'v>(
                 None => {
                     counted = count_with(predicate, holds, counted);
                     keep_found(predicate, holds, looked.item, &mut kept)?;
+                    seen = seen.after(predicate, holds);
                 }
             },
             Err(failure) => return Ok(Err(failure)),
@@ -450,7 +454,7 @@ fn each_item<'t: 'v, 'v>(
     Ok(Ok(answer_of(predicate, counted, kept)))
 }
 
-/// Whether a body holds of an item. Of an item past the first few something is said where it is the last.
+/// Whether a body holds of an item. Where the item is shown, what came of it is said after the gap before it.
 #[cycle(walk)]
 fn look<'t: 'v, 'v>(
     alloc: Global,
@@ -461,14 +465,16 @@ fn look<'t: 'v, 'v>(
 ) -> Result<Result<bool, Failure>, AllocError>
     ensures { Explains (λ it. it) (place_view place.now) out.old out.new result
         (holds_on (place_view place.now) (typed_view body.now) (value_of looked.entry.item))
-        (item_lines looked.entry.predicate looked.entry.number looked.entry.at_end
+        (item_lines looked.entry.predicate (typed_view body.now) (seen_view looked.entry.seen) looked.entry.number
+        looked.entry.at_end
         (holds_on (place_view place.now) (typed_view body.now) (value_of looked.entry.item))
         (lines_on (place_view place.now) (typed_view body.now) (value_of looked.entry.item))) }
 {
-    let holds = holds_at(alloc, body, looked, place, is_silent(looked, place), out)?;
+    let holds = holds_at(alloc, body, looked, place, true, out)?;
     if is_enough(looked, place, &holds) {
         return Ok(holds);
     }
+    say_gap(alloc, body, looked.seen, place, out)?;
     holds_at(alloc, body, looked, place, false, out)
 }
 
@@ -492,7 +498,7 @@ fn holds_at<'t: 'v, 'v>(
     holds(alloc, body, &inner, out)
 }
 
-/// What is said of the evaluation of a condition on a value: the first lines of its parts, and its answer.
+/// What is said of the evaluation of a condition on a value: the lines of its parts, and its answer.
 ///
 /// # Errors
 ///

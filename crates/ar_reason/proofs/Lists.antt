@@ -1,12 +1,15 @@
 -- Lists, one element after another: as texts and as objects.
-use Rattle.std.proofs.Common.{◌≡◌, ◌<◌, ◌≤◌, ℕ, ◌+◌, List, ◌++◌, drop, flat_map, length, map, ap}
+use Rattle.std.proofs.Common.{◌≡◌, ◌<◌, ◌≤◌, ℕ, ◌+◌, List, ◌++◌, drop, flat_map, length, map, ap, sym, ◌∙◌, subst, append_assoc}
 use Rattle.std.specs.Prelude.{slice_index_or}
 use Rattle.serde_json.specs.Data.{Data}
 use Rattle.ar_facts.proofs.Lines.{no_more, none_left, one_more, read_at}
-use Rattle.ar_object.proofs.Texts.{Remains, next_value, none_remains}
+use Rattle.std.proofs.lemmas.List.{map-append}
+use Rattle.std.proofs.lemmas.List.Concat.{flat_map-append}
+use Rattle.ar_object.proofs.Texts.{Remains, next_value, none_remains, then_values}
 use Rattle.ar_object.specs.Written.{AddsValue, AddsValues, Output}
 use Rattle.ar_explain.specs.Views.{line_view}
 use Rattle.ar_explain.specs.declared.explanation.Line.{Line}
+use Rattle.ar_reason.specs.ReasonData.{part_data}
 use Rattle.ar_reason.specs.ReasonText.{item_text, part_line}
 
 -- ---- texts
@@ -32,6 +35,14 @@ next_line = next_text line_view part_line
 pub no_line_left : (lines : List Line) (index : ℕ) (written total : List ℕ) → length lines ≤ index → written ++ flat_map part_line (map line_view (drop index lines)) ≡ total → written ≡ total
 no_line_left = no_text_left line_view part_line
 
+-- lines that are in two lists
+pub two_texts : (first second lines : List Line) (old mid new : List ℕ) → first ++ second ≡ lines → mid ≡ old ++ flat_map part_line (map line_view first) → new ≡ mid ++ flat_map part_line (map line_view second)
+    → new ≡ old ++ flat_map part_line (map line_view lines)
+two_texts first second lines old mid new split one two =
+    two ∙ ap (λ text. text ++ flat_map part_line (map line_view second)) one ∙ append_assoc old (flat_map part_line (map line_view first)) (flat_map part_line (map line_view second))
+    ∙ ap (λ text. old ++ text)
+    (sym (flat_map-append part_line (map line_view first) (map line_view second)) ∙ ap (flat_map part_line) (sym (map-append line_view first second) ∙ ap (map line_view) split))
+
 -- ---- objects
 
 -- of elements that are seen by a view
@@ -42,3 +53,17 @@ next_object seen data_of xs index x all start now next inside read adds remains 
 
 pub no_object_left : {A B : Type 0} (seen : A → B) (data_of : B → Data) (xs : List A) (index : ℕ) (all : List Data) (start now : Output) → length xs ≤ index → Remains (map data_of (map seen (drop index xs))) all start now → AddsValues all start now
 no_object_left seen data_of xs index all start now past remains = none_remains data_of _ all start now (ap (map seen) (none_left xs index past)) remains
+
+abbrev parts_of : List Line → List Data
+parts_of lines = map part_data (map line_view lines)
+
+-- the first lines, and the last ones, which are in two lists
+pub all_parts : (lines first second last : List Line) (start one two end : Output) → first ++ second ≡ last → AddsValues (map part_data (map line_view lines)) start one
+    → AddsValues (map part_data (map line_view first)) one two → AddsValues (map part_data (map line_view second)) two end
+    → AddsValues (map part_data (map line_view lines ++ map line_view last)) start end
+all_parts lines first second last start one two end split adds more most =
+    let are : map part_data (map line_view lines ++ map line_view last) ≡ parts_of lines ++ (parts_of first ++ parts_of second) =
+    map-append part_data (map line_view lines) (map line_view last)
+    ∙ ap (λ parts. parts_of lines ++ parts)
+    (ap parts_of (sym split) ∙ ap (map part_data) (map-append line_view first second) ∙ map-append part_data (map line_view first) (map line_view second)) in
+    subst (λ values. AddsValues values start end) (sym are) (then_values (parts_of lines) (parts_of first ++ parts_of second) start one end adds (then_values (parts_of first) (parts_of second) one two end more most))

@@ -1,18 +1,18 @@
 -- No object of reasons is deep.
-use Rattle.std.proofs.Common.{◌≡◌, ◌≤◌, ℕ, suc, max, List, Option, Some, None, refl, arith}
+use Rattle.std.proofs.Common.{◌≡◌, ◌≤◌, ◌++◌, ℕ, suc, max, List, Option, Some, None, refl, arith}
 use Rattle.std.specs.Prelude.{option_map}
 use Rattle.std.specs.Option.{option_map_or}
 use Rattle.std.proofs.Math.Nat.{max-le}
 use Rattle.serde_json.specs.Data.{depth, null}
 use Rattle.serde_json.specs.Read.{max_depth}
-use Rattle.ar_explain.specs.Lines.{Line}
+use Rattle.ar_explain.specs.Lines.{Line, Outcome, failed, passed, unneeded, valued}
 use Rattle.ar_facts.proofs.Objects.{finding_flat, metric_flat}
 use Rattle.ar_object.proofs.Values.{above, count_flat, none_deep, one_deep, text_flat, two_deep}
 use Rattle.ar_facts.specs.Facts.{MetricFacts}
 use Rattle.ar_facts.specs.ReportData.{event_data}
 use Rattle.ar_object.specs.Object.{count_data, text_or_null}
 use Rattle.ar_reason.specs.Reason.{EvaluatedCondition, Reason, RunReasons}
-use Rattle.ar_reason.specs.ReasonData.{change_data, evaluated_data, failure_if_there, given_error, given_misfit, given_value, operands_if_there, part_data, reason_data, reasons_data, run_reasons_data, value_if_there, waiting_data}
+use Rattle.ar_reason.specs.ReasonData.{change_data, evaluated_data, failure_if_there, gap_data, given_error, given_misfit, given_value, operands_if_there, part_data, reason_data, reasons_data, run_reasons_data, value_if_there, waiting_data}
 use Rattle.ar_reason.specs.Waiting.{waits_for}
 use Rattle.ar_reason.specs.Why.{why_words}
 use Rattle.ar_reason.specs.declared.steps.Change.{Change}
@@ -34,13 +34,19 @@ seven_deep a b c d e f g levels in_a in_b in_c in_d in_e in_f in_g =
 zero_small : (levels : ℕ) → 0 ≤ levels
 zero_small levels = omega arith
 
+gap_flat : (said : Outcome) → depth (gap_data said) ≤ 2
+gap_flat (passed items held) = omega arith
+gap_flat (valued text) = omega arith
+gap_flat (failed failure on) = omega arith
+gap_flat unneeded = omega arith
+
 part_flat : (line : Line) → depth (part_data line) ≤ 3
 part_flat line =
-    six_deep _ _ 0 _ 0 _ 2 (text_small (failure_if_there line.said) 2) (above (none_deep count_data 1 (λ n. omega arith) line.items)) (zero_small 2) (text_small (operands_if_there line.said) 2) (zero_small 2) (text_small (value_if_there line.said) 2)
+    seven_deep _ _ _ 0 _ 0 _ 2 (gap_flat line.said) (text_small (failure_if_there line.said) 2) (above (none_deep count_data 1 (λ n. omega arith) line.items)) (zero_small 2) (text_small (operands_if_there line.said) 2) (zero_small 2) (text_small (value_if_there line.said) 2)
 
 evaluated_flat : (condition : EvaluatedCondition) → depth (evaluated_data condition) ≤ 5
 evaluated_flat condition =
-    seven_deep _ 0 _ 0 _ _ 0 4 (text_small (value_if_there condition.answer) 4) (zero_small 4) (text_small (failure_if_there condition.answer) 4) (zero_small 4) (text_small (operands_if_there condition.answer) 4) (above (none_deep part_data 3 part_flat condition.parts.lines)) (zero_small 4)
+    seven_deep _ 0 _ 0 _ _ 0 4 (text_small (value_if_there condition.answer) 4) (zero_small 4) (text_small (failure_if_there condition.answer) 4) (zero_small 4) (text_small (operands_if_there condition.answer) 4) (above (none_deep part_data 3 part_flat (condition.parts.lines ++ condition.parts.last))) (zero_small 4)
 
 change_flat : (change : Option Change) → depth (option_map_or change_data change null) ≤ 6
 change_flat (Some change) = rw (count_flat change.limits.count) (omega arith)

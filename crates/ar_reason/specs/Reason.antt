@@ -24,7 +24,7 @@ use Rattle.ar_bundle.specs.declared.bundle.What.{What}
 use Rattle.ar_bundle.specs.declared.bundle.What.TheVariants.{Measure, Stop}
 use Rattle.ar_bundle.specs.declared.history.Entry.{Entry}
 use Rattle.ar_explain.specs.Operands.{failed_on}
-use Rattle.ar_explain.specs.Lines.{Explanation, Outcome, earlier_lines, explained, failed, outcome_of, unneeded, valued}
+use Rattle.ar_explain.specs.Lines.{Explanation, Outcome, earlier_lines, explained, failed, outcome_of, passed, unneeded, valued}
 use Rattle.ar_misfit.specs.Misfit.{misfit}
 use Rattle.ar_misfit.specs.MisfitText.{misfit_text_of}
 use Rattle.ar_facts.specs.Facts.{EventFacts, MetricFacts, event_facts, facts_of_metrics}
@@ -107,6 +107,7 @@ abbrev pub is_failure : Outcome → Bool
 is_failure (failed failure on) = true
 is_failure (valued text) = false
 is_failure unneeded = false
+is_failure (passed items held) = false
 
 abbrev pub has_failed : EvaluatedCondition → Bool
 has_failed condition = is_failure condition.answer

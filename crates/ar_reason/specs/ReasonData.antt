@@ -1,9 +1,9 @@
 -- Reasons as JSON (RFC 8259): one object. Its members are in the byte order of their names.
-use Rattle.std.specs.Prelude.{Bool, true, false, List, codes, map, Option, Some, None, option_map}
+use Rattle.std.specs.Prelude.{Bool, true, false, List, ◌++◌, codes, map, Option, Some, None, option_map}
 use Rattle.std.specs.Option.{option_map_or}
 use Rattle.serde_json.specs.Data.{Data, boolean, member, no_members, null, object, string}
 use Rattle.ar_value.specs.Terms.{Text}
-use Rattle.ar_explain.specs.Lines.{Explanation, Line, Outcome, failed, unneeded, valued}
+use Rattle.ar_explain.specs.Lines.{Explanation, Line, Outcome, failed, passed, unneeded, valued}
 use Rattle.ar_facts.specs.Facts.{MetricFacts}
 use Rattle.ar_facts.specs.ReportData.{counts_data, event_data, limits_data, metric_data, named_list, run_with}
 use Rattle.ar_object.specs.Object.{array_of, count_data, text_or_null}
@@ -33,17 +33,25 @@ abbrev pub was_needed : Outcome → Bool
 was_needed unneeded = false
 was_needed (valued text) = true
 was_needed (failed failure on) = true
+was_needed (passed items held) = true
+
+-- how many items aren't shown, and of how many of them the part holds
+abbrev pub gap_data : Outcome → Data
+gap_data (passed items held) = object
+    (member (codes "hold") (count_data held) (member (codes "items") (count_data items) no_members))
+gap_data said = null
 
 abbrev pub part_data : Line → Data
 part_data line = object
+    (member (codes "between") (gap_data line.said)
     (member (codes "failure") (text_or_null (failure_if_there line.said))
     (member (codes "items") (array_of (map count_data line.items))
     (member (codes "needed") (boolean (was_needed line.said))
     (member (codes "on") (text_or_null (operands_if_there line.said))
     (member (codes "part") (string (shown_part line.part))
-    (member (codes "value") (text_or_null (value_if_there line.said)) no_members))))))
+    (member (codes "value") (text_or_null (value_if_there line.said)) no_members)))))))
 
--- `leftOut`: how many parts come after these
+-- `leftOut`: how many parts come after the first 500
 abbrev pub evaluation_data : (which text : Text) → Explanation → (answer : Outcome) → Data
 evaluation_data which text parts answer = object
     (member (codes "answer") (text_or_null (value_if_there answer))
@@ -51,7 +59,7 @@ evaluation_data which text parts answer = object
     (member (codes "failure") (text_or_null (failure_if_there answer))
     (member (codes "leftOut") (count_data parts.left_out)
     (member (codes "on") (text_or_null (operands_if_there answer))
-    (member (codes "parts") (array_of (map part_data parts.lines))
+    (member (codes "parts") (array_of (map part_data (parts.lines ++ parts.last)))
     (member (codes "text") (string text) no_members)))))))
 
 abbrev pub evaluated_data : EvaluatedCondition → Data

@@ -1,6 +1,6 @@
 //! Reasons as one JSON object.
 
-ghost use Rattle.std.specs.Prelude.{◌≡◌, ◌≤◌, IfOk, OnOk, Some, codes, length, map, option_map, slice_get, string_bytes};
+ghost use Rattle.std.specs.Prelude.{◌≡◌, ◌++◌, ◌≤◌, IfOk, OnOk, Some, codes, length, map, option_map, slice_get, string_bytes};
 ghost use Rattle.std.specs.List.{AllByRecursion, list_any};
 ghost use Rattle.std.specs.Option.{option_map_or};
 ghost use Rattle.serde_json.specs.Data.{null};
@@ -12,6 +12,7 @@ ghost use Rattle.ar_bundle.specs.Finished.{AreFinished};
 ghost use Rattle.ar_bundle.specs.Lawful.{IsFound, numbers_of};
 ghost use Rattle.ar_bundle.specs.Sound.{IsRun};
 ghost use Rattle.ar_judge.specs.Verdict.{sample_view};
+ghost use Rattle.ar_explain.specs.Lines.{passed};
 ghost use Rattle.ar_explain.specs.Views.{explanation_view, line_view, said_view};
 ghost use Rattle.ar_facts.specs.Facts.{event_facts, facts_of_metrics, metric_facts};
 ghost use Rattle.ar_object.specs.Line.{IsJsonLine};
@@ -20,7 +21,7 @@ ghost use Rattle.ar_object.specs.Written.{AddsMember, AddsValue, AddsValues};
 ghost use Rattle.ar_tree.specs.Views.{typed_view};
 ghost use Rattle.ar_show.specs.PartText.{shown_part};
 ghost use Rattle.ar_reason.specs.Reason.{conditions_by, conditions_of, conditions_on, evaluated_if_there, evaluated_with, has_failed, reason_of, reason_with, reasons_of, run_reasons};
-ghost use Rattle.ar_reason.specs.ReasonData.{change_data, evaluated_data, evaluation_data, failure_if_there, given_error, given_misfit, given_value, operands_if_there, part_data, reason_data, reasons_data, run_reasons_data, value_if_there, waiting_data, was_needed};
+ghost use Rattle.ar_reason.specs.ReasonData.{change_data, evaluated_data, evaluation_data, failure_if_there, gap_data, given_error, given_misfit, given_value, operands_if_there, part_data, reason_data, reasons_data, run_reasons_data, value_if_there, waiting_data, was_needed};
 ghost use Rattle.ar_reason.specs.Views.{given_view};
 ghost use Rattle.ar_reason.specs.Waiting.{waits_for};
 ghost use Rattle.ar_reason.specs.Why.{why_of, why_words};
@@ -36,7 +37,7 @@ use crate::steps::{Change, Step, is_chosen_run, steps_of};
 use crate::waiting::push_waiting;
 use crate::why::{push_why, why_of};
 use ar_bundle::{Bundle, Entry, Finished, MetricPart, RunPart, What};
-use ar_explain::{Evaluation, Line, Said, tell};
+use ar_explain::{Evaluation, Explanation, Line, Said, tell};
 use ar_facts::{phase_name, write_counts, write_event, write_limits, write_metric};
 use ar_judge::{Judge, Sample, SharedCondition, Which};
 use ar_limits::{Counts, Limits, Phase, RunState};
@@ -54,7 +55,7 @@ fn value_if_there(said: &Said) -> Option<&str>
 {
     match said {
         Said::Valued(text) => Some(text.as_str()),
-        Said::Failed(..) | Said::Unneeded => None,
+        Said::Failed(..) | Said::Unneeded | Said::Passed { .. } => None,
     }
 }
 
@@ -63,7 +64,7 @@ fn failure_if_there(said: &Said) -> Option<&'static str>
 {
     match said {
         Said::Failed(failure, _) => Some(failure_name(*failure)),
-        Said::Valued(_) | Said::Unneeded => None,
+        Said::Valued(_) | Said::Unneeded | Said::Passed { .. } => None,
     }
 }
 
@@ -73,7 +74,7 @@ fn operands_if_there(said: &Said) -> Option<&str>
 {
     match said {
         Said::Failed(_, Some(on)) => Some(on.as_str()),
-        Said::Failed(_, None) | Said::Valued(_) | Said::Unneeded => None,
+        Said::Failed(_, None) | Said::Valued(_) | Said::Unneeded | Said::Passed { .. } => None,
     }
 }
 
@@ -89,6 +90,28 @@ fn shown(alloc: Global, part: &Typed) -> Result<String, AllocError>
     let mut text = String::new(alloc);
     push_part(&mut text, part)?;
     Ok(text)
+}
+
+fn write_gap(json: &mut JsonText, items: usize, held: usize)
+    ensures { AddsValue (gap_data (passed items held)) json.old.written json.new.written }
+{
+    json.begin_object();
+    json.put_count("hold", held as u64);
+    json.put_count("items", items as u64);
+    json.end_object()
+}
+
+/// Writes how many items aren't shown, or null.
+fn put_gap(json: &mut JsonText, said: &Said)
+    ensures { AddsMember (codes "between") (gap_data (said_view said.now)) json.old.written json.new.written }
+{
+    match said {
+        Said::Passed { items, held } => {
+            json.put_key("between");
+            write_gap(json, *items, *held)
+        }
+        Said::Valued(_) | Said::Failed(..) | Said::Unneeded => json.put_null("between"),
+    }
 }
 
 /// Writes the items that a part has lines of.
@@ -107,6 +130,7 @@ fn write_part(alloc: Global, json: &mut JsonText, line: &Line<'_>) -> Result<(),
 {
     let part = shown(alloc, line.part)?;
     json.begin_object();
+    put_gap(json, &line.said);
     json.put_text_if_there("failure", failure_if_there(&line.said));
     put_items(json, &line.items);
     json.put_flag("needed", was_needed(&line.said));
@@ -117,14 +141,27 @@ fn write_part(alloc: Global, json: &mut JsonText, line: &Line<'_>) -> Result<(),
     Ok(())
 }
 
-fn put_parts(alloc: Global, json: &mut JsonText, lines: &[Line<'_>]) -> Result<(), AllocError>
-    ensures { OnOk result (AddsMember (codes "parts") (array_of (map part_data (map line_view lines.now)))
-        json.old.written json.new.written) }
+fn write_parts(alloc: Global, json: &mut JsonText, lines: &[Line<'_>]) -> Result<(), AllocError>
+    ensures { OnOk result
+        (AddsValues (map part_data (map line_view lines.now)) json.old.written json.new.written) }
 {
-    json.begin_list("parts");
     for line in lines {
         write_part(alloc, json, line)?;
     }
+    Ok(())
+}
+
+/// Writes the first parts, then the last ones.
+fn put_parts(alloc: Global, json: &mut JsonText, parts: &Explanation<'_>) -> Result<(), AllocError>
+    ensures { OnOk result (AddsMember (codes "parts") (array_of (map part_data
+        ((explanation_view parts.now).lines ++ (explanation_view parts.now).last)))
+        json.old.written json.new.written) }
+{
+    let (first, second) = parts.last.as_slices();
+    json.begin_list("parts");
+    write_parts(alloc, json, &parts.lines)?;
+    write_parts(alloc, json, first)?;
+    write_parts(alloc, json, second)?;
     json.end_list();
     Ok(())
 }
@@ -146,7 +183,7 @@ fn write_evaluation(
     json.put_text_if_there("failure", failure_if_there(&evaluation.answer));
     json.put_count("leftOut", evaluation.parts.left_out);
     json.put_text_if_there("on", operands_if_there(&evaluation.answer));
-    put_parts(alloc, json, &evaluation.parts.lines)?;
+    put_parts(alloc, json, &evaluation.parts)?;
     json.put_text("text", text);
     json.end_object();
     Ok(())

@@ -7,9 +7,10 @@ ghost use Rattle.ar_operand.specs.Failures.{failure_of};
 ghost use Rattle.ar_tree.specs.Views.{typed_view};
 ghost use Rattle.ar_explain.specs.Views.{explanation_view, line_view, said_view};
 ghost use Rattle.ar_show.specs.PartText.{shown_part};
+ghost use Rattle.ar_show.specs.Words.{plural};
 ghost use Rattle.ar_reason.specs.Reason.{conditions_on, evaluated_if_there, evaluated_with, has_failed, is_failure};
 ghost use Rattle.ar_reason.specs.Private.Trees.{condition_tree, trees_of, judge_trees_view};
-ghost use Rattle.ar_reason.specs.ReasonText.{condition_text, failure_name, item_text, left_out_line, operands_text, part_line, parts_text, said_text};
+ghost use Rattle.ar_reason.specs.ReasonText.{condition_text, between_text, failure_name, held_text, hold_word, item_text, left_out_line, operands_text, part_line, parts_text, said_part, said_text};
 
 use crate::evaluated::{JudgeTrees, NamedTree};
 use ar_explain::{Explanation, Line, Said, tell};
@@ -19,6 +20,7 @@ use ar_show::push_part;
 use ar_tree::Typed;
 use ar_value::value::Value;
 use std::alloc::{AllocError, Global};
+use std::collections::VecDeque;
 use std::fmt::Write;
 
 pub(crate) fn failure_name(failure: Failure) -> &'static str
@@ -44,6 +46,48 @@ fn push_operands(out: &mut String, on: &Option<String>) -> Result<(), AllocError
     }
 }
 
+/// What the word for one thing has at its end where there are `number` of them.
+fn plural(number: u64) -> &'static str
+    ensures { result.now ≡ plural number }
+{
+    if number == 1 { "" } else { "s" }
+}
+
+/// How many things come between two others.
+fn push_between(out: &mut String, what: &str, number: u64) -> Result<(), AllocError>
+    ensures { OnOk result (string_bytes out.new ≡ string_bytes out.old ++ between_text what.now number) }
+{
+    write!(out, "{number} {what}{} between", plural(number))
+}
+
+fn hold_word(held: usize) -> &'static str
+    ensures { result.now ≡ hold_word held }
+{
+    if held == 1 { "holds" } else { "hold" }
+}
+
+/// Of how many of some items a body holds.
+fn push_held(out: &mut String, items: usize, held: usize) -> Result<(), AllocError>
+    ensures { OnOk result (string_bytes out.new ≡ string_bytes out.old ++ held_text items held) }
+{
+    if held == 0 {
+        return out.push_str("none holds");
+    }
+    if held == items {
+        return out.push_str("each holds");
+    }
+    write!(out, "{held} {}", hold_word(held))
+}
+
+fn push_gap(out: &mut String, items: usize, held: usize) -> Result<(), AllocError>
+    ensures { OnOk result (string_bytes out.new ≡ string_bytes out.old
+        ++ (between_text (codes "item") items ++ (codes ", " ++ held_text items held))) }
+{
+    push_between(out, "item", items as u64)?;
+    out.push_str(", ")?;
+    push_held(out, items, held)
+}
+
 fn push_said(out: &mut String, said: &Said) -> Result<(), AllocError>
     ensures { OnOk result (string_bytes out.new ≡ string_bytes out.old ++ said_text (said_view said.now)) }
 {
@@ -58,6 +102,18 @@ fn push_said(out: &mut String, said: &Said) -> Result<(), AllocError>
             push_operands(out, on)
         }
         Said::Unneeded => out.push_str(": not needed"),
+        Said::Passed { items, held } => push_gap(out, *items, *held),
+    }
+}
+
+/// The part itself, but where only items of it are counted.
+fn push_said_part(out: &mut String, part: &Typed, said: &Said) -> Result<(), AllocError>
+    ensures { OnOk result
+        (string_bytes out.new ≡ string_bytes out.old ++ said_part (typed_view part.now) (said_view said.now)) }
+{
+    match said {
+        Said::Passed { .. } => Ok(()),
+        Said::Valued(_) | Said::Failed(..) | Said::Unneeded => push_part(out, part),
     }
 }
 
@@ -78,7 +134,7 @@ fn push_part_line(out: &mut String, line: &Line<'_>) -> Result<(), AllocError>
 {
     out.push_str("    ")?;
     push_items(out, &line.items)?;
-    push_part(out, line.part)?;
+    push_said_part(out, line.part, &line.said)?;
     push_said(out, &line.said)?;
     out.push_str("\n")
 }
@@ -94,13 +150,31 @@ fn push_lines(out: &mut String, lines: &[Line<'_>]) -> Result<(), AllocError>
     Ok(())
 }
 
+fn push_last(out: &mut String, lines: &VecDeque<Line<'_>>) -> Result<(), AllocError>
+    ensures { OnOk result
+        (string_bytes out.new ≡ string_bytes out.old ++ flat_map part_line (map line_view lines.now.items)) }
+{
+    let (first, second) = lines.as_slices();
+    push_lines(out, first)?;
+    push_lines(out, second)
+}
+
+fn push_lines_between(out: &mut String, number: u64) -> Result<(), AllocError>
+    ensures { OnOk result (string_bytes out.new ≡ string_bytes out.old
+        ++ (codes "    " ++ (between_text (codes "line") number ++ codes "\n"))) }
+{
+    out.push_str("    ")?;
+    push_between(out, "line", number)?;
+    out.push_str("\n")
+}
+
 fn push_left_out(out: &mut String, left_out: u64) -> Result<(), AllocError>
     ensures { OnOk result (string_bytes out.new ≡ string_bytes out.old ++ left_out_line left_out) }
 {
     if left_out == 0 {
         return Ok(());
     }
-    write!(out, "    and {left_out} more lines\n")
+    push_lines_between(out, left_out)
 }
 
 fn push_parts(out: &mut String, parts: &Explanation<'_>) -> Result<(), AllocError>
@@ -108,7 +182,8 @@ fn push_parts(out: &mut String, parts: &Explanation<'_>) -> Result<(), AllocErro
         (string_bytes out.new ≡ string_bytes out.old ++ parts_text (explanation_view parts.now)) }
 {
     push_lines(out, &parts.lines)?;
-    push_left_out(out, parts.left_out)
+    push_left_out(out, parts.left_out)?;
+    push_last(out, &parts.last)
 }
 
 /// Whether a condition has failed.

@@ -15,7 +15,7 @@ use Rattle.ar_tree.specs.declared.typed.Typed.{Typed as TypedCode}
 use Rattle.ar_machine.specs.Operand.{value_of}
 use Rattle.ar_operand.specs.Operand.{Meets, failure_of, operand_view}
 use Rattle.ar_operand.specs.declared.operand.Failure.{Failure as FailureCode}
-use Rattle.ar_explain.specs.Lines.{Explanation, Line, Outcome, each_item_lines, earlier_lines, failed, items_lines, unneeded, valued, with_own}
+use Rattle.ar_explain.specs.Lines.{Explanation, Line, Outcome, Seen, each_item_lines, earlier_lines, failed, items_lines, none_seen, passed, unneeded, valued, with_own}
 use Rattle.ar_explain.specs.Operands.{failed_on, item_failed_on, two_operands, on_value, refused_or}
 use Rattle.ar_explain.specs.Private.Failed.{MeetsOn}
 use Rattle.ar_explain.specs.Private.Keeping.{with_lines}
@@ -27,6 +27,7 @@ use Rattle.ar_explain.specs.declared.explanation.Remark.{Remark}
 use Rattle.ar_explain.specs.declared.explanation.Remark.TheVariants as remarks
 use Rattle.ar_explain.specs.declared.failed.Failed.{Failed as FailedCode}
 use Rattle.ar_explain.specs.declared.place.Place.{Place as PlaceCode}
+use Rattle.ar_explain.specs.declared.seen.Seen.{Seen as SeenCode}
 
 -- where a part is evaluated
 pub record Place : Type 0 where
@@ -101,6 +102,9 @@ items_lines_at place trees = items_lines place.result place.here trees
 
 -- ---- predicates
 
+abbrev pub seen_view : SeenCode → Seen
+seen_view seen = record { shown = seen.shown; items = seen.items; held = seen.held }
+
 -- whether a body holds of an item, and its lines there
 abbrev pub holds_on : Place → Typed → Value → Result Bool Failure
 holds_on place body value = mean place.result (Some value) body >>= boolean
@@ -117,7 +121,7 @@ over_failed_on many = refused_or (items_in many) many None
 
 abbrev pub over_lines : Predicate → Value → Place → Typed → List Line
 over_lines predicate many place body =
-    if_value (items_in many) (each_item_lines predicate (holds_on place body) (lines_on place body) 0)
+    if_value (items_in many) (each_item_lines predicate body (holds_on place body) (lines_on place body) none_seen 0)
 
 -- ---- what is said
 
@@ -125,6 +129,7 @@ abbrev pub said_by : Remark → Outcome
 said_by (remarks.Value operand) = valued (shown_value (operand_view operand.now))
 said_by (remarks.Failure failure on) = failed (failure_of failure) (option_map (λ text. text.now) on)
 said_by remarks.Unneeded = unneeded
+said_by (remarks.Passed seen) = passed seen.items seen.held
 
 -- what was met, as a meaning
 abbrev pub as_meant : {X Y : Type 0} → (X → Y) → Result X FailureCode → Result Y Failure

@@ -1,4 +1,4 @@
-use Rattle.std.proofs.Common.{arith, rules, ◌+◌, sym, subst, None, map, ◌≡◌, ◌∙◌, ap, refl, true, false, Ok, ◌++◌, ◌∷◌, [], Bool}
+use Rattle.std.proofs.Common.{arith, rules, ◌+◌, sym, subst, None, map, ◌≡◌, ◌∙◌, ap, true, false, Ok, ◌++◌, ◌∷◌, [], Bool}
 use Rattle.std.specs.Prelude.{◌==◌, if◌then◌else◌}
 use Rattle.std.proofs.lemmas.List.{map-append}
 use Rattle.ar_value.specs.Answer.{◌>>=◌}
@@ -11,13 +11,11 @@ use Rattle.ar_tree.specs.Typed as typed
 use Rattle.ar_tree.specs.Views.{typed_view}
 use Rattle.ar_tree.specs.declared.typed.Typed.{the_lemmas}
 use Rattle.ar_operand.specs.Operand.{failure_of, operand_view}
-use Rattle.ar_explain.specs.Lines.{each_item_lines, lines_on_item, unneeded_line}
+use Rattle.ar_explain.specs.Lines.{Seen, each_item_lines, none_seen, unneeded_line}
 use Rattle.ar_explain.specs.Private.Failed.{on_of}
-use Rattle.ar_explain.specs.Private.Keeping.{with_lines}
-use Rattle.ar_explain.specs.Private.Places.{ExplainsOn, earlier_at, failed_at, holds_meant, holds_on, items_failed_at, items_lines_at, items_meant, lines_at, lines_on, meant, operated, operated_on, over_failed_on, place_view, scalar_failed_at, scalar_meant, typeds_view, with_lines_at}
-use Rattle.ar_explain.specs.Views.{explanation_view}
+use Rattle.ar_explain.specs.Private.Places.{ExplainsOn, earlier_at, failed_at, holds_meant, holds_on, items_failed_at, items_lines_at, items_meant, lines_at, lines_on, meant, operated, operated_on, over_failed_on, place_view, scalar_failed_at, scalar_meant, seen_view, typeds_view, with_lines_at}
 use Rattle.ar_explain.proofs.Walks.{after_left, after_list, after_taken, failure_came, held_on, look_once, look_twice, more, otherwise, own_after, value_came, value_is}
-use Rattle.ar_explain.proofs.Loops.{all_items_made, all_lines_said, failed_after, failed_here, item_lines_after, item_lines_failed, items_after, items_failed, lines_after, rest_after, rest_of_all}
+use Rattle.ar_explain.proofs.Loops.{all_items_made, all_lines_said, failed_after, failed_here, item_lines_after, item_lines_failed, items_after, items_failed, lines_after, none_within, rest_after, rest_of_all}
 use Rattle.ar_explain.proofs.walk.+walk.Goals as goal
 
 pub binary-returns-in-Ok : goal.binary-returns-in-Ok
@@ -77,7 +75,7 @@ over-returns-in-Ok t c =
     let many = c.in_ok-many.ensures in
     let body = typed_view c.args.body.now in
     after_list operand_view place c.args.out.now c.walk.new.out c.over_operand.new.out c.over_operand.result (meant place (typed_view c.args.list.now)) (operand_view c.in-Ok.many)
-    items_in (over c.args.predicate (holds_on place body)) over_failed_on (lines_at place (typed_view c.args.list.now)) (each_item_lines c.args.predicate (holds_on place body) (lines_on place body) 0)
+    items_in (over c.args.predicate (holds_on place body)) over_failed_on (lines_at place (typed_view c.args.list.now)) (each_item_lines c.args.predicate body (holds_on place body) (lines_on place body) none_seen 0)
     (value_is operand_view c.in_ok-many.field-0 c.in-Ok.many (meant place (typed_view c.args.list.now)) c.in-Ok.is many.0) many.1 c.over_operand.ensures
 
 pub holds_at-returns : goal.holds_at-returns
@@ -109,9 +107,8 @@ look-returns-then-is_enough t c =
     let value = value_of c.args.looked.item in
     let met = c.in_ok-holds.ensures in (
       met.0,
-      look_once place c.args.out.now c.holds_at.new.out c.in_ok-holds.holds (holds_on place body value) c.args.looked.predicate c.args.looked.number c.args.looked.at_end
-          (lines_on place body value) met.0 (search rules)
-          (met.1 ∙ ap (λ silent. with_lines silent place.items (explanation_view c.args.out.now) (lines_on_item c.args.looked.number (lines_on place body value))) c.is_silent.ensures),
+      look_once place c.args.out.now c.holds_at.new.out c.in_ok-holds.holds (holds_on place body value) c.args.looked.predicate body (seen_view c.args.looked.seen) c.args.looked.number
+          c.args.looked.at_end (lines_on place body value) met.0 (search rules) met.1,
     )
 
 pub look-returns : goal.look-returns
@@ -120,9 +117,8 @@ look-returns t c =
     let body = typed_view c.args.body.now in
     let value = value_of c.args.looked.item in
     let met = c.in_ok-holds.ensures in
-    look_twice place c.args.out.now c.holds_at.new.out c.holds_at-2.new.out c.in_ok-holds.holds c.holds_at-2.result (holds_on place body value) c.args.looked.predicate c.args.looked.number c.args.looked.at_end
-    (lines_on place body value) met.0 (search rules)
-    (met.1 ∙ ap (λ silent. with_lines silent place.items (explanation_view c.args.out.now) (lines_on_item c.args.looked.number (lines_on place body value))) c.is_silent.ensures) c.holds_at-2.ensures
+    look_twice place c.args.out.now c.holds_at.new.out c.say_gap.new.out c.holds_at-2.new.out c.in_ok-holds.holds c.holds_at-2.result (holds_on place body value) c.args.looked.predicate body
+    (seen_view c.args.looked.seen) c.args.looked.number c.args.looked.at_end (lines_on place body value) met.0 (search rules) met.1 c.in_ok-say_gap.ensures c.holds_at-2.ensures
 
 pub parts-returns-in-Field : goal.parts-returns-in-Field
 parts-returns-in-Field t c =
@@ -177,8 +173,14 @@ pub each_item-loop-number-init : goal.each_item-loop-number-init
 each_item-loop-number-init t c =
     let place = place_view c.args.place.now in
     let body = typed_view c.args.body.now in
-    let all = with_lines_at place c.args.out.now (each_item_lines c.args.predicate (holds_on place body) (lines_on place body) 0 (items_of (list_values c.args.list))) in
-    (rw c.new-kept.ensures.items (rest_of_all (holds_on place body) c.args.predicate (items_of (list_values c.args.list))), refl {a = all}, omega arith)
+    let all = with_lines_at place c.args.out.now (each_item_lines c.args.predicate body (holds_on place body) (lines_on place body) none_seen 0 (items_of (list_values c.args.list))) in
+    let none = c.none-seen.ensures in (
+      rw c.new-kept.ensures.items (rest_of_all (holds_on place body) c.args.predicate (items_of (list_values c.args.list))),
+      ap (λ seen. with_lines_at place c.args.out.now (each_item_lines c.args.predicate body (holds_on place body) (lines_on place body) seen 0 (items_of (list_values c.args.list)))) none,
+      omega arith,
+      none_within _ 0 (ap (λ (seen : Seen). seen.items) none),
+      none_within _ 0 (ap (λ (seen : Seen). seen.held) none),
+    )
 
 pub each_item-loop-number-preserved : goal.each_item-loop-number-preserved
 each_item-loop-number-preserved t c =
@@ -189,12 +191,16 @@ each_item-loop-number-preserved t c =
     let value = value_of c.item.result in
     let has = value_is (λ (it : Bool). it) c.in_ok-holds.field-0 c.in-Ok.holds (holds_on place body value) c.in-Ok.is met.0 in
     let on : None ≡ decided c.args.predicate c.in-Ok.holds = search rules in
-    let kept = c.in_ok-keep_found-in-None.ensures in (
+    let kept = c.in_ok-keep_found-in-None.ensures in
+    let after = c.after-seen.ensures in (
       rest_after c.args.predicate (holds_on place body) values c.loop-number.number value c.item.ensures c.loop-number.counted c.count_with-counted.result
           (map value_of c.loop-number.kept.items) (map value_of c.keep_found.new.kept.items) c.in-Ok.holds (over c.args.predicate (holds_on place body) (items_of values)) has on
           c.count_with-counted.ensures.exact kept c.loop-number.invariant.0,
-      lines_after place c.args.predicate (holds_on place body) (lines_on place body) values c.loop-number.number value c.item.ensures (omega arith) (c.loop-number.number + 1 == c.len-len.result) (ap (λ n. c.loop-number.number + 1 == n) c.len-len.ensures.all)
-          c.loop-number.out c.look.new.out
-          (with_lines_at place c.args.out.now (each_item_lines c.args.predicate (holds_on place body) (lines_on place body) 0 (items_of values))) c.loop-number.invariant.1 met.1 c.in-Ok.holds has on,
+      lines_after place c.args.predicate body (holds_on place body) (lines_on place body) (seen_view c.loop-number.seen) values c.loop-number.number value c.item.ensures (omega arith)
+          (c.loop-number.number + 1 == c.len-len.result) (ap (λ n. c.loop-number.number + 1 == n) c.len-len.ensures.all) c.loop-number.out c.look.new.out
+          (with_lines_at place c.args.out.now (each_item_lines c.args.predicate body (holds_on place body) (lines_on place body) none_seen 0 (items_of values))) c.loop-number.invariant.1 met.1
+          c.in-Ok.holds (seen_view c.after-seen.result) has on after.exact,
       omega (arith, c.count_with-counted.ensures.one_more),
+      omega (arith, after.items),
+      omega (arith, after.held),
     )

@@ -4,9 +4,9 @@ use Rattle.ar_machine.specs.Operand.{list_values, value_of}
 use Rattle.ar_tree.specs.Meaning.{over}
 use Rattle.ar_tree.specs.Views.{typed_view}
 use Rattle.ar_tree.specs.declared.typed.Typed.{size-Typed}
-use Rattle.ar_explain.specs.Lines.{each_item_lines}
+use Rattle.ar_explain.specs.Lines.{each_item_lines, none_seen}
 use Rattle.ar_explain.specs.Private.Loops.{after_made, over_rest}
-use Rattle.ar_explain.specs.Private.Places.{holds_on, items_failed_at, items_lines_at, items_meant, lines_on, place_view, typeds_view, with_lines_at}
+use Rattle.ar_explain.specs.Private.Places.{holds_on, items_failed_at, items_lines_at, items_meant, lines_on, place_view, seen_view, typeds_view, with_lines_at}
 use Rattle.ar_explain.proofs.walk.+walk.Given as goal
 
 -- what is left leads to the whole
@@ -25,9 +25,11 @@ invariant-each_item-loop-number l =
     let all = items_of (list_values l.list) in
     let rest = items_of (drop l.number (list_values l.list)) in
     (over_rest l.predicate holds l.counted (map value_of l.kept.items) rest ≡ over l.predicate holds all)
-    × (with_lines_at (place_view l.place) l.out (each_item_lines l.predicate holds said l.number rest)
-    ≡ with_lines_at (place_view l.place) l.fn.out (each_item_lines l.predicate holds said 0 all))
+    × (with_lines_at (place_view l.place) l.out (each_item_lines l.predicate (typed_view l.body) holds said (seen_view l.seen) l.number rest)
+    ≡ with_lines_at (place_view l.place) l.fn.out (each_item_lines l.predicate (typed_view l.body) holds said none_seen 0 all))
     × (l.counted ≤ l.number)
+    × (l.seen.items ≤ l.number)
+    × (l.seen.held ≤ l.number)
 
 -- eight times the depth that is left, and a rank
 abbrev pub decreases-parts : goal.decreases-parts

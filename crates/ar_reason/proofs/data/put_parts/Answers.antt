@@ -1,17 +1,9 @@
-use Rattle.std.proofs.Common.{arith, rules}
-use Rattle.ar_explain.specs.Views.{line_view}
-use Rattle.ar_object.proofs.Texts.{all_remain, list_member}
-use Rattle.ar_reason.proofs.Lists.{next_object, no_object_left}
-use Rattle.ar_reason.specs.ReasonData.{part_data}
+use Rattle.ar_object.proofs.Texts.{list_member}
+use Rattle.ar_reason.proofs.Lists.{all_parts}
 use Rattle.ar_reason.proofs.data.put_parts.Goals as goal
-
-pub loop-line-init : goal.loop-line-init
-loop-line-init c = all_remain _ _
-
-pub loop-line-preserved : goal.loop-line-preserved
-loop-line-preserved c = search (rules, next_object line_view part_data)
 
 pub returns : goal.returns
 returns c =
-    let l = c.loop-line in
-    list_member c.begin_list.ensures (no_object_left line_view part_data c.args.lines.now l.line-index _ _ _ (omega arith) l.invariant) c.end_list.ensures
+    let written =
+    list_member c.begin_list.ensures (all_parts _ _ _ _ _ _ _ _ c.as_slices.ensures.items c.in_ok-write_parts.ensures c.in_ok-write_parts-2.ensures c.in_ok-write_parts-3.ensures) c.end_list.ensures in
+    rw c.deref.ensures.value at written
