@@ -69,16 +69,24 @@ def lines_of_event(one, head_of=head):
     lines = [f"  {name}: {one[name]}" for name in ("value", "error", "misfit") if one[name] is not None]
     for condition in one["conditions"]:
         lines += [head_of(condition), *part_lines(condition), "    answer" + outcome(condition, "answer")]
+    lines += ["  no condition: each value is Successful"] if one["noCondition"] else []
     lines += [f"  counts: {counts_text(one['counts'])}"] if one["counts"] is not None else []
     return lines + ([f"  {one['reason']}"] if one["reason"] is not None else [])
+
+
+def lines_of_metric(one):
+    """The line of a metric, and what it waits for or that the close of its run settled it."""
+    lines = [metric_line(one["metric"]).rstrip("\n")]
+    lines += [] if one["waitsFor"] is None else [f"  {one['metric']['phase']}: {one['waitsFor']}"]
+    return lines + ([] if one["settled"] is None else [f"  {one['settled']}"])
 
 
 def lines_of_run(run, head_of=head, noted=lambda event: []):
     """All lines of a run; `noted`: what others say of an event."""
     lines = [f"run {run['name']} {run['phase']}"]
+    lines += [] if run["waitsFor"] is None else [f"  waits for: {run['waitsFor']}"]
     for one in run["events"]:
         lines += [event_line(one["event"]).rstrip("\n"), *noted(one["event"]), *lines_of_event(one, head_of)]
     for one in run["metrics"]:
-        lines.append(metric_line(one["metric"]).rstrip("\n"))
-        lines += [] if one["waitsFor"] is None else [f"  {one['metric']['phase']}: {one['waitsFor']}"]
+        lines += lines_of_metric(one)
     return lines

@@ -4,8 +4,8 @@ from itertools import islice
 from typing import NamedTuple
 
 from documents import parsed
-from reasons import lines_of_event
-from reports import event_line, metric_line
+from reasons import lines_of_event, lines_of_metric
+from reports import event_line
 from suites.comparing import differences
 from suites.judging import answered, document_of
 
@@ -35,13 +35,6 @@ def explained(engine, document, place):
     return parsed(ended.stdout, "explain")["runs"][0]
 
 
-def lines_of_metrics(metrics):
-    for one in metrics:
-        yield metric_line(one["metric"]).rstrip("\n")
-        if one["waitsFor"] is not None:
-            yield f"  {one['metric']['phase']}: {one['waitsFor']}"
-
-
 def reasons(engine, subject, case, found):
     """The lines that say why a run is as it is: the events that led to it, and its metrics."""
     places = sorted({place for one in found for place in one.events})
@@ -52,7 +45,7 @@ def reasons(engine, subject, case, found):
         for one in run["events"]:
             lines += [event_line(one["event"]).rstrip("\n"), *lines_of_event(one)]
     lines += ["other events are left out"] if places[MOST_EVENTS:] else []
-    return lines + list(lines_of_metrics(run["metrics"]))
+    return lines + [line for one in run["metrics"] for line in lines_of_metric(one)]
 
 
 def result_of(engine, subject, suite, case, outcome):

@@ -7,12 +7,12 @@ use Rattle.ar_bundle.proofs.Bundles.{of_each}
 use Rattle.ar_bundle.specs.Bundle.{Bundle}
 use Rattle.ar_bundle.specs.Lawful.{IsFound}
 use Rattle.ar_bundle.specs.declared.bundle.EventPart.{EventPart}
-use Rattle.ar_facts.proofs.Lines.{found_inside, two}
+use Rattle.ar_facts.proofs.Lines.{found_inside, three, two}
 use Rattle.ar_facts.specs.Facts.{event_facts}
 use Rattle.ar_reason.proofs.Lists.{next_text, no_text_left}
 use Rattle.ar_reason.specs.Private.Found.{AreFoundSteps}
-use Rattle.ar_reason.specs.Reason.{conditions_of, given_of, reason_if_there, reason_of, reason_with}
-use Rattle.ar_reason.specs.ReasonText.{change_line, condition_text, given_line, reason_text, why_line}
+use Rattle.ar_reason.specs.Reason.{conditions_of, given_of, lacks_conditions, reason_if_there, reason_of, reason_with}
+use Rattle.ar_reason.specs.ReasonText.{change_line, condition_text, given_line, no_condition_line, reason_text, why_line}
 use Rattle.ar_reason.specs.Why.{why_of}
 use Rattle.ar_facts.specs.Report.{event_line}
 use Rattle.ar_reason.specs.declared.steps.Step.{Step}
@@ -26,21 +26,21 @@ is_found_read bundle run steps index default all inside = of_each (λ (step : St
 
 -- what led to an event that was read
 pub reason_is : (document : Data) (bundle : Bundle) (run : ℕ) (step : Step) (part : EventPart) → IsFound bundle run step.entry → part ≡ slice_index_or bundle.entries step.entry.number part
-    → reason_of document bundle step ≡ reason_with (event_facts bundle step.entry.number step.entry.effect) (given_of document bundle step.entry.number part.what) (conditions_of bundle run part.what) step
+    → reason_of document bundle step ≡ reason_with (event_facts bundle step.entry.number step.entry.effect) (given_of document bundle step.entry.number part.what) (conditions_of bundle run part.what) (lacks_conditions bundle run part.what) step
 reason_is document bundle run step part is read =
     let there = slice_get_read bundle.entries (length bundle.entries) step.entry.number part refl (found_inside bundle step.entry.number step.entry.finding is.finding) read in
     let own : Some part.run ≡ Some run = sym (ap (option_map (λ (entry : EventPart). entry.run)) there) ∙ is.own in
     let same : part.run ≡ run = cc in
     ap (reason_if_there document bundle step) there
-    ∙ ap (λ (run : ℕ). reason_with (event_facts bundle step.entry.number step.entry.effect) (given_of document bundle step.entry.number part.what) (conditions_of bundle run part.what) step) same
+    ∙ ap (λ (run : ℕ). reason_with (event_facts bundle step.entry.number step.entry.effect) (given_of document bundle step.entry.number part.what) (conditions_of bundle run part.what) (lacks_conditions bundle run part.what) step) same
 
 -- and its lines
-pub reason_written : (document : Data) (bundle : Bundle) (run : ℕ) (step : Step) (part : EventPart) (before lined given judged all : List ℕ) → IsFound bundle run step.entry → part ≡ slice_index_or bundle.entries step.entry.number part
+pub reason_written : (document : Data) (bundle : Bundle) (run : ℕ) (step : Step) (part : EventPart) (before lined given judged noted all : List ℕ) → IsFound bundle run step.entry → part ≡ slice_index_or bundle.entries step.entry.number part
     → lined ≡ before ++ event_line (event_facts bundle step.entry.number step.entry.effect) → given ≡ lined ++ given_line (given_of document bundle step.entry.number part.what) → judged ≡ given ++ flat_map condition_text (conditions_of bundle run part.what)
-    → all ≡ judged ++ (change_line step.change ++ why_line (why_of step)) → all ≡ before ++ reason_text (reason_of document bundle step)
-reason_written document bundle run step part before lined given judged all is read line its_given conditions outcome =
-    two before given all (event_line (event_facts bundle step.entry.number step.entry.effect) ++ given_line (given_of document bundle step.entry.number part.what)) (flat_map condition_text (conditions_of bundle run part.what) ++ (change_line step.change ++ why_line (why_of step)))
-    (two before lined given _ _ line its_given) (two given judged all _ _ conditions outcome)
+    → noted ≡ judged ++ no_condition_line (lacks_conditions bundle run part.what) → all ≡ noted ++ (change_line step.change ++ why_line (why_of step)) → all ≡ before ++ reason_text (reason_of document bundle step)
+reason_written document bundle run step part before lined given judged noted all is read line its_given conditions none outcome =
+    two before given all (event_line (event_facts bundle step.entry.number step.entry.effect) ++ given_line (given_of document bundle step.entry.number part.what)) (flat_map condition_text (conditions_of bundle run part.what) ++ (no_condition_line (lacks_conditions bundle run part.what) ++ (change_line step.change ++ why_line (why_of step))))
+    (two before lined given _ _ line its_given) (three given judged noted all _ _ _ conditions none outcome)
     ∙ ap (λ reason. before ++ reason_text reason) (sym (reason_is document bundle run step part is read))
 
 pub next_step : (document : Data) (bundle : Bundle) (steps : List Step) (index : ℕ) (step : Step) (written total : List ℕ) → index < length steps → step ≡ slice_index_or steps index step → written ++ flat_map reason_text (map (reason_of document bundle) (drop index steps)) ≡ total

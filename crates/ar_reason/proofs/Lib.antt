@@ -1,3 +1,4 @@
+pub mod Completers
 pub mod Events
 pub mod Histories
 pub mod Joined

@@ -1,5 +1,6 @@
 pub mod Counts
 pub mod Waiting
+pub mod Settled
 pub mod Steps
 pub mod Why
 pub mod Reason

@@ -1,7 +1,8 @@
 -- What led to the verdict and the effect of each event of runs that is asked for.
 use Rattle.ar_judge.specs.Condition.{Condition}
-use Rattle.std.specs.Prelude.{ℕ, suc, Bool, true, false, if◌then◌else◌, List, [], ◌∷◌, ◌++◌, codes, map, slice_get, Option, Some, None, option_and_then, Result, Ok, Err}
+use Rattle.std.specs.Prelude.{ℕ, suc, ◌&&◌, Bool, true, false, if◌then◌else◌, List, [], ◌∷◌, ◌++◌, codes, is_none, map, slice_get, Option, Some, None, option_and_then, Result, Ok, Err}
 use Rattle.std.specs.List.{list_any}
+use Rattle.std.specs.Option.{option_map_or}
 use Rattle.serde_json.specs.Data.{Data, string}
 use Rattle.serde_json.specs.Find.{at, get}
 use Rattle.ar_value.specs.Terms.{Text}
@@ -29,7 +30,7 @@ use Rattle.ar_misfit.specs.Misfit.{misfit}
 use Rattle.ar_misfit.specs.MisfitText.{misfit_text_of}
 use Rattle.ar_facts.specs.Facts.{EventFacts, MetricFacts, event_facts, facts_of_metrics}
 use Rattle.ar_show.specs.Values.{shown_text, shown_value}
-use Rattle.ar_reason.specs.Steps.{chosen_steps, is_chosen_run}
+use Rattle.ar_reason.specs.Steps.{chosen_steps, closer_of, is_chosen_run}
 use Rattle.ar_reason.specs.Why.{why_of}
 use Rattle.ar_reason.specs.declared.chosen.Chosen.{Chosen}
 use Rattle.ar_reason.specs.declared.steps.Change.{Change}
@@ -128,20 +129,37 @@ abbrev pub conditions_of : Bundle → (run : ℕ) → What → List EvaluatedCon
 conditions_of bundle run (Measure metric sample) = conditions_by (judge_at bundle run metric) (sample_view sample)
 conditions_of bundle run Stop = []
 
+-- a metric without conditions is Successful by each value
+abbrev pub has_no_condition : Judge → Bool
+has_no_condition judge = is_none judge.success && is_none judge.failure
+
+abbrev pub is_measured : Sample → Bool
+is_measured (measured found) = true
+is_measured (unfit fault) = false
+is_measured provider = false
+
+-- whether a value was measured, and there is no condition to evaluate on it
+abbrev pub lacks_conditions : Bundle → (run : ℕ) → What → Bool
+lacks_conditions bundle run (Measure metric sample) =
+    is_measured (sample_view sample) && option_map_or has_no_condition (judge_at bundle run metric) false
+lacks_conditions bundle run Stop = false
+
 -- ---- an event
 
 pub record Reason : Type 0 where
   pub event : EventFacts
   pub given : Given
   pub conditions : List EvaluatedCondition
+  pub no_condition : Bool
   pub change : Option Change
   pub why : Option Why
 
-abbrev pub reason_with : EventFacts → Given → List EvaluatedCondition → Step → Reason
-reason_with event given conditions step = record {
+abbrev pub reason_with : EventFacts → Given → List EvaluatedCondition → (no_condition : Bool) → Step → Reason
+reason_with event given conditions no_condition step = record {
   event = event;
   given = given;
   conditions = conditions;
+  no_condition = no_condition;
   change = step.change;
   why = why_of step;
 }
@@ -150,9 +168,10 @@ reason_with event given conditions step = record {
 abbrev pub reason_if_there : (document : Data) → Bundle → Step → Option EventPart → Reason
 reason_if_there document bundle step (Some part) =
     reason_with (event_facts bundle step.entry.number step.entry.effect)
-    (given_of document bundle step.entry.number part.what) (conditions_of bundle part.run part.what) step
+    (given_of document bundle step.entry.number part.what) (conditions_of bundle part.run part.what)
+    (lacks_conditions bundle part.run part.what) step
 reason_if_there document bundle step None =
-    reason_with (event_facts bundle step.entry.number step.entry.effect) gave_nothing [] step
+    reason_with (event_facts bundle step.entry.number step.entry.effect) gave_nothing [] false step
 
 abbrev pub reason_of : (document : Data) → Bundle → Step → Reason
 reason_of document bundle step = reason_if_there document bundle step (slice_get bundle.entries step.entry.number)
@@ -162,6 +181,8 @@ reason_of document bundle step = reason_if_there document bundle step (slice_get
 pub record RunReasons : Type 0 where
   pub name : Text
   pub phase : Phase
+  -- the event that closed it
+  pub closer : Option EventNumber
   pub reasons : List Reason
   pub metrics : List MetricFacts
 
@@ -169,6 +190,7 @@ abbrev pub run_reasons : (document : Data) → Bundle → Chosen → RunPart →
 run_reasons document bundle chosen run history = record {
   name = run.name;
   phase = run_phase run.limits (events_of bundle (numbers_of history));
+  closer = closer_of history;
   reasons = map (reason_of document bundle) (chosen_steps bundle chosen run.limits history);
   metrics = facts_of_metrics bundle.metrics run.limits
       (metric_phases run.limits (events_of bundle (numbers_of history)))
@@ -179,7 +201,7 @@ run_reasons document bundle chosen run history = record {
 abbrev pub reasons_from : (document : Data) → Bundle → Chosen → (from : ℕ) → List RunPart → List (List Entry)
     → List RunReasons
 reasons_from document bundle chosen from (run ∷ runs) (history ∷ histories) =
-    (if is_chosen_run bundle chosen from then run_reasons document bundle chosen run history ∷ [] else [])
+    (if is_chosen_run bundle chosen from history then run_reasons document bundle chosen run history ∷ [] else [])
     ++ reasons_from document bundle chosen (suc from) runs histories
 reasons_from document bundle chosen from runs histories = []
 

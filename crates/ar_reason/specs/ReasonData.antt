@@ -3,14 +3,18 @@ use Rattle.std.specs.Prelude.{Bool, true, false, List, ◌++◌, codes, map, Opt
 use Rattle.std.specs.Option.{option_map_or}
 use Rattle.serde_json.specs.Data.{Data, boolean, member, no_members, null, object, string}
 use Rattle.ar_value.specs.Terms.{Text}
+use Rattle.ar_bundle.specs.Event.{EventNumber}
+use Rattle.ar_limits.specs.declared.phase.Phase.{Phase}
 use Rattle.ar_explain.specs.Lines.{Explanation, Line, Outcome, failed, passed, unneeded, valued}
 use Rattle.ar_facts.specs.Facts.{MetricFacts}
-use Rattle.ar_facts.specs.ReportData.{counts_data, event_data, limits_data, metric_data, named_list, run_with}
+use Rattle.ar_facts.specs.Names.{phase_name}
+use Rattle.ar_facts.specs.ReportData.{counts_data, event_data, limits_data, metric_data, named_list}
 use Rattle.ar_object.specs.Object.{array_of, count_data, text_or_null}
 use Rattle.ar_show.specs.PartText.{shown_part}
 use Rattle.ar_reason.specs.Reason.{EvaluatedCondition, Given, Reason, RunReasons, gave_error, gave_misfit, gave_value}
 use Rattle.ar_reason.specs.ReasonText.{failure_name}
-use Rattle.ar_reason.specs.Waiting.{waits_for}
+use Rattle.ar_reason.specs.Settled.{settled_by}
+use Rattle.ar_reason.specs.Waiting.{run_waits_for, waits_for}
 use Rattle.ar_reason.specs.Why.{why_words}
 use Rattle.ar_reason.specs.declared.steps.Change.{Change}
 
@@ -85,13 +89,15 @@ change_data change = object
     (member (codes "before") (counts_data change.before.counts)
     (member (codes "limits") (limits_data change.limits) no_members)))
 
-abbrev pub reason_members : (conditions : List Data) → (counts error event misfit reason value : Data) → Data
-reason_members conditions counts error event misfit reason value = object
+abbrev pub reason_members : (conditions : List Data)
+    → (counts error event misfit no_condition reason value : Data) → Data
+reason_members conditions counts error event misfit no_condition reason value = object
     (member (codes "conditions") (array_of conditions)
     (member (codes "counts") counts
     (member (codes "error") error
     (member (codes "event") event
     (member (codes "misfit") misfit
+    (member (codes "noCondition") no_condition
     (member (codes "reason") reason
     (member (codes "value") value no_members)))))))
 
@@ -99,18 +105,30 @@ abbrev pub reason_data : Reason → Data
 reason_data reason =
     reason_members (map evaluated_data reason.conditions) (option_map_or change_data reason.change null)
     (text_or_null (given_error reason.given)) (event_data reason.event) (text_or_null (given_misfit reason.given))
+    (boolean reason.no_condition)
     (text_or_null (option_map why_words reason.why)) (text_or_null (given_value reason.given))
 
 -- ---- a run
 
-abbrev pub waiting_data : MetricFacts → Data
-waiting_data metric = object
+-- `closer`: the event that closed the run, if one did
+abbrev pub waiting_data : (closer : Option EventNumber) → MetricFacts → Data
+waiting_data closer metric = object
     (member (codes "metric") (metric_data metric)
-    (member (codes "waitsFor") (text_or_null (waits_for metric.phase metric.limits metric.counts)) no_members))
+    (member (codes "settled") (text_or_null (settled_by closer metric.limits metric.counts))
+    (member (codes "waitsFor") (text_or_null (waits_for metric.phase metric.limits metric.counts)) no_members)))
+
+abbrev pub run_members : (name : Text) → Phase → (waits : Option Text) → (metrics events : List Data) → Data
+run_members name phase waits metrics events = object
+    (member (codes "events") (array_of events)
+    (member (codes "metrics") (array_of metrics)
+    (member (codes "name") (string name)
+    (member (codes "phase") (string (phase_name phase))
+    (member (codes "waitsFor") (text_or_null waits) no_members)))))
 
 abbrev pub run_reasons_data : RunReasons → Data
 run_reasons_data run =
-    run_with run.name run.phase (map waiting_data run.metrics) (map reason_data run.reasons)
+    run_members run.name run.phase (run_waits_for run.phase run.metrics)
+    (map (waiting_data run.closer) run.metrics) (map reason_data run.reasons)
 
 abbrev pub reasons_data : List RunReasons → Data
 reasons_data runs = named_list (codes "runs") (map run_reasons_data runs)

@@ -1,9 +1,10 @@
 -- The text of reasons: the line of each run, the lines of its events, and those of its metrics.
-use Rattle.std.specs.Prelude.{ℕ, ◌==◌, ◌≡◌, refl, if◌then◌else◌, List, [], ◌∷◌, ◌++◌, codes, decimal, flat_map, Option, Some, None}
+use Rattle.std.specs.Prelude.{ℕ, ◌==◌, ◌≡◌, refl, Bool, if◌then◌else◌, List, [], ◌∷◌, ◌++◌, codes, decimal, flat_map, Option, Some, None}
 use Rattle.std.specs.Fmt.{digits}
 use Rattle.ar_value.specs.Fault.{fault_name}
 use Rattle.ar_value.specs.Operators.{Failure, faulted, ill_kinded}
 use Rattle.ar_value.specs.Terms.{Text}
+use Rattle.ar_bundle.specs.Event.{EventNumber}
 use Rattle.ar_limits.specs.declared.phase.Phase.{Phase}
 use Rattle.ar_tree.specs.Typed.{Typed}
 use Rattle.ar_tree.specs.Typed as typed
@@ -15,7 +16,8 @@ use Rattle.ar_show.specs.PartText.{shown_part}
 use Rattle.ar_show.specs.Words.{units}
 use Rattle.ar_reason.specs.Counts.{changed_counts}
 use Rattle.ar_reason.specs.Reason.{EvaluatedCondition, Given, Reason, RunReasons, gave_error, gave_misfit, gave_nothing, gave_value}
-use Rattle.ar_reason.specs.Waiting.{waits_for}
+use Rattle.ar_reason.specs.Settled.{settled_by}
+use Rattle.ar_reason.specs.Waiting.{run_waits_for, waits_for}
 use Rattle.ar_reason.specs.Why.{why_words}
 use Rattle.ar_reason.specs.declared.steps.Change.{Change}
 use Rattle.ar_reason.specs.declared.why.Why.{Why}
@@ -88,6 +90,11 @@ given_line (gave_value text) = codes "  value: " ++ (text ++ codes "\n")
 given_line (gave_error text) = codes "  error: " ++ (text ++ codes "\n")
 given_line (gave_misfit text) = codes "  misfit: " ++ (text ++ codes "\n")
 
+-- in the place of conditions
+abbrev pub no_condition_line : (no_condition : Bool) → Text
+no_condition_line no_condition =
+    if no_condition then codes "  no condition: each value is Successful\n" else []
+
 -- a stop changes no counts
 abbrev pub change_line : Option Change → Text
 change_line None = []
@@ -104,7 +111,7 @@ outcome_lines reason = change_line reason.change ++ why_line reason.why
 abbrev pub reason_text : Reason → Text
 reason_text reason =
     (event_line reason.event ++ given_line reason.given)
-    ++ (flat_map condition_text reason.conditions ++ outcome_lines reason)
+    ++ (flat_map condition_text reason.conditions ++ (no_condition_line reason.no_condition ++ outcome_lines reason))
 
 -- ---- the lines of a run
 
@@ -112,13 +119,21 @@ abbrev pub waits_line : Phase → (waits : Option Text) → Text
 waits_line phase None = []
 waits_line phase (Some text) = codes "  " ++ (phase_name phase ++ (codes ": " ++ (text ++ codes "\n")))
 
-abbrev pub metric_lines : MetricFacts → Text
-metric_lines metric =
-    metric_line metric ++ waits_line metric.phase (waits_for metric.phase metric.limits metric.counts)
+-- a line that begins so, where there are words for it
+abbrev pub line_if_there : (before : Text) → (words : Option Text) → Text
+line_if_there before None = []
+line_if_there before (Some words) = before ++ (words ++ codes "\n")
+
+-- `closer`: the event that closed the run, if one did
+abbrev pub metric_lines : (closer : Option EventNumber) → MetricFacts → Text
+metric_lines closer metric =
+    metric_line metric ++ (waits_line metric.phase (waits_for metric.phase metric.limits metric.counts)
+    ++ line_if_there (codes "  ") (settled_by closer metric.limits metric.counts))
 
 abbrev pub run_reasons_text : RunReasons → Text
 run_reasons_text run =
-    run_line run.name run.phase ++ (flat_map reason_text run.reasons ++ flat_map metric_lines run.metrics)
+    (run_line run.name run.phase ++ line_if_there (codes "  waits for: ") (run_waits_for run.phase run.metrics))
+    ++ (flat_map reason_text run.reasons ++ flat_map (metric_lines run.closer) run.metrics)
 
 abbrev pub reasons_text : List RunReasons → Text
 reasons_text runs = flat_map run_reasons_text runs

@@ -20,7 +20,7 @@ ghost use Rattle.ar_object.specs.Object.{array_of, count_data, text_or_null};
 ghost use Rattle.ar_object.specs.Written.{AddsMember, AddsValue, AddsValues};
 ghost use Rattle.ar_tree.specs.Views.{typed_view};
 ghost use Rattle.ar_show.specs.PartText.{shown_part};
-ghost use Rattle.ar_reason.specs.Reason.{conditions_by, conditions_of, conditions_on, evaluated_if_there, evaluated_with, has_failed, reason_of, reason_with, reasons_of, run_reasons};
+ghost use Rattle.ar_reason.specs.Reason.{conditions_by, conditions_of, conditions_on, evaluated_if_there, evaluated_with, has_failed, lacks_conditions, reason_of, reason_with, reasons_of, run_reasons};
 ghost use Rattle.ar_reason.specs.ReasonData.{change_data, evaluated_data, evaluation_data, failure_if_there, gap_data, given_error, given_misfit, given_value, operands_if_there, part_data, reason_data, reasons_data, run_reasons_data, value_if_there, waiting_data, was_needed};
 ghost use Rattle.ar_reason.specs.Views.{given_view};
 ghost use Rattle.ar_reason.specs.Waiting.{waits_for};
@@ -31,10 +31,10 @@ ghost use Rattle.ar_reason.specs.Private.Trees.{condition_tree, trees_of, run_tr
 use crate::chosen::Chosen;
 use crate::evaluated::{JudgeTrees, NamedTree, trees_at, trees_of};
 use crate::given::{Given, given_of};
-use crate::lines::judge_at;
+use crate::lines::{judge_at, lacks_conditions};
 use crate::parts::{failure_name, is_failure};
-use crate::steps::{Change, Step, is_chosen_run, steps_of};
-use crate::waiting::push_waiting;
+use crate::steps::{Change, Step, is_chosen_run, traced};
+use crate::waiting::{push_waiting, run_waits_for, settled_by};
 use crate::why::{push_why, why_of};
 use ar_bundle::{Bundle, Entry, Finished, MetricPart, RunPart, What};
 use ar_explain::{Evaluation, Explanation, Line, Said, tell};
@@ -347,6 +347,17 @@ fn put_change(json: &mut JsonText, change: Option<Change>)
     write_change(json, change)
 }
 
+/// Writes words, or null where there are none.
+fn put_words(json: &mut JsonText, name: &str, words: Option<String>)
+    ensures { AddsMember name.now (text_or_null (option_map string_bytes words))
+        json.old.written json.new.written }
+{
+    match words {
+        Some(words) => json.put_text(name, &words),
+        None => json.put_null(name),
+    }
+}
+
 /// Writes why an event closed its run or came late, or null.
 fn put_why(alloc: Global, json: &mut JsonText, step: Step) -> Result<(), AllocError>
     ensures { OnOk result (AddsMember (codes "reason") (text_or_null (option_map why_words (why_of step)))
@@ -377,7 +388,8 @@ fn write_reason_of(
     requires trees { map judge_trees_view trees.now ≡ run_trees bundle.now run }
     ensures { OnOk result (AddsValue (reason_data (reason_with
         (event_facts bundle.now step.entry.number step.entry.effect) (given_view given.now)
-        (conditions_of bundle.now run what.now) step)) json.old.written json.new.written) }
+        (conditions_of bundle.now run what.now) (lacks_conditions bundle.now run what.now) step))
+        json.old.written json.new.written) }
 {
     json.begin_object();
     json.begin_list("conditions");
@@ -388,6 +400,7 @@ fn write_reason_of(
     json.put_key("event");
     write_event(json, bundle, step.entry);
     json.put_text_if_there("misfit", given_misfit(given));
+    json.put_flag("noCondition", lacks_conditions(bundle, run, what));
     put_why(alloc, json, step)?;
     json.put_text_if_there("value", given_value(given));
     json.end_object();
@@ -462,6 +475,7 @@ fn put_waits(
     Ok(())
 }
 
+/// Writes a metric, whose run this event closed, if one did.
 fn write_waiting(
     alloc: Global,
     json: &mut JsonText,
@@ -469,13 +483,15 @@ fn write_waiting(
     limits: Limits,
     phase: Phase,
     counts: Counts,
+    closer: Option<u64>,
 ) -> Result<(), AllocError>
-    ensures { OnOk result (AddsValue (waiting_data (metric_facts metric.now limits phase counts))
+    ensures { OnOk result (AddsValue (waiting_data closer (metric_facts metric.now limits phase counts))
         json.old.written json.new.written) }
 {
     json.begin_object();
     json.put_key("metric");
     write_metric(json, metric, limits, phase, counts);
+    put_words(json, "settled", settled_by(alloc, closer, limits, counts)?);
     put_waits(alloc, json, phase, limits, counts)?;
     json.end_object();
     Ok(())
@@ -488,17 +504,18 @@ fn put_metrics(
     metrics: &[MetricPart],
     limits: &[Limits],
     state: &RunState,
+    closer: Option<u64>,
 ) -> Result<(), AllocError>
     requires limits { length limits.now ≡ length metrics.now }
     requires metrics { length state.now.limits ≡ length metrics.now }
-    ensures { OnOk result (AddsMember (codes "metrics") (array_of (map waiting_data
+    ensures { OnOk result (AddsMember (codes "metrics") (array_of (map (waiting_data closer)
         (facts_of_metrics metrics.now limits.now state.now.phases state.now.counts)))
         json.old.written json.new.written) }
 {
     json.begin_list("metrics");
     for (number, metric) in metrics.iter().enumerate() {
         let (phase, counts) = (state.metric_phase(number), state.counts(number));
-        write_waiting(alloc, json, metric, limits[number], phase, counts)?;
+        write_waiting(alloc, json, metric, limits[number], phase, counts, closer)?;
     }
     json.end_list();
     Ok(())
@@ -528,12 +545,15 @@ fn write_run(
         json.old.written json.new.written) }
 {
     let trees = trees_of(alloc, run.judges.as_slice())?;
-    let steps = steps_of(alloc, bundle, chosen, run, entries)?;
+    let (metrics, limits) = (bundle.metrics(), run.limits.as_slice());
+    let found = traced(alloc, bundle, chosen, run, entries)?;
+    let waits = run_waits_for(alloc, metrics, limits, state)?;
     json.begin_object();
-    put_reasons(alloc, json, document, bundle, number, &trees, &steps)?;
-    put_metrics(alloc, json, bundle.metrics(), run.limits.as_slice(), state)?;
+    put_reasons(alloc, json, document, bundle, number, &trees, &found.steps)?;
+    put_metrics(alloc, json, metrics, limits, state, found.closer)?;
     json.put_text("name", run.name.as_str());
     json.put_text("phase", phase_name(state.phase()));
+    put_words(json, "waitsFor", waits);
     json.end_object();
     Ok(())
 }
@@ -557,7 +577,7 @@ fn put_runs(
     let histories = finished.histories.runs();
     for (number, run) in bundle.runs().iter().enumerate() {
         let (entries, state) = (histories[number].entries(), &finished.states[number]);
-        if is_chosen_run(bundle, chosen, number) {
+        if is_chosen_run(bundle, chosen, number, entries) {
             write_run(
                 alloc, json, document, bundle, chosen, number, run, entries, state,
             )?;

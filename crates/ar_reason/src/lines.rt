@@ -10,10 +10,11 @@ ghost use Rattle.ar_bundle.specs.Lawful.{IsFound, numbers_of};
 ghost use Rattle.ar_bundle.specs.Sound.{IsRun};
 ghost use Rattle.ar_judge.specs.Verdict.{sample_view};
 ghost use Rattle.ar_facts.specs.Facts.{facts_of_metrics, metric_facts};
-ghost use Rattle.ar_reason.specs.Reason.{conditions_by, conditions_of, reason_of, reasons_of, run_reasons};
-ghost use Rattle.ar_reason.specs.ReasonText.{change_line, condition_text, given_line, metric_lines, outcome_lines, reason_text, reasons_text, run_reasons_text, waits_line, why_line};
+ghost use Rattle.ar_facts.specs.Report.{run_line};
+ghost use Rattle.ar_reason.specs.Reason.{conditions_by, conditions_of, lacks_conditions, reason_of, reasons_of, run_reasons};
+ghost use Rattle.ar_reason.specs.ReasonText.{change_line, condition_text, given_line, line_if_there, metric_lines, no_condition_line, outcome_lines, reason_text, reasons_text, run_reasons_text, waits_line, why_line};
 ghost use Rattle.ar_reason.specs.Views.{given_view};
-ghost use Rattle.ar_reason.specs.Waiting.{waits_for};
+ghost use Rattle.ar_reason.specs.Waiting.{run_waits_for, waits_for};
 ghost use Rattle.ar_reason.specs.Why.{why_of};
 ghost use Rattle.ar_reason.specs.Private.Found.{AreFoundSteps};
 ghost use Rattle.ar_reason.specs.Private.Trees.{trees_of, run_trees, judge_trees_view};
@@ -23,12 +24,12 @@ use crate::counts::push_counts;
 use crate::evaluated::{JudgeTrees, trees_at, trees_of};
 use crate::given::{Given, given_of};
 use crate::parts::push_conditions;
-use crate::steps::{Change, Step, is_chosen_run, steps_of};
-use crate::waiting::push_waiting;
+use crate::steps::{Change, Step, is_chosen_run, traced};
+use crate::waiting::{push_waiting, run_waits_for, settled_by};
 use crate::why::{Why, push_why, why_of};
 use ar_bundle::{Bundle, Entry, Finished, MetricPart, RunPart, What};
 use ar_facts::{phase_name, put_event, put_metric, put_run_line};
-use ar_judge::{Judge, Sample};
+use ar_judge::{Judge, Sample, Which};
 use ar_limits::{Counts, Limits, Phase, RunState};
 use serde_json::Value as Json;
 use std::alloc::{AllocError, Global};
@@ -108,6 +109,31 @@ pub(crate) fn judge_at(bundle: &Bundle, run: usize, metric: usize) -> Option<&Ju
     bundle.runs().get(run)?.judges.as_slice().get(metric)
 }
 
+/// Whether a value was measured, and its metric has no condition.
+pub(crate) fn lacks_conditions(bundle: &Bundle, run: usize, what: &What) -> bool
+    ensures { result ≡ lacks_conditions bundle.now run what.now }
+{
+    match what {
+        What::Measure(metric, Sample::Measured(_)) => match judge_at(bundle, run, *metric) {
+            Some(judge) => {
+                judge.condition(Which::Success).is_none()
+                    && judge.condition(Which::Failure).is_none()
+            }
+            None => false,
+        },
+        What::Measure(_, Sample::Misfit(_) | Sample::Provider) | What::Stop => false,
+    }
+}
+
+fn push_no_condition(out: &mut String, lacks: bool) -> Result<(), AllocError>
+    ensures { OnOk result (string_bytes out.new ≡ string_bytes out.old ++ no_condition_line lacks) }
+{
+    if lacks {
+        return out.push_str("  no condition: each value is Successful\n");
+    }
+    Ok(())
+}
+
 fn push_evaluated(
     alloc: Global,
     out: &mut String,
@@ -159,6 +185,7 @@ fn push_reason(
     put_event(out, bundle, step.entry)?;
     push_given(out, &given)?;
     push_evaluated(alloc, out, bundle, run, trees, &part.what)?;
+    push_no_condition(out, lacks_conditions(bundle, run, &part.what))?;
     push_outcome(out, step)
 }
 
@@ -185,6 +212,17 @@ fn push_reasons(
 
 // ---- metrics
 
+/// A line that begins so, where there are words for it.
+fn push_if_there(out: &mut String, before: &str, words: Option<String>) -> Result<(), AllocError>
+    ensures { OnOk result (string_bytes out.new
+        ≡ string_bytes out.old ++ line_if_there before.now (option_map string_bytes words)) }
+{
+    match words {
+        Some(words) => push_line(out, before, &words),
+        None => Ok(()),
+    }
+}
+
 fn push_waits(
     out: &mut String,
     phase: Phase,
@@ -204,41 +242,68 @@ fn push_waits(
     out.push_str("\n")
 }
 
+/// The lines of a metric, whose run this event closed, if one did.
 fn push_metric(
+    alloc: Global,
     out: &mut String,
     metric: &MetricPart,
     limits: Limits,
     phase: Phase,
     counts: Counts,
+    closer: Option<u64>,
 ) -> Result<(), AllocError>
     ensures { OnOk result (string_bytes out.new ≡ string_bytes out.old
-        ++ metric_lines (metric_facts metric.now limits phase counts)) }
+        ++ metric_lines closer (metric_facts metric.now limits phase counts)) }
 {
+    let settled = settled_by(alloc, closer, limits, counts)?;
     put_metric(out, metric, limits, phase, counts)?;
-    push_waits(out, phase, limits, counts)
+    push_waits(out, phase, limits, counts)?;
+    push_if_there(out, "  ", settled)
 }
 
 /// The lines of a run's metrics, as the run is.
 #[tactic(auto, using(crate::proofs::Metrics::next_metric, crate::proofs::Metrics::no_metric_left))]
 fn push_metrics(
+    alloc: Global,
     out: &mut String,
     metrics: &[MetricPart],
     limits: &[Limits],
     state: &RunState,
+    closer: Option<u64>,
 ) -> Result<(), AllocError>
     requires limits { length limits.now ≡ length metrics.now }
     requires metrics { length state.now.limits ≡ length metrics.now }
     ensures { OnOk result (string_bytes out.new ≡ string_bytes out.old
-        ++ flat_map metric_lines (facts_of_metrics metrics.now limits.now state.now.phases state.now.counts)) }
+        ++ flat_map (metric_lines closer)
+        (facts_of_metrics metrics.now limits.now state.now.phases state.now.counts)) }
 {
     for (number, metric) in metrics.iter().enumerate() {
         let (phase, counts) = (state.metric_phase(number), state.counts(number));
-        push_metric(out, metric, limits[number], phase, counts)?;
+        push_metric(alloc, out, metric, limits[number], phase, counts, closer)?;
     }
     Ok(())
 }
 
 // ---- runs
+
+/// The line of a run, and what it waits for.
+fn push_head(
+    alloc: Global,
+    out: &mut String,
+    metrics: &[MetricPart],
+    run: &RunPart,
+    state: &RunState,
+) -> Result<(), AllocError>
+    requires limits { length run.now.limits ≡ length metrics.now }
+    requires metrics { length state.now.limits ≡ length metrics.now }
+    ensures { OnOk result (string_bytes out.new ≡ string_bytes out.old ++ (run_line run.now.name state.now.phase
+        ++ line_if_there (codes "  waits for: ") (run_waits_for state.now.phase
+        (facts_of_metrics metrics.now run.now.limits state.now.phases state.now.counts)))) }
+{
+    let waits = run_waits_for(alloc, metrics, run.limits.as_slice(), state)?;
+    put_run_line(out, run, state.phase())?;
+    push_if_there(out, "  waits for: ", waits)
+}
 
 /// The lines of a run, by its number, its history and its state.
 #[tactic(auto, using(crate::proofs::Runs::text_is, crate::proofs::Runs::are_found, crate::proofs::Trees::trees_are, ar_facts::proofs::Runs::are_found))]
@@ -262,10 +327,11 @@ fn push_run(
         ++ run_reasons_text (run_reasons (view document.now) bundle.now chosen run.now entries.now)) }
 {
     let trees = trees_of(alloc, run.judges.as_slice())?;
-    let steps = steps_of(alloc, bundle, chosen, run, entries)?;
-    put_run_line(out, run, state.phase())?;
-    push_reasons(alloc, out, document, bundle, number, &trees, &steps)?;
-    push_metrics(out, bundle.metrics(), run.limits.as_slice(), state)
+    let (metrics, limits) = (bundle.metrics(), run.limits.as_slice());
+    let found = traced(alloc, bundle, chosen, run, entries)?;
+    push_head(alloc, out, metrics, run, state)?;
+    push_reasons(alloc, out, document, bundle, number, &trees, &found.steps)?;
+    push_metrics(alloc, out, metrics, limits, state, found.closer)
 }
 
 /// What led to the verdict and the effect of each event that is asked for, in lines.
@@ -289,7 +355,7 @@ pub fn reasons_text(
     let histories = finished.histories.runs();
     for (number, run) in bundle.runs().iter().enumerate() {
         let (entries, state) = (histories[number].entries(), &finished.states[number]);
-        if is_chosen_run(bundle, chosen, number) {
+        if is_chosen_run(bundle, chosen, number, entries) {
             push_run(
                 alloc, &mut out, document, bundle, chosen, number, run, entries, state,
             )?;

@@ -2,6 +2,7 @@
 
 ghost use Rattle.std.specs.Prelude.{◌≡◌, ◌++◌, OnOk, string_bytes};
 ghost use Rattle.ar_facts.specs.Names.{phase_name};
+ghost use Rattle.ar_reason.specs.declared.why.Why.TheVariants.{MetricWas};
 ghost use Rattle.ar_reason.specs.Why.{why_applied, why_closed, why_late, why_of, why_words};
 
 use crate::steps::{Change, Step};
@@ -23,8 +24,8 @@ pub enum Why {
     Dry(Phase),
     /// The event with this number had closed the run.
     AfterClose(u64),
-    /// Its metric was complete, with this phase.
-    MetricWas(Phase),
+    /// Its metric was complete with this phase, since the event with the number.
+    MetricWas(Phase, Option<u64>),
 }
 
 fn why_closed(phase: Phase, change: Option<Change>) -> Why
@@ -37,12 +38,12 @@ fn why_closed(phase: Phase, change: Option<Change>) -> Why
     }
 }
 
-fn why_late(closer: Option<u64>, change: Option<Change>) -> Option<Why>
-    ensures { result ≡ why_late closer change }
+fn why_late(closer: Option<u64>, change: Option<Change>, completer: Option<u64>) -> Option<Why>
+    ensures { result ≡ why_late closer change completer }
 {
     match (closer, change) {
         (Some(number), _) => Some(Why::AfterClose(number)),
-        (None, Some(change)) => Some(Why::MetricWas(change.before.phase)),
+        (None, Some(change)) => Some(Why::MetricWas(change.before.phase, completer)),
         (None, None) => None,
     }
 }
@@ -65,7 +66,7 @@ pub(crate) fn why_of(step: Step) -> Option<Why>
     match step.entry.effect {
         Effect::Applied => why_applied(step.change),
         Effect::Closed(phase) => Some(why_closed(phase, step.change)),
-        Effect::Late => why_late(step.closer, step.change),
+        Effect::Late => why_late(step.closer, step.change, step.completer),
     }
 }
 
@@ -76,6 +77,16 @@ fn push_phase(out: &mut String, before: &str, phase: Phase, after: &str) -> Resu
     out.push_str(before)?;
     out.push_str(phase_name(phase))?;
     out.push_str(after)
+}
+
+fn push_metric_was(out: &mut String, phase: Phase, since: Option<u64>) -> Result<(), AllocError>
+    ensures { OnOk result (string_bytes out.new ≡ string_bytes out.old ++ why_words (MetricWas phase since)) }
+{
+    let Some(number) = since else {
+        return out.push_str("late: the metric was complete");
+    };
+    push_phase(out, "late: the metric was ", phase, " since event ")?;
+    write!(out, "{number}")
 }
 
 pub(crate) fn push_why(out: &mut String, why: Why) -> Result<(), AllocError>
@@ -89,6 +100,6 @@ pub(crate) fn push_why(out: &mut String, why: Why) -> Result<(), AllocError>
         }
         Why::Dry(phase) => push_phase(out, "not closed: the metric is ", phase, ", but dry"),
         Why::AfterClose(number) => write!(out, "late: event {number} had closed the run"),
-        Why::MetricWas(phase) => push_phase(out, "late: the metric was ", phase, " before"),
+        Why::MetricWas(phase, since) => push_metric_was(out, phase, since),
     }
 }

@@ -13,7 +13,9 @@ loop-number-init c = all_remain _ _
 pub loop-number-preserved : goal.loop-number-preserved
 loop-number-preserved c =
     let has = has_history c.args.bundle.now c.run-item.result c.args.finished.now.histories c.loop-number.number c.runs-run-items.ensures.bundle (lawful_are_so_far c.args.bundle.now c.args.finished.now.histories c.requires.lawful) in
-    grind (arith, has, next_object, object_passed) steps 2000000
+    let next = next_object (view c.args.document.now) c.args.bundle.now c.args.chosen c.args.bundle.now.runs c.runs-histories.result.now c.loop-number.number c.run-item.result c.entries-entries.result.now in
+    let passed = object_passed (view c.args.document.now) c.args.bundle.now c.args.chosen c.args.bundle.now.runs c.runs-histories.result.now c.loop-number.number c.run-item.result c.entries-entries.result.now in
+    grind (arith, has, next, passed) steps 2000000
 
 pub returns : goal.returns
 returns c =

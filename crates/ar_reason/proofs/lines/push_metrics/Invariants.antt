@@ -5,4 +5,4 @@ use Rattle.ar_reason.proofs.lines.push_metrics.Given as goal
 
 -- the lines so far come before those of the metrics that are left
 abbrev pub invariant-loop-number : goal.invariant-loop-number
-invariant-loop-number l = string_bytes l.out ++ flat_map metric_lines (facts_of_metrics (drop l.number l.metrics) (drop l.number l.limits) (drop l.number l.state.phases) (drop l.number l.state.counts)) ≡ string_bytes l.initial.out ++ flat_map metric_lines (facts_of_metrics l.metrics l.limits l.state.phases l.state.counts)
+invariant-loop-number l = string_bytes l.out ++ flat_map (metric_lines l.closer) (facts_of_metrics (drop l.number l.metrics) (drop l.number l.limits) (drop l.number l.state.phases) (drop l.number l.state.counts)) ≡ string_bytes l.initial.out ++ flat_map (metric_lines l.closer) (facts_of_metrics l.metrics l.limits l.state.phases l.state.counts)

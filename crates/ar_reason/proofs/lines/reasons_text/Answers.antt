@@ -1,5 +1,6 @@
 use Rattle.std.proofs.Common.{arith}
 use Rattle.std.proofs.lemmas.Grind.{common_steps}
+use Rattle.serde_json.specs.View.{view}
 use Rattle.ar_bundle.proofs.SoFar.{lawful_are_so_far}
 use Rattle.ar_facts.proofs.Runs.{has_history}
 use Rattle.ar_reason.proofs.Reading.{read_run}
@@ -9,7 +10,9 @@ use Rattle.ar_reason.proofs.lines.reasons_text.Goals as goal
 pub loop-number-preserved : goal.loop-number-preserved
 loop-number-preserved c =
     let has = has_history c.args.bundle.now c.run-item.result c.args.finished.now.histories c.loop-number.number c.runs-run-items.ensures.bundle (lawful_are_so_far c.args.bundle.now c.args.finished.now.histories c.requires.lawful) in
-    grind (arith, has, next_run, run_passed) steps 2000000
+    let next = next_run (view c.args.document.now) c.args.bundle.now c.args.chosen c.args.bundle.now.runs c.runs-histories.result.now c.loop-number.number c.run-item.result c.entries-entries.result.now in
+    let passed = run_passed (view c.args.document.now) c.args.bundle.now c.args.chosen c.args.bundle.now.runs c.runs-histories.result.now c.loop-number.number c.run-item.result c.entries-entries.result.now in
+    grind (arith, has, next, passed) steps 2000000
 
 pub returns : goal.returns
 returns c = grind (arith, common_steps) steps 2000000
