@@ -1,13 +1,15 @@
 -- That what is explained of an input is one text: histories of bundles that are the same but for where they lie in memory
 -- are the same, and so is what led to their events.
 use Rattle.ar_judge.specs.Condition.{Condition}
-use Rattle.std.proofs.Common.{◌≡◌, ◌≢◌, ℕ, zero, suc, List, [], ◌∷◌, ◌++◌, codes, length, map, Option, Some, None, Ok, refl, sym, ◌∙◌, ap}
-use Rattle.std.specs.Prelude.{option_and_then, slice_get}
-use Rattle.std.specs.List.{AllByRecursion}
+use Rattle.std.proofs.Common.{◌≡◌, ◌≢◌, ◌==◌, ◌&&◌, ℕ, zero, suc, Bool, false, List, [], ◌∷◌, ◌++◌, codes, length, map, Option, Some, None, option_map, Ok, refl, sym, ◌∙◌, ap, ap₂}
+use Rattle.std.specs.Prelude.{find, option_and_then, slice_get}
+use Rattle.std.specs.List.{AllByRecursion, list_any}
+use Rattle.std.specs.Option.{is_none, option_map_or}
 use Rattle.std.proofs.lemmas.List.{length-map}
 use Rattle.serde_json.specs.Data.{Data}
 use Rattle.ar_value.specs.Value.{Value}
 use Rattle.ar_value.specs.View.{shape_view}
+use Rattle.ar_limits.specs.Prefixes.{with_earlier}
 use Rattle.ar_limits.specs.Run.{effects, metric_counts, metric_phases}
 use Rattle.ar_limits.specs.declared.limits.Limits.{Limits}
 use Rattle.ar_judge.specs.Verdict.{Judge, Sample, measured, misfit, provider, sample_view}
@@ -31,10 +33,11 @@ use Rattle.ar_command_line.specs.declared.command_line.Command.TheVariants as co
 use Rattle.ar_command_line.specs.declared.command_line.Format.{Format}
 use Rattle.ar_document.specs.Entries.{Entry, entry_view, what_view}
 use Rattle.ar_document.specs.Opening.{Metric, metric_view}
-use Rattle.ar_reason.specs.Reason.{conditions_by, conditions_of, error_given, evaluated_if_there, given_by, given_of, measured_member, misfit_words, reason_if_there, reason_of, reasons_from, reasons_of, run_reasons}
+use Rattle.ar_reason.specs.Reason.{conditions_by, conditions_of, error_given, evaluated_if_there, given_by, given_of, is_unconditional, is_measured, lacks_conditions, measured_member, misfit_words, reason_if_there, reason_of, reasons_from, reasons_of, run_reasons}
 use Rattle.ar_reason.specs.ReasonData.{reasons_data}
 use Rattle.ar_reason.specs.ReasonText.{reasons_text}
-use Rattle.ar_reason.specs.Steps.{chosen_steps, is_chosen_run, steps_after}
+use Rattle.ar_reason.specs.Steps.{change_after, chosen_steps, closer_of, is_chosen_run, leaves_complete, measures, own_completer, step_after, steps_after}
+use Rattle.ar_reason.specs.declared.steps.Change.{Change}
 use Rattle.ar_reason.specs.declared.chosen.Chosen.{Chosen}
 use Rattle.ar_reason.specs.declared.chosen.Chosen.TheVariants as chosen
 use Rattle.ar_reason.specs.declared.steps.Step.{Step}
@@ -54,6 +57,28 @@ same_conditions_by (misfit fault) (Some one) (Some other) same = refl
 same_conditions_by sample (Some one) None same = absurd same
 same_conditions_by sample None (Some other) same = absurd same
 same_conditions_by sample None None same = refl
+
+none_alike : (one other : Option Condition) → AreSameConditions one other → is_none one ≡ is_none other
+none_alike (Some one) (Some other) same = refl
+none_alike (Some one) None same = absurd same
+none_alike None (Some other) same = absurd same
+none_alike None None same = refl
+
+lacks_alike : (one other : Option Judge) → AreSameHere one other → option_map_or is_unconditional one false ≡ option_map_or is_unconditional other false
+lacks_alike (Some one) (Some other) same = rw (none_alike one.success other.success same.0, none_alike one.failure other.failure same.1) refl
+lacks_alike (Some one) None same = absurd same
+lacks_alike None (Some other) same = absurd same
+lacks_alike None None same = refl
+
+-- ---- functions that agree
+
+find_alike : {A : Type 0} (f g : A → Bool) (all : List A) → ((one : A) → f one ≡ g one) → find f all ≡ find g all
+find_alike f g [] same = refl
+find_alike f g (one ∷ all) same = rw (same one, find_alike f g all same) refl
+
+any_alike : {A : Type 0} (f g : A → Bool) (all : List A) → ((one : A) → f one ≡ g one) → list_any f all ≡ list_any g all
+any_alike f g [] same = refl
+any_alike f g (one ∷ all) same = rw (same one, any_alike f g all same) refl
 
 -- ---- metrics by their indexes
 
@@ -135,13 +160,30 @@ module _ (one other : Bundle) (same : IsSameBundle one other) where
       let rest : histories ≡ more = same_histories (suc from) runs its histories more are.1 is.1 also.1 later_numbers in
       rw (first, rest) refl
 
+  same_change : (limits : List Limits) (earlier : List HistoryEntry) (entry : HistoryEntry) → change_after one limits earlier entry ≡ change_after other limits earlier entry
+  same_change limits earlier entry =
+      let before = same_events one other same (numbers_of earlier) in
+      let here = same_happened one other same entry.number in
+      rw (before, here) refl
+
+  same_completer : (limits : List Limits) (earlier : List HistoryEntry) (change : Option Change) → own_completer one limits earlier change ≡ own_completer other limits earlier change
+  same_completer limits earlier None = refl
+  same_completer limits earlier (Some change) =
+      ap (option_map (λ (found : List HistoryEntry × HistoryEntry). found.1.number))
+      (find_alike _ _ (with_earlier earlier) (λ each. ap (leaves_complete change.metric) (same_change limits each.0 each.1)))
+
+  abbrev step_with : (earlier : List HistoryEntry) → HistoryEntry → Option Change → (completer : Option ℕ) → Step
+  step_with earlier entry change completer = record { entry = entry; change = change; closer = closer_of earlier; completer = completer }
+
+  same_step : (limits : List Limits) (earlier : List HistoryEntry) (entry : HistoryEntry) → step_after one limits earlier entry ≡ step_after other limits earlier entry
+  same_step limits earlier entry =
+      ap (λ change. step_with earlier entry change (own_completer one limits earlier change)) (same_change limits earlier entry)
+      ∙ ap (step_with earlier entry (change_after other limits earlier entry)) (same_completer limits earlier (change_after other limits earlier entry))
+
   same_steps : (limits : List Limits) (earlier entries : List HistoryEntry) → steps_after one limits earlier entries ≡ steps_after other limits earlier entries
   same_steps limits earlier [] = refl
   same_steps limits earlier (entry ∷ entries) =
-      let before = same_events one other same (numbers_of earlier) in
-      let here = same_happened one other same entry.number in
-      let later = same_steps limits (earlier ++ entry ∷ []) entries in
-      rw (before, here, later) refl
+      ap₂ (λ (first : Step) others. first ∷ others) (same_step limits earlier entry) (same_steps limits (earlier ++ entry ∷ []) entries)
 
   same_given : (document : Data) (number : ℕ) (what its : What) → what_view what ≡ what_view its → given_of document one number what ≡ given_of document other number its
   same_given document number (Measure metric sample) (Measure place also) view =
@@ -162,6 +204,15 @@ module _ (one other : Bundle) (same : IsSameBundle one other) where
   same_conditions run Stop (Measure place also) view = absurd cc
   same_conditions run Stop Stop view = refl
 
+  same_lacks : (run : ℕ) (what its : What) → what_view what ≡ what_view its → lacks_conditions one run what ≡ lacks_conditions other run its
+  same_lacks run (Measure metric sample) (Measure place also) view =
+      let metric_is : metric ≡ place = cc in
+      let sample_is : sample_view sample ≡ sample_view also = cc in
+      rw metric_is (rw sample_is (ap (λ lacks. is_measured (sample_view also) && lacks) (lacks_alike (judge_at one run place) (judge_at other run place) (same_judge_at one.runs other.runs run place same.runs))))
+  same_lacks run (Measure metric sample) Stop view = absurd cc
+  same_lacks run Stop (Measure place also) view = absurd cc
+  same_lacks run Stop Stop view = refl
+
   reason_by : (document : Data) (step : Step) (entry its : Option EventPart) → AreSameEntries entry its → reason_if_there document one step entry ≡ reason_if_there document other step its
   reason_by document step (Some entry) (Some its) view =
       let run : entry.run ≡ its.run = ap (λ (e : Entry). e.run) view in
@@ -169,7 +220,8 @@ module _ (one other : Bundle) (same : IsSameBundle one other) where
       let facts = same_facts_found one other same step.entry.number in
       let given = same_given document step.entry.number entry.what its.what what in
       let conditions = same_conditions its.run entry.what its.what what in
-      rw (run, facts, given, conditions) refl
+      let lacks = same_lacks its.run entry.what its.what what in
+      rw (run, facts, given, conditions, lacks) refl
   reason_by document step (Some entry) None view = absurd view
   reason_by document step None (Some its) view = absurd view
   reason_by document step None None view = let facts = same_facts_found one other same step.entry.number in rw facts refl
@@ -191,11 +243,26 @@ module _ (one other : Bundle) (same : IsSameBundle one other) where
       let metrics = same_facts_of_metrics one other same one.metrics other.metrics its.limits (metric_phases its.limits (events_of other (numbers_of history))) (metric_counts its.limits (events_of other (numbers_of history))) same.metrics in
       rw name (rw limits (rw events (rw metrics (rw steps (rw reasons refl)))))
 
-  same_chosen_run : (asked : Chosen) (run : ℕ) → is_chosen_run one asked run ≡ is_chosen_run other asked run
-  same_chosen_run chosen.All run = refl
-  same_chosen_run (chosen.Event number) run = let own = same_run one other same number in rw own refl
-  same_chosen_run (chosen.Run number) run = refl
-  same_chosen_run (chosen.Metric metric) run = refl
+  same_measures : (metric : ℕ) (what its : What) → what_view what ≡ what_view its → measures metric what ≡ measures metric its
+  same_measures metric (Measure own sample) (Measure place also) view = let own_is : own ≡ place = cc in ap (λ number. number == metric) own_is
+  same_measures metric (Measure own sample) Stop view = absurd cc
+  same_measures metric Stop (Measure place also) view = absurd cc
+  same_measures metric Stop Stop view = refl
+
+  measures_by : (metric : ℕ) (entry its : Option EventPart) → AreSameEntries entry its
+      → option_map_or (λ (part : EventPart). measures metric part.what) entry false ≡ option_map_or (λ (part : EventPart). measures metric part.what) its false
+  measures_by metric (Some entry) (Some its) view = same_measures metric entry.what its.what (ap (λ (e : Entry). e.what) view)
+  measures_by metric (Some entry) None view = absurd view
+  measures_by metric None (Some its) view = absurd view
+  measures_by metric None None view = refl
+
+  same_chosen_run : (asked : Chosen) (run : ℕ) (history : List HistoryEntry) → is_chosen_run one asked run history ≡ is_chosen_run other asked run history
+  same_chosen_run chosen.All run history = refl
+  same_chosen_run (chosen.Event number) run history = let own = same_run one other same number in rw own refl
+  same_chosen_run (chosen.Run number) run history = refl
+  same_chosen_run (chosen.Metric metric) run history =
+      any_alike _ _ history
+      (λ entry. measures_by metric (slice_get one.entries entry.number) (slice_get other.entries entry.number) (same_entry one.entries other.entries entry.number same.entries))
 
   same_reasons_from : (document : Data) (asked : Chosen) (from : ℕ) (runs its : List RunPart) (histories : List (List HistoryEntry)) → AreSameRuns runs its → reasons_from document one asked from runs histories ≡ reasons_from document other asked from its histories
   same_reasons_from document asked from [] [] histories are = refl
@@ -203,7 +270,7 @@ module _ (one other : Bundle) (same : IsSameBundle one other) where
   same_reasons_from document asked from (run ∷ runs) [] histories are = absurd are
   same_reasons_from document asked from (run ∷ runs) (own ∷ its) [] are = refl
   same_reasons_from document asked from (run ∷ runs) (own ∷ its) (history ∷ histories) are =
-      let is_asked = same_chosen_run asked from in
+      let is_asked = same_chosen_run asked from history in
       let first = same_run_reasons document asked run own history are.0 in
       let rest = same_reasons_from document asked (suc from) runs its histories are.1 in
       rw (is_asked, first, rest) refl

@@ -19,8 +19,8 @@ use Rattle.ar_document.specs.Document.{FollowsJson, ReadsInput}
 use Rattle.ar_document.specs.Unmeasured.{IsNoDocument, KeepsUnmeasured, lacks_value, is_unmeasured_there, measurement_at, gave_no_value}
 use Rattle.ar_document.specs.declared.error.BundleError.{BundleError}
 use Rattle.ar_facts.specs.Facts.{event_facts, facts_of_metrics}
-use Rattle.ar_reason.specs.Reason.{Given, Reason, RunReasons, conditions_of, error_given, gave_misfit, given_by, given_of, misfit_words, reason_if_there, reason_of, reason_with, reasons_from, reasons_of, run_reasons}
-use Rattle.ar_reason.specs.Steps.{chosen_steps, is_chosen_run}
+use Rattle.ar_reason.specs.Reason.{Given, Reason, RunReasons, conditions_of, error_given, gave_misfit, given_by, given_of, lacks_conditions, misfit_words, reason_if_there, reason_of, reason_with, reasons_from, reasons_of, run_reasons}
+use Rattle.ar_reason.specs.Steps.{chosen_steps, closer_of, is_chosen_run}
 use Rattle.ar_reason.specs.declared.chosen.Chosen.{Chosen}
 use Rattle.ar_reason.specs.declared.steps.Step.{Step}
 
@@ -43,7 +43,7 @@ module _ (bundle : Bundle) (document kept : Data) (keeps : KeepsUnmeasured bundl
 
   same_there : (step : Step) (there : Option EventPart) → slice_get bundle.entries step.entry.number ≡ there → reason_if_there kept bundle step there ≡ reason_if_there document bundle step there
   same_there step (Some part) is =
-      ap (λ given. reason_with (event_facts bundle step.entry.number step.entry.effect) given (conditions_of bundle part.run part.what) step)
+      ap (λ given. reason_with (event_facts bundle step.entry.number step.entry.effect) given (conditions_of bundle part.run part.what) (lacks_conditions bundle part.run part.what) step)
       (same_given step.entry.number part.what (λ unfit. keeps.same step.entry.number (ap is_unmeasured_there is ∙ unfit)))
   same_there step None is = refl
 
@@ -55,6 +55,7 @@ module _ (bundle : Bundle) (document kept : Data) (keeps : KeepsUnmeasured bundl
   run_with run history reasons = record {
     name = run.name;
     phase = run_phase run.limits (events_of bundle (numbers_of history));
+    closer = closer_of history;
     reasons = reasons;
     metrics = facts_of_metrics bundle.metrics run.limits (metric_phases run.limits (events_of bundle (numbers_of history))) (metric_counts run.limits (events_of bundle (numbers_of history)));
   }
@@ -66,7 +67,7 @@ module _ (bundle : Bundle) (document kept : Data) (keeps : KeepsUnmeasured bundl
   same_from chosen from [] histories = refl
   same_from chosen from (run ∷ runs) [] = refl
   same_from chosen from (run ∷ runs) (history ∷ histories) =
-      ap₂ (λ (first : RunReasons) others. (if is_chosen_run bundle chosen from then first ∷ [] else []) ++ others) (same_run chosen run history) (same_from chosen (suc from) runs histories)
+      ap₂ (λ (first : RunReasons) others. (if is_chosen_run bundle chosen from history then first ∷ [] else []) ++ others) (same_run chosen run history) (same_from chosen (suc from) runs histories)
 
   pub same_reasons : (chosen : Chosen) (histories : List (List Entry)) → reasons_of kept bundle chosen histories ≡ reasons_of document bundle chosen histories
   same_reasons chosen histories = same_from chosen 0 bundle.runs histories

@@ -130,8 +130,8 @@ conditions_of bundle run (Measure metric sample) = conditions_by (judge_at bundl
 conditions_of bundle run Stop = []
 
 -- a metric without conditions is Successful by each value
-abbrev pub has_no_condition : Judge → Bool
-has_no_condition judge = is_none judge.success && is_none judge.failure
+abbrev pub is_unconditional : Judge → Bool
+is_unconditional judge = is_none judge.success && is_none judge.failure
 
 abbrev pub is_measured : Sample → Bool
 is_measured (measured found) = true
@@ -141,7 +141,7 @@ is_measured provider = false
 -- whether a value was measured, and there is no condition to evaluate on it
 abbrev pub lacks_conditions : Bundle → (run : ℕ) → What → Bool
 lacks_conditions bundle run (Measure metric sample) =
-    is_measured (sample_view sample) && option_map_or has_no_condition (judge_at bundle run metric) false
+    is_measured (sample_view sample) && option_map_or is_unconditional (judge_at bundle run metric) false
 lacks_conditions bundle run Stop = false
 
 -- ---- an event
