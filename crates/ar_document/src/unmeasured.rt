@@ -77,8 +77,8 @@ fn picked_of(
 ///
 /// `TooLarge` or `Utf8OrJson` where the input is no document.
 pub fn read_unmeasured(alloc: Global, input: &[u8], bundle: &Bundle) -> Result<Json, BundleError>
-    ensures kept { IfOk result
-        (λ kept. (document : Data) → json_in input.now ≡ Ok document → KeepsUnmeasured bundle.now document (view kept)) }
+    ensures kept { IfOk result (λ kept. (document : Data) → json_in input.now ≡ Ok document
+        → KeepsUnmeasured bundle.now document (view kept)) }
     ensures refused { IfRefused is_bundle_memory result (IsNoDocument input.now) }
     ensures none { list_any is_unmeasured bundle.now.entries ≡ false → IsOkAnd result (λ kept. view kept ≡ null) }
 {
