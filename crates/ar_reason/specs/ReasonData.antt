@@ -99,7 +99,7 @@ reason_members conditions counts error event misfit no_condition reason value = 
     (member (codes "misfit") misfit
     (member (codes "noCondition") no_condition
     (member (codes "reason") reason
-    (member (codes "value") value no_members)))))))
+    (member (codes "value") value no_members))))))))
 
 abbrev pub reason_data : Reason → Data
 reason_data reason =
