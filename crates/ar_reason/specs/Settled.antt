@@ -10,10 +10,11 @@ use Rattle.ar_reason.specs.Waiting.{progress_text}
 
 unfoldable pub settled_text : (closer : EventNumber) → Limits → Counts → Text
 settled_text closer limits counts =
-    codes "Successful, since the run closed at event " ++ (decimal closer ++ (codes "; " ++ progress_text limits counts))
+    codes "Successful, since the run closed at event "
+    ++ (decimal closer ++ (codes "; " ++ progress_text limits counts))
 
--- of a metric with these counts in the end, whose run the event `closer` closed, if one did: its counts have exceeded no
--- limit, nor reached the count
+-- of a metric with these counts in the end, whose run the event `closer` closed, if one did: its counts have exceeded
+-- no limit, nor reached the count
 abbrev pub settled_by : (closer : Option EventNumber) → Limits → Counts → Option Text
 settled_by None limits counts = None
 settled_by (Some closer) limits counts =

@@ -75,7 +75,8 @@ leaves_complete metric None = false
 abbrev pub completer_of : Bundle → List Limits → List Entry → (metric : ℕ) → Option EventNumber
 completer_of bundle limits entries metric =
     option_map (λ (found : List Entry × Entry). found.1.number)
-    (find (λ (earlier, entry). leaves_complete metric (change_after bundle limits earlier entry)) (with_earlier entries))
+    (find (λ (earlier, entry). leaves_complete metric (change_after bundle limits earlier entry))
+    (with_earlier entries))
 
 -- of the metric that an event changes
 abbrev pub own_completer : Bundle → List Limits → (earlier : List Entry) → Option Change → Option EventNumber
