@@ -7,4 +7,5 @@ pub mod Metrics
 pub mod Objects
 pub mod Reading
 pub mod Runs
+pub mod Settled
 pub mod Trees

@@ -1,6 +1,7 @@
 pub mod Counts
 pub mod Waiting
 pub mod Settled
+pub mod Laws
 pub mod Steps
 pub mod Why
 pub mod Reason

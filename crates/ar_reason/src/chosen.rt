@@ -8,6 +8,6 @@ pub enum Chosen {
     Event(u64),
     /// Those of the run with this number, counted from 0.
     Run(usize),
-    /// Those of the metric with this number, counted from 0, and the stops.
+    /// Those of the metric with this number, counted from 0, and the stops, in runs with events of the metric.
     Metric(usize),
 }

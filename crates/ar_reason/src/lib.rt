@@ -17,7 +17,7 @@
 //!   an event late
 //! - `given`: what a provider gave; `evaluated`: the trees of conditions; `parts`: the lines of their parts
 //! - `counts`: counts next to their limits; `waiting`: what a metric and a run wait for, and what a close settled
-//! - `lines`: the text; `data`: the object
+//! - `lines`: the text; `data`: the object; [`laws`]: which metrics a close settles
 #![tactic(auto)]
 
 pub mod chosen;
@@ -25,6 +25,7 @@ mod counts;
 mod data;
 mod evaluated;
 mod given;
+pub mod laws;
 mod lines;
 mod parts;
 pub mod steps;
