@@ -3,10 +3,11 @@ use Rattle.ar_judge.specs.Condition.{Condition}
 use Rattle.std.specs.Prelude.{ℕ, suc, ◌&&◌, Bool, true, false, if◌then◌else◌, List, [], ◌∷◌, ◌++◌, codes, is_none, map, slice_get, Option, Some, None, option_and_then, Result, Ok, Err}
 use Rattle.std.specs.List.{list_any}
 use Rattle.std.specs.Option.{option_map_or}
-use Rattle.serde_json.specs.Data.{Data, string}
-use Rattle.serde_json.specs.Find.{at, get}
+use Rattle.serde_json.specs.Data.{Data}
+use Rattle.serde_json.specs.Find.{as_str, at, get}
 use Rattle.ar_value.specs.Terms.{Text}
 use Rattle.ar_value.specs.Value.{Value}
+use Rattle.ar_value.specs.Value as values
 use Rattle.ar_value.specs.View.{shape_view}
 use Rattle.ar_tree.specs.Meaning.{mean}
 use Rattle.ar_tree.specs.Typed.{Typed}
@@ -29,7 +30,7 @@ use Rattle.ar_explain.specs.Lines.{Explanation, Outcome, earlier_lines, explaine
 use Rattle.ar_misfit.specs.Misfit.{misfit}
 use Rattle.ar_misfit.specs.MisfitText.{misfit_text_of}
 use Rattle.ar_facts.specs.Facts.{EventFacts, MetricFacts, event_facts, facts_of_metrics}
-use Rattle.ar_show.specs.Values.{shown_text, shown_value}
+use Rattle.ar_show.specs.Values.{shown_value}
 use Rattle.ar_reason.specs.Steps.{chosen_steps, closer_of, is_chosen_run}
 use Rattle.ar_reason.specs.Why.{why_of}
 use Rattle.ar_reason.specs.declared.chosen.Chosen.{Chosen}
@@ -54,9 +55,12 @@ abbrev pub measured_member : (name : Text) → (document : Data) → (number : E
 measured_member name document number =
     option_and_then (get name) (option_and_then (at number) (get (codes "measurements") document))
 
+abbrev pub error_of : Option Text → Given
+error_of (Some text) = gave_error (shown_value (values.text text))
+error_of None = gave_nothing
+
 abbrev pub error_given : (found : Option Data) → Given
-error_given (Some (string text)) = gave_error (shown_text text)
-error_given found = gave_nothing
+error_given found = error_of (option_and_then as_str found)
 
 abbrev pub misfit_words : (found : Option Data) → (metric : Option MetricPart) → Text
 misfit_words (Some found) (Some metric) = misfit_text_of (misfit (shape_view metric.shape) found)

@@ -1,11 +1,12 @@
 //! What the provider of a metric gave, as it is shown.
 
-ghost use Rattle.std.specs.Prelude.{◌≡◌, IfOk, option_map, slice_get, string_bytes};
+ghost use Rattle.std.specs.Prelude.{◌≡◌, IfOk, codes, option_and_then, option_map, slice_get, string_bytes};
+ghost use Rattle.serde_json.specs.Find.{as_str};
 ghost use Rattle.serde_json.specs.View.{view};
 ghost use Rattle.ar_judge.specs.Verdict.{sample_view};
 ghost use Rattle.ar_show.specs.Values.{shown_value};
 ghost use Rattle.ar_value.specs.View.{value_view};
-ghost use Rattle.ar_reason.specs.Reason.{error_given, given_by, given_of, misfit_words, measured_member};
+ghost use Rattle.ar_reason.specs.Reason.{error_of, given_by, given_of, misfit_words, measured_member};
 ghost use Rattle.ar_reason.specs.Views.{given_view};
 
 use ar_bundle::{Bundle, MetricPart, What};
@@ -68,35 +69,39 @@ fn value_text(alloc: Global, value: &Value) -> Result<String, AllocError>
 }
 
 /// The text of a provider's error, where the document has one.
-fn error_given(alloc: Global, found: Option<&Json>) -> Result<Given, AllocError>
-    ensures { IfOk result
-        (λ given. given_view given ≡ error_given (option_map (λ json. view json.now) found.entry)) }
+fn error_text(document: &Json, number: u64) -> Option<&str>
+    ensures { option_map (λ text. text.now) result
+        ≡ option_and_then as_str (measured_member (codes "error") (view document.now) number) }
 {
-    let Some(Json::String(text)) = found else {
+    measured_member(document, number, "error")?.as_str()
+}
+
+/// An error of a provider, with this text where there is one.
+fn error_of(alloc: Global, text: Option<&str>) -> Result<Given, AllocError>
+    ensures { IfOk result (λ given. given_view given ≡ error_of (option_map (λ text. text.now) text.entry)) }
+{
+    let Some(text) = text else {
         return Ok(Given::Nothing);
     };
     let mut shown = String::new(alloc);
-    push_value(
-        &mut shown,
-        OperandRef::Borrowed(ValueRef::Text(text.as_str())),
-    )?;
+    push_value(&mut shown, OperandRef::Borrowed(ValueRef::Text(text)))?;
     Ok(Given::Error(shown))
 }
 
-/// What a sample is, of which the document has a value or an error there and the metric is known.
+/// What a sample is, of which the document has a value or the text of an error there and the metric is known.
 fn sample_given(
     alloc: Global,
     sample: &Sample,
     value: Option<&Json>,
-    error: Option<&Json>,
+    error: Option<&str>,
     metric: Option<&MetricPart>,
 ) -> Result<Given, AllocError>
     ensures { IfOk result (λ given. given_view given ≡ given_by (misfit_words
         (option_map (λ json. view json.now) value.entry) (option_map (λ metric. metric.now) metric.entry))
-        (error_given (option_map (λ json. view json.now) error.entry)) (sample_view sample.now)) }
+        (error_of (option_map (λ text. text.now) error.entry)) (sample_view sample.now)) }
 {
     match sample {
-        Sample::Provider => error_given(alloc, error),
+        Sample::Provider => error_of(alloc, error),
         Sample::Misfit(_) => Ok(Given::Misfit(misfit_words(alloc, value, metric)?)),
         Sample::Measured(value) => Ok(Given::Value(value_text(alloc, value)?)),
     }
@@ -116,7 +121,7 @@ pub(crate) fn given_of(
     match what {
         What::Measure(metric, sample) => {
             let value = measured_member(document, number, "value");
-            let error = measured_member(document, number, "error");
+            let error = error_text(document, number);
             sample_given(alloc, sample, value, error, bundle.metrics().get(*metric))
         }
         What::Stop => Ok(Given::Nothing),
