@@ -72,13 +72,13 @@ lacks_alike None None same = refl
 
 -- ---- functions that agree
 
-find_alike : {A : Type 0} (f g : A → Bool) (all : List A) → ((one : A) → f one ≡ g one) → find f all ≡ find g all
+find_alike : {A : Type 0} (f g : A → Bool) (several : List A) → ((one : A) → f one ≡ g one) → find f several ≡ find g several
 find_alike f g [] same = refl
-find_alike f g (one ∷ all) same = rw (same one, find_alike f g all same) refl
+find_alike f g (one ∷ several) same = rw (same one, find_alike f g several same) refl
 
-any_alike : {A : Type 0} (f g : A → Bool) (all : List A) → ((one : A) → f one ≡ g one) → list_any f all ≡ list_any g all
+any_alike : {A : Type 0} (f g : A → Bool) (several : List A) → ((one : A) → f one ≡ g one) → list_any f several ≡ list_any g several
 any_alike f g [] same = refl
-any_alike f g (one ∷ all) same = rw (same one, any_alike f g all same) refl
+any_alike f g (one ∷ several) same = rw (same one, any_alike f g several same) refl
 
 -- ---- metrics by their indexes
 
