@@ -7,10 +7,11 @@ use Rattle.ar_value.specs.Answer.{◌>>=◌}
 use Rattle.ar_value.specs.Operators.{Failure, boolean, items_in, scalar_item}
 use Rattle.ar_value.specs.Value.{Value, Items, no_items, item}
 use Rattle.ar_value.specs.declared.operator.Predicate.{Predicate}
+use Rattle.ar_value.specs.declared.operator.UnaryOperator.{UnaryOperator}
 use Rattle.ar_tree.specs.Meaning.{mean}
 use Rattle.ar_tree.specs.Typed.{Typed, Typeds}
 use Rattle.ar_tree.specs.Typed as typed
-use Rattle.ar_explain.specs.Lines.{Line, Seen, after_item, each_item_lines, earlier_lines, gap_lines, is_empty, is_shown, has_own_line, items_lines, all_lines, lines_on_item, none_seen, own_line, passed_line, unneeded_line, with_own}
+use Rattle.ar_explain.specs.Lines.{Line, Seen, after_item, each_item_lines, earlier_lines, gap_lines, is_empty, is_missing, is_shown, has_own_line, items_lines, operand_own_lines, all_lines, lines_on_item, none_seen, own_line, passed_line, unneeded_line, with_own}
 use Rattle.ar_explain.specs.Operands.{failed_on}
 use Rattle.ar_explain.specs.Sources.{IsFrom, SaysOne}
 use Rattle.ar_explain.specs.Trace.{TraceEntry, continues, each_item, if_value, in_child, items_trace, on_item, root_entry, trace}
@@ -90,6 +91,11 @@ own_where : (result : Value) (entries : List TraceEntry) (said : List Line) (is 
 own_where result entries said true all = all
 own_where result entries said false all = tt
 
+unless_missing : (result : Value) (entries : List TraceEntry) (said : List Line) (is : Bool) → AllByRecursion (IsFrom result entries) said
+    → AllByRecursion (IsFrom result entries) (if is then [] else said)
+unless_missing result entries said true all = tt
+unless_missing result entries said false all = all
+
 own_of_trace : (result : Value) (here : Option Value) (tree : Typed) → AllByRecursion (IsFrom result (trace result here tree)) (own_line tree (mean result here tree) (failed_on result here tree) ∷ [])
 own_of_trace result here tree =
     let last = root_last result here tree in
@@ -100,6 +106,13 @@ of_part : (result : Value) (here : Option Value) (tree : Typed) → AllByRecursi
 of_part result here tree all =
     all_of_two (IsFrom result (trace result here tree)) (earlier_lines result here tree) _ all
     (own_where result (trace result here tree) _ (has_own_line tree (mean result here tree)) (own_of_trace result here tree))
+
+of_operand : (result : Value) (here : Option Value) (operator : UnaryOperator) (tree : Typed) → AllByRecursion (IsFrom result (trace result here tree)) (earlier_lines result here tree)
+    → AllByRecursion (IsFrom result (trace result here tree)) (earlier_lines result here tree ++ operand_own_lines operator tree (mean result here tree) (failed_on result here tree))
+of_operand result here operator tree all =
+    all_of_two (IsFrom result (trace result here tree)) (earlier_lines result here tree) _ all
+    (unless_missing result (trace result here tree) _ (is_missing operator (mean result here tree))
+    (own_where result (trace result here tree) _ (has_own_line tree (mean result here tree)) (own_of_trace result here tree)))
 
 -- the lines before a tree's own are of the entries before its own
 before_own : (result : Value) (here : Option Value) (tree : Typed) (entries : List TraceEntry) (said : List Line) → AllByRecursion (IsFrom result entries) said
@@ -135,7 +148,7 @@ mutual
   from result here (typed.field owner name) =
       before_own result here (typed.field owner name) _ _ (all_in_child result 0 _ _ (of_part result here owner (from result here owner)))
   from result here (typed.unary operator operand) =
-      before_own result here (typed.unary operator operand) _ _ (all_in_child result 0 _ _ (of_part result here operand (from result here operand)))
+      before_own result here (typed.unary operator operand) _ _ (all_in_child result 0 _ _ (of_operand result here operator operand (from result here operand)))
   from result here (typed.binary operator left right) =
       before_own result here (typed.binary operator left right) _ _
       (both_from result _ _ _ _ (all_in_child result 0 _ _ (of_part result here left (from result here left)))

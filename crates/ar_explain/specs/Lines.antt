@@ -4,9 +4,9 @@ use Rattle.std.specs.Prelude.{ℕ, suc, pos, ◌+◌, ◌-◌, ◌^◌, ◌==◌
 use Rattle.std.specs.Fmt.{digits}
 use Rattle.ar_value.specs.Answer.{◌>>=◌}
 use Rattle.ar_value.specs.Predicates.{gathers}
-use Rattle.ar_value.specs.Operators.{Failure, Meaning, boolean, faulted, items_in, scalar_item}
+use Rattle.ar_value.specs.Operators.{Failure, Meaning, boolean, faulted, is_nil, items_in, scalar_item}
 use Rattle.ar_value.specs.Terms.{Text}
-use Rattle.ar_value.specs.Value.{Value, Items, bool, whole, list, nil, no_items, item, items_of}
+use Rattle.ar_value.specs.Value.{Value, Items, bool, whole, list, nil, no_items, item, items_of, object, field, no_fields}
 use Rattle.ar_value.specs.declared.fault.Fault.TheVariants.{DivisionByZero, IndexOutOfRange, NilOperand}
 use Rattle.ar_value.specs.declared.operator.BinaryOperator.TheVariants as binary
 use Rattle.ar_value.specs.declared.operator.Arithmetic.TheVariants.{Divide}
@@ -99,6 +99,17 @@ has_own_line tree (Err failure) = true
 abbrev pub own_lines : Typed → Meaning → (on : Option Text) → List Line
 own_lines tree meaning on = if has_own_line tree meaning then own_line tree meaning on ∷ [] else []
 
+-- whether an operator's failure says of its operand that it is nil
+abbrev pub is_missing : UnaryOperator → Meaning → Bool
+is_missing unary.Need (Ok value) = is_nil value
+is_missing unary.Need (Err failure) = false
+is_missing operator meaning = false
+
+-- the same of the operand of an operator, whose failure says where a value is needed that there is none
+abbrev pub operand_own_lines : UnaryOperator → Typed → Meaning → (on : Option Text) → List Line
+operand_own_lines operator tree meaning on =
+    if is_missing operator meaning then [] else own_lines tree meaning on
+
 -- the lines of a part: those of its own parts, then its own
 abbrev pub with_own : Value → Option Value → Typed → List Line → List Line
 with_own result here tree earlier = earlier ++ own_lines tree (mean result here tree) (failed_on result here tree)
@@ -186,7 +197,8 @@ abbrev mutual
   earlier_lines result here (typed.literal literal) = []
   earlier_lines result here (typed.field owner name) = with_own result here owner (earlier_lines result here owner)
   earlier_lines result here (typed.unary operator operand) =
-      with_own result here operand (earlier_lines result here operand)
+      earlier_lines result here operand
+      ++ operand_own_lines operator operand (mean result here operand) (failed_on result here operand)
   earlier_lines result here (typed.binary operator left right) =
       with_own result here left (earlier_lines result here left)
       ++ if_value (mean result here left) (λ value. with_own result here right (earlier_lines result here right))
@@ -356,6 +368,27 @@ value_is_nil : map row_of (all_lines nil None (is_below needed 8))
     ∷ ([], is_below needed 8, failed (faulted NilOperand) None) ∷ []
 unfolding one_operand shown_value
 value_is_nil = refl
+
+-- `result.rate < 8` where the rate is nil: one line says so
+abbrev the_rate : Typed
+the_rate = typed.field typed.result (codes "rate")
+
+abbrev needed_rate : Typed
+needed_rate = typed.unary unary.Need the_rate
+
+abbrev with_rate : Value → Value
+with_rate value = object (field (codes "rate") value no_fields)
+
+field_is_nil : map row_of (all_lines (with_rate nil) None (is_below needed_rate 8))
+    ≡ ([], needed_rate, failed (faulted NilOperand) (Some (codes "operand nil")))
+    ∷ ([], is_below needed_rate 8, failed (faulted NilOperand) None) ∷ []
+unfolding one_operand shown_value
+field_is_nil = refl
+
+-- on any other value the field has its line
+field_is_there : map row_of (all_lines (with_rate (whole (pos 7))) None (is_below needed_rate 8))
+    ≡ ([], the_rate, the_value (whole (pos 7))) ∷ ([], is_below needed_rate 8, the_value (bool true)) ∷ []
+field_is_there = refl
 
 -- `result[0] < 8` on an empty list
 abbrev the_first : Typed
