@@ -1,5 +1,5 @@
 -- What functions of the walk give and say, one after another.
-use Rattle.std.proofs.Common.{◌≡◌, ℕ, Bool, true, false, List, [], ◌++◌, Option, None, Some, Result, Ok, Err, refl, ap, sym, ◌∙◌, subst, true≢false}
+use Rattle.std.proofs.Common.{◌≡◌, ℕ, Bool, true, false, List, [], ◌∷◌, ◌++◌, Option, None, Some, Result, Ok, Err, refl, ap, sym, ◌∙◌, subst, true≢false}
 use Rattle.std.specs.Prelude.{◌||◌, IfOk, not, if◌then◌else◌}
 use Rattle.std.specs.declared.alloc.AllocError.{AllocError}
 use Rattle.std.proofs.lemmas.List.{append-nil}
@@ -14,7 +14,7 @@ use Rattle.ar_tree.specs.Typed.{Typed}
 use Rattle.ar_tree.specs.Typed as typed
 use Rattle.ar_operand.specs.Operand.{Meets, failure_of}
 use Rattle.ar_operand.specs.declared.operand.Failure.{Failure as FailureCode}
-use Rattle.ar_explain.specs.Lines.{Explanation, Line, Outcome, Seen, earlier_lines, explained, gap_lines, is_shown, item_lines, lines_on_item, operand_own_lines, own_lines, outcome_of}
+use Rattle.ar_explain.specs.Lines.{Explanation, Line, Outcome, Seen, earlier_lines, explained, gap_lines, is_shown, item_line, item_lines, lines_on_item, operand_own_lines, own_lines, outcome_of}
 use Rattle.ar_explain.specs.Operands.{failed_on, on_value, one_operand}
 use Rattle.ar_explain.specs.Private.Failed.{MeetsOn, came, came_on, on_of}
 use Rattle.ar_explain.specs.Private.Keeping.{with_lines}
@@ -169,13 +169,13 @@ module _ {X : Type 0} (view : X → Value) (place : Place) (old mid new : Explan
 -- ---- items of predicates
 
 pub held_on : (place inner : Place) (number : ℕ) (value : Value) (silent : Bool) (old new : ExplanationCode) (result : Result (Result Bool FailureCode) AllocError) (body : Typed)
-    → inner ≡ at_item number value silent place → Explains (λ (it : Bool). it) inner old new result (holds_meant inner body) (lines_at inner body)
+    → inner ≡ at_item number value silent place → Explains (λ (it : Bool). it) inner old new result (holds_meant inner body) (item_line body value ∷ lines_at inner body)
     → IfOk result (λ holds. Meets (λ (it : Bool). it) holds (holds_on place body value)
     × (explanation_view new ≡ with_lines silent place.items (explanation_view old) (lines_on_item number (lines_on place body value))))
 held_on place inner number value silent old new (Err error) body is said = tt
 held_on place inner number value silent old new (Ok met) body is said =
     let at : Explains (λ (it : Bool). it) (at_item number value silent place) old new (Ok met) (holds_on place body value) (lines_on place body value) =
-    subst (λ (inner : Place). Explains (λ (it : Bool). it) inner old new (Ok met) (holds_meant inner body) (lines_at inner body)) is said in
+    subst (λ (inner : Place). Explains (λ (it : Bool). it) inner old new (Ok met) (holds_meant inner body) (item_line body value ∷ lines_at inner body)) is said in
     (at.0, at.1 ∙ with_item silent place.items number (explanation_view old) (lines_on place body value))
 
 -- nothing is said of an item that isn't shown, and nothing at all in silence

@@ -40,10 +40,9 @@ fn says_more(tree: &Typed) -> bool
     ensures { result ≡ says_more (typed_view tree.now) }
 {
     match tree {
-        Typed::Result | Typed::Literal(_) | Typed::List { .. } => false,
+        Typed::Result | Typed::Item | Typed::Literal(_) | Typed::List { .. } => false,
         Typed::Unary { operator, operand } => changes_value(*operator, is_literal(operand)),
-        Typed::Item
-        | Typed::Field { .. }
+        Typed::Field { .. }
         | Typed::Binary { .. }
         | Typed::And { .. }
         | Typed::Or { .. }

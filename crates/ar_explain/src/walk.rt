@@ -480,7 +480,7 @@ fn look<'t: 'v, 'v>(
     holds_at(alloc, body, looked, place, false, out)
 }
 
-/// Whether a body holds of an item; nothing is said of it where it is silent.
+/// Whether a body holds of an item. Unless it is silent, the item is shown, and then what came of the body's parts.
 #[cycle(walk)]
 fn holds_at<'t: 'v, 'v>(
     alloc: Global,
@@ -497,6 +497,7 @@ fn holds_at<'t: 'v, 'v>(
         (lines_on (place_view place.now) (typed_view body.now) (value_of looked.entry.item))))) }
 {
     let inner = place.on_item(alloc, looked.number, looked.item, silent)?;
+    out.say(alloc, &inner, body, Remark::Item(looked.item))?;
     holds(alloc, body, &inner, out)
 }
 
