@@ -5,6 +5,7 @@ pub mod Failures
 pub mod LeftOut
 pub mod Needed
 pub mod Sources
+pub mod Order
 pub mod Keeping
 pub mod Differences
 pub mod Walks

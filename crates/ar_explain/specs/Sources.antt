@@ -1,5 +1,5 @@
 -- From which entry of a trace each line comes.
-use Rattle.std.specs.Prelude.{ℕ, ◌+◌, ◌≡◌, ◌⊎◌, Bool, true, false, List, [], ◌∷◌, ◌++◌, filter, flat_map, length, map, Option, Some, Result, Ok, Err}
+use Rattle.std.specs.Prelude.{⊤, ℕ, ◌+◌, ◌≡◌, ◌⊎◌, Bool, true, false, List, [], ◌∷◌, ◌++◌, filter, flat_map, length, map, Option, Some, Result, Ok, Err}
 use Rattle.ar_value.specs.Answer.{◌>>=◌}
 use Rattle.ar_value.specs.Operators.{Failure, boolean}
 use Rattle.ar_value.specs.Value.{Value}
@@ -54,6 +54,20 @@ says_item (passed items held) = false
 pub record IsFrom (result : Value) (entries : List TraceEntry) (line : Line) : Type 0 where
   pub of_meaning : says_meaning line.said ≡ true → OneHas (Says result) entries line
   pub of_item : says_item line.said ≡ true → OneHas ShowsItem entries line
+
+-- ---- the order of lines
+
+-- these lines say, in their order, what some of these entries have
+abbrev pub SayInOrder : Value → List TraceEntry → List Line → Type 0
+SayInOrder result [] [] = ⊤
+SayInOrder result [] (line ∷ lines) = ⊥
+SayInOrder result (entry ∷ entries) [] = ⊤
+SayInOrder result (entry ∷ entries) (line ∷ lines) =
+    Says result entry line × SayInOrder result entries lines ⊎ SayInOrder result entries (line ∷ lines)
+
+-- the lines that say values and failures
+abbrev pub lines_of_meanings : List Line → List Line
+lines_of_meanings lines = filter (λ (line : Line). says_meaning line.said) lines
 
 -- ---- the item that a predicate looks at last
 

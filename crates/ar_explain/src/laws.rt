@@ -10,7 +10,7 @@ ghost use Rattle.ar_explain.specs.Apart.{apart_on};
 ghost use Rattle.ar_explain.specs.Lines.{Line, all_lines, own_line};
 ghost use Rattle.ar_explain.specs.Operands.{failed_on};
 ghost use Rattle.ar_explain.specs.Parts.{Fails, IsEntryOf, is_evaluated, with_part};
-ghost use Rattle.ar_explain.specs.Sources.{IsFrom, LooksLastAt, SaysAllItems};
+ghost use Rattle.ar_explain.specs.Sources.{IsFrom, LooksLastAt, SayInOrder, SaysAllItems, lines_of_meanings};
 ghost use Rattle.ar_explain.specs.Trace.{TraceEntry, root_entry, trace};
 
 /// Each entry is of a part of the tree, and has its meaning.
@@ -54,6 +54,13 @@ pub fn parts_evaluated_are_needed()
 pub fn lines_are_of_entries()
     ensures { (result : Value) (here : Option Value) (tree : Typed)
         → All (IsFrom result (trace result here tree)) (all_lines result here tree) }
+{}
+
+/// The lines that say values and failures are in the order of the trace's entries: each is of one after that of the
+/// line before.
+pub fn lines_are_in_order()
+    ensures { (result : Value) (here : Option Value) (tree : Typed)
+        → SayInOrder result (trace result here tree) (lines_of_meanings (all_lines result here tree)) }
 {}
 
 /// The last line is the root's own, with its meaning.
