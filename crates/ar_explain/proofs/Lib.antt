@@ -6,6 +6,7 @@ pub mod LeftOut
 pub mod Needed
 pub mod Sources
 pub mod Order
+pub mod Unneeded
 pub mod Keeping
 pub mod Differences
 pub mod Walks

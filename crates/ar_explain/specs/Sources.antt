@@ -10,7 +10,7 @@ use Rattle.ar_tree.specs.Typed as typed
 use Rattle.ar_explain.specs.Apart.{apart_on}
 use Rattle.ar_explain.specs.Lines.{Line, Outcome, body_lines, earlier_lines, failed, is_item, lines_on_item, outcome_of, passed, passed_line, unneeded, valued, with_own}
 use Rattle.ar_explain.specs.Operands.{failed_on}
-use Rattle.ar_explain.specs.Parts.{same_path}
+use Rattle.ar_explain.specs.Parts.{is_evaluated_on, part_at, same_path}
 use Rattle.ar_show.specs.Values.{shown_value}
 use Rattle.ar_explain.specs.Trace.{TraceEntry, trace, with_root}
 
@@ -68,6 +68,29 @@ SayInOrder result (entry ∷ entries) (line ∷ lines) =
 -- the lines that say values and failures
 abbrev pub lines_of_meanings : List Line → List Line
 lines_of_meanings lines = filter (λ (line : Line). says_meaning line.said) lines
+
+-- ---- parts that aren't needed
+
+-- a part that isn't evaluated on some items, though the part around it is
+pub record IsLeftOut (tree : Typed) (entries : List TraceEntry) (items : List ℕ) (part : Typed) : Type 0 where
+  -- the path to the part around it, and which of the children of that it is
+  pub around : List ℕ
+  pub number : ℕ
+  pub is_part : part_at (around ++ number ∷ []) tree ≡ Some part
+  pub around_is_evaluated : is_evaluated_on around items entries ≡ true
+  pub isnt_evaluated : is_evaluated_on (around ++ number ∷ []) items entries ≡ false
+
+-- whether it is said that a part isn't needed
+abbrev pub says_unneeded : Outcome → Bool
+says_unneeded (valued text apart) = false
+says_unneeded (failed failure on) = false
+says_unneeded unneeded = true
+says_unneeded (is_item text) = false
+says_unneeded (passed items held) = false
+
+abbrev pub IsLeftOutIfUnneeded : Typed → List TraceEntry → Line → Type 0
+IsLeftOutIfUnneeded tree entries line =
+    says_unneeded line.said ≡ true → IsLeftOut tree entries line.items line.part
 
 -- ---- the item that a predicate looks at last
 

@@ -10,7 +10,7 @@ ghost use Rattle.ar_explain.specs.Apart.{apart_on};
 ghost use Rattle.ar_explain.specs.Lines.{Line, all_lines, own_line};
 ghost use Rattle.ar_explain.specs.Operands.{failed_on};
 ghost use Rattle.ar_explain.specs.Parts.{Fails, IsEntryOf, is_evaluated, with_part};
-ghost use Rattle.ar_explain.specs.Sources.{IsFrom, LooksLastAt, SayInOrder, SaysAllItems, lines_of_meanings};
+ghost use Rattle.ar_explain.specs.Sources.{IsFrom, IsLeftOutIfUnneeded, LooksLastAt, SayInOrder, SaysAllItems, lines_of_meanings};
 ghost use Rattle.ar_explain.specs.Trace.{TraceEntry, root_entry, trace};
 
 /// Each entry is of a part of the tree, and has its meaning.
@@ -61,6 +61,12 @@ pub fn lines_are_of_entries()
 pub fn lines_are_in_order()
     ensures { (result : Value) (here : Option Value) (tree : Typed)
         → SayInOrder result (trace result here tree) (lines_of_meanings (all_lines result here tree)) }
+{}
+
+/// A part of which a line says that it isn't needed has no entry on the line's items, and the part around it has one.
+pub fn unneeded_parts_have_no_entry()
+    ensures { (result : Value) (here : Option Value) (tree : Typed)
+        → All (IsLeftOutIfUnneeded tree (trace result here tree)) (all_lines result here tree) }
 {}
 
 /// The last line is the root's own, with its meaning.
