@@ -31,7 +31,7 @@ or_true : (b : Bool) → (b || true) ≡ true
 or_true true = refl
 or_true false = refl
 
-is_same : (n : ℕ) → (n == n) ≡ true
+pub is_same : (n : ℕ) → (n == n) ≡ true
 is_same n = grind (arith, nat_tests)
 
 is_other : (n m : ℕ) → n < m → (n == m) ≡ false

@@ -1,5 +1,5 @@
 -- From which entry of a trace each line comes.
-use Rattle.std.specs.Prelude.{⊤, ℕ, ◌+◌, ◌≡◌, ◌⊎◌, Bool, true, false, List, [], ◌∷◌, ◌++◌, filter, flat_map, length, map, Option, Some, Result, Ok, Err}
+use Rattle.std.specs.Prelude.{⊤, ℕ, ◌+◌, ◌==◌, ◌≡◌, ◌⊎◌, Bool, true, false, List, [], ◌∷◌, ◌++◌, filter, flat_map, length, map, Option, Some, Result, Ok, Err}
 use Rattle.ar_value.specs.Answer.{◌>>=◌}
 use Rattle.ar_value.specs.Operators.{Failure, boolean}
 use Rattle.ar_value.specs.Value.{Value}
@@ -8,7 +8,7 @@ use Rattle.ar_tree.specs.Meaning.{mean}
 use Rattle.ar_tree.specs.Typed.{Typed}
 use Rattle.ar_tree.specs.Typed as typed
 use Rattle.ar_explain.specs.Apart.{apart_on}
-use Rattle.ar_explain.specs.Lines.{Line, Outcome, body_lines, earlier_lines, failed, is_item, lines_on_item, outcome_of, passed, passed_line, unneeded, valued, with_own}
+use Rattle.ar_explain.specs.Lines.{Line, Outcome, body_lines, earlier_lines, failed, is_item, lines_on_item, outcome_of, passed, passed_line, unneeded, unneeded_line, valued, with_own}
 use Rattle.ar_explain.specs.Operands.{failed_on}
 use Rattle.ar_explain.specs.Parts.{is_evaluated_on, part_at, same_path}
 use Rattle.ar_show.specs.Values.{shown_value}
@@ -91,6 +91,16 @@ says_unneeded (passed items held) = false
 abbrev pub IsLeftOutIfUnneeded : Typed → List TraceEntry → Line → Type 0
 IsLeftOutIfUnneeded tree entries line =
     says_unneeded line.said ≡ true → IsLeftOut tree entries line.items line.part
+
+-- one of these lines says of a part that it isn't needed
+abbrev pub SayUnneeded : (part : Typed) → List Line → Type 0
+SayUnneeded part [] = ⊥
+SayUnneeded part (line ∷ lines) = line ≡ unneeded_line part ⊎ SayUnneeded part lines
+
+-- whether the child with a number is a body, which is evaluated on items
+abbrev pub is_body : Typed → (number : ℕ) → Bool
+is_body (typed.predicate predicate many body) number = number == 1
+is_body tree number = false
 
 -- ---- the item that a predicate looks at last
 

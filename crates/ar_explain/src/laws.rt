@@ -1,16 +1,16 @@
 //! Laws of traces. A law is the contract of a function that does nothing.
 
-ghost use Rattle.std.specs.Prelude.{◌≡◌, ◌++◌, ◌∷◌, [], All, Err, List, Ok, Option, false, true, ℕ};
+ghost use Rattle.std.specs.Prelude.{◌≡◌, ◌++◌, ◌∷◌, [], All, Err, List, Ok, Option, Some, false, true, ℕ};
 ghost use Rattle.ar_value.specs.Operators.{Failure};
 ghost use Rattle.ar_value.specs.Value.{Items, Value, item, list};
 ghost use Rattle.ar_value.specs.declared.operator.Predicate.{Predicate};
 ghost use Rattle.ar_tree.specs.Meaning.{mean};
 ghost use Rattle.ar_tree.specs.Typed.{Typed};
 ghost use Rattle.ar_explain.specs.Apart.{apart_on};
-ghost use Rattle.ar_explain.specs.Lines.{Line, all_lines, own_line};
+ghost use Rattle.ar_explain.specs.Lines.{Line, all_lines, earlier_lines, own_line};
 ghost use Rattle.ar_explain.specs.Operands.{failed_on};
-ghost use Rattle.ar_explain.specs.Parts.{Fails, IsEntryOf, is_evaluated, with_part};
-ghost use Rattle.ar_explain.specs.Sources.{IsFrom, IsLeftOutIfUnneeded, LooksLastAt, SayInOrder, SaysAllItems, lines_of_meanings};
+ghost use Rattle.ar_explain.specs.Parts.{Fails, IsEntryOf, child, is_evaluated, with_part};
+ghost use Rattle.ar_explain.specs.Sources.{IsFrom, IsLeftOutIfUnneeded, LooksLastAt, SayInOrder, SayUnneeded, SaysAllItems, is_body, lines_of_meanings};
 ghost use Rattle.ar_explain.specs.Trace.{TraceEntry, root_entry, trace};
 
 /// Each entry is of a part of the tree, and has its meaning.
@@ -67,6 +67,15 @@ pub fn lines_are_in_order()
 pub fn unneeded_parts_have_no_entry()
     ensures { (result : Value) (here : Option Value) (tree : Typed)
         → All (IsLeftOutIfUnneeded tree (trace result here tree)) (all_lines result here tree) }
+{}
+
+/// Of a part that has a value, each child without an entry has a line that says it isn't needed. That isn't said of the
+/// body of a predicate, which is evaluated on items.
+pub fn children_without_an_entry_are_unneeded()
+    ensures { (result : Value) (here : Option Value) (tree part : Typed) (value : Value) (number : ℕ)
+        → mean result here tree ≡ Ok value → child tree number ≡ Some part → is_body tree number ≡ false
+        → is_evaluated (number ∷ []) (trace result here tree) ≡ false
+        → SayUnneeded part (earlier_lines result here tree) }
 {}
 
 /// The last line is the root's own, with its meaning.

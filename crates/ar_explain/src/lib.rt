@@ -15,11 +15,11 @@
 //! has), `specs/Operands` (on which operands a part fails), `specs/Apart` (where texts differ), `specs/Lines` (what is
 //! said) and `specs/Sources` (which entry a line is of); `specs/Views` says what explanations in memory say. The laws
 //! say which parts a trace has, what its entries and the lines with values and failures say, that these lines are in
-//! its order, and that parts which weren't needed have no entry. `specs/Private` follows the code.
+//! its order, and that just parts without an entry weren't needed. `specs/Private` follows the code.
 //!
 //! - [`laws`]: that entries are of parts and have their meanings, the root's is the last, a failure is the condition's,
 //!   and just what isn't needed is left out; that lines say what entries have, in their order, the root's is the last,
-//!   what they say isn't needed isn't evaluated, and each item is shown or counted
+//!   they say of just those children that aren't evaluated that they aren't needed, and each item is shown or counted
 //! - [`explanation`]: lines, and those that are kept, with the texts of values by `ar_show`
 //! - `walk`: the walk over a condition; `place`: where a part is evaluated; `news`: which parts have lines of their
 //!   own; `looked`: items that predicates look at; `seen`: how many of those aren't shown; `applied`: what operators
