@@ -7,6 +7,7 @@ pub mod Needed
 pub mod Sources
 pub mod Order
 pub mod Unneeded
+pub mod ItemLines
 pub mod Children
 pub mod Keeping
 pub mod Differences

@@ -123,7 +123,7 @@ module _ (result : Value) where
 
 -- ---- own lines
 
-shows_no_item : (meaning : Meaning) (on : Option Text) (apart : Option Apart) → says_item (outcome_of meaning on apart) ≡ false
+pub shows_no_item : (meaning : Meaning) (on : Option Text) (apart : Option Apart) → says_item (outcome_of meaning on apart) ≡ false
 shows_no_item (Ok value) on apart = refl
 shows_no_item (Err failure) on apart = refl
 

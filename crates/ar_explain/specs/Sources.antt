@@ -10,7 +10,7 @@ use Rattle.ar_tree.specs.Typed as typed
 use Rattle.ar_explain.specs.Apart.{apart_on}
 use Rattle.ar_explain.specs.Lines.{Line, Outcome, body_lines, earlier_lines, failed, is_item, lines_on_item, outcome_of, passed, passed_line, unneeded, unneeded_line, valued, with_own}
 use Rattle.ar_explain.specs.Operands.{failed_on}
-use Rattle.ar_explain.specs.Parts.{is_evaluated_on, part_at, same_path}
+use Rattle.ar_explain.specs.Parts.{here_at, is_evaluated_on, part_at, same_path}
 use Rattle.ar_show.specs.Values.{shown_value}
 use Rattle.ar_explain.specs.Trace.{TraceEntry, trace, with_root}
 
@@ -54,6 +54,22 @@ says_item (passed items held) = false
 pub record IsFrom (result : Value) (entries : List TraceEntry) (line : Line) : Type 0 where
   pub of_meaning : says_meaning line.said ≡ true → OneHas (Says result) entries line
   pub of_item : says_item line.said ≡ true → OneHas ShowsItem entries line
+
+-- ---- the items that are shown
+
+-- a line shows the item to which its numbers lead, and its part is the body that a predicate evaluates on it
+pub record IsOfBody (result : Value) (here : Option Value) (tree : Typed) (line : Line) : Type 0 where
+  -- the path to the predicate
+  pub around : List ℕ
+  pub predicate : Predicate
+  pub many : Typed
+  pub of_predicate : part_at around tree ≡ Some (typed.predicate predicate many line.part)
+  pub value : Value
+  pub of_item : here_at result here tree (around ++ 1 ∷ []) line.items ≡ Ok (Some value)
+  pub of_value : line.said ≡ is_item (shown_value value)
+
+abbrev pub IsOfBodyIfItem : Value → Option Value → Typed → Line → Type 0
+IsOfBodyIfItem result here tree line = says_item line.said ≡ true → IsOfBody result here tree line
 
 -- ---- the order of lines
 

@@ -10,7 +10,7 @@ ghost use Rattle.ar_explain.specs.Apart.{apart_on};
 ghost use Rattle.ar_explain.specs.Lines.{Line, all_lines, earlier_lines, own_line};
 ghost use Rattle.ar_explain.specs.Operands.{failed_on};
 ghost use Rattle.ar_explain.specs.Parts.{Fails, IsEntryOf, child, is_evaluated, with_part};
-ghost use Rattle.ar_explain.specs.Sources.{IsFrom, IsLeftOutIfUnneeded, LooksLastAt, SayInOrder, SayUnneeded, SaysAllItems, is_body, lines_of_meanings};
+ghost use Rattle.ar_explain.specs.Sources.{IsFrom, IsLeftOutIfUnneeded, IsOfBodyIfItem, LooksLastAt, SayInOrder, SayUnneeded, SaysAllItems, is_body, lines_of_meanings};
 ghost use Rattle.ar_explain.specs.Trace.{TraceEntry, root_entry, trace};
 
 /// Each entry is of a part of the tree, and has its meaning.
@@ -54,6 +54,12 @@ pub fn parts_evaluated_are_needed()
 pub fn lines_are_of_entries()
     ensures { (result : Value) (here : Option Value) (tree : Typed)
         → All (IsFrom result (trace result here tree)) (all_lines result here tree) }
+{}
+
+/// Each line that shows an item has the body of a predicate as its part, and shows the item to which its numbers lead.
+pub fn items_shown_are_of_bodies()
+    ensures { (result : Value) (here : Option Value) (tree : Typed)
+        → All (IsOfBodyIfItem result here tree) (all_lines result here tree) }
 {}
 
 /// The lines that say values and failures are in the order of the trace's entries: each is of one after that of the

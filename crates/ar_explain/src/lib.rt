@@ -19,7 +19,8 @@
 //!
 //! - [`laws`]: that entries are of parts and have their meanings, the root's is the last, a failure is the condition's,
 //!   and just what isn't needed is left out; that lines say what entries have, in their order, the root's is the last,
-//!   they say of just those children that aren't evaluated that they aren't needed, and each item is shown or counted
+//!   they say of just those children that aren't evaluated that they aren't needed, items that are shown are those of
+//!   predicates, and each item is shown or counted
 //! - [`explanation`]: lines, and those that are kept, with the texts of values by `ar_show`
 //! - `walk`: the walk over a condition; `place`: where a part is evaluated; `news`: which parts have lines of their
 //!   own; `looked`: items that predicates look at; `seen`: how many of those aren't shown; `applied`: what operators
