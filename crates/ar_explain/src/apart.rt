@@ -3,18 +3,17 @@
 ghost use Rattle.std.specs.Prelude.{◌≡◌, IfOk, option_map, string_bytes};
 ghost use Rattle.std.specs.Str.{IsCharBoundary};
 ghost use Rattle.ar_value.specs.Value.{text};
-ghost use Rattle.ar_machine.specs.Operand.{operand_value, value_of};
+ghost use Rattle.ar_machine.specs.Operand.{value_of};
 ghost use Rattle.ar_quote.specs.Quote.{quoted_round};
-ghost use Rattle.ar_quote.specs.Tokens.{found};
 ghost use Rattle.ar_show.specs.Values.{shown_value};
-ghost use Rattle.ar_explain.specs.Apart.{apart_of, character_at, character_length, character_start, first_difference, first_of, look_alike, operands_apart};
+ghost use Rattle.ar_explain.specs.Apart.{apart_of, character_at, character_length, character_start, first_difference, look_alike, operands_apart};
 ghost use Rattle.ar_explain.specs.Private.Apart.{texts_apart};
 ghost use Rattle.ar_explain.specs.Views.{apart_view};
 
+use crate::explanation::text_of;
 use ar_machine::operand::OperandRef;
 use ar_machine::operand::borrowed::ValueRef;
 use ar_quote::{TokenAt, push_round};
-use ar_show::push_value;
 use std::alloc::{AllocError, Global};
 
 /// A text of at most that many bytes is shown whole.
@@ -99,9 +98,7 @@ fn apart_of(alloc: Global, texts: Texts<'_>) -> Result<Apart, AllocError>
 fn shown(alloc: Global, letters: &str) -> Result<String, AllocError>
     ensures { IfOk result (λ shown. string_bytes shown ≡ shown_value (text letters.now)) }
 {
-    let mut shown = String::new(alloc);
-    push_value(&mut shown, OperandRef::Borrowed(ValueRef::Text(letters)))?;
-    Ok(shown)
+    text_of(alloc, OperandRef::Borrowed(ValueRef::Text(letters)))
 }
 
 /// Whether texts differ and are shown alike.

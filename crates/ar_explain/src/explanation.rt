@@ -87,7 +87,7 @@ pub(crate) enum Remark<'s, 'v> {
     Passed(Seen),
 }
 
-fn text_of(alloc: Global, value: OperandRef<'_, '_>) -> Result<String, AllocError>
+pub(crate) fn text_of(alloc: Global, value: OperandRef<'_, '_>) -> Result<String, AllocError>
     ensures { IfOk result (λ text. string_bytes text ≡ shown_value (operand_value value.entry)) }
 {
     let mut text = String::new(alloc);
