@@ -4,8 +4,27 @@ use Rattle.ar_value.specs.Terms.{Text}
 use Rattle.ar_limits.specs.declared.counts.Counts.{Counts}
 use Rattle.ar_limits.specs.declared.limits.Limits.{Limits}
 use Rattle.ar_limits.specs.declared.phase.Phase.{Phase}
+use Rattle.ar_quote.specs.Shown.{shown_name}
+use Rattle.ar_facts.specs.declared.text.Naming.{Naming}
+use Rattle.ar_facts.specs.declared.text.Naming.TheVariants as naming
 use Rattle.ar_facts.specs.Facts.{EventFacts, FindingFacts, MetricFacts, RunFacts, judged, stopped}
 use Rattle.ar_facts.specs.Names.{effect_text, phase_name, verdict_text}
+
+-- ---- how names are printed
+
+abbrev pub named : Naming → (name : Text) → Text
+named naming.Verbatim name = name
+named naming.Clear name = shown_name name
+
+abbrev pub named_metric : Naming → MetricFacts → MetricFacts
+named_metric naming metric = record metric { name = named naming metric.name }
+
+abbrev pub named_finding : Naming → FindingFacts → FindingFacts
+named_finding naming (judged metric verdict) = judged (named naming metric) verdict
+named_finding naming stopped = stopped
+
+abbrev pub named_event : Naming → EventFacts → EventFacts
+named_event naming event = record event { finding = named_finding naming event.finding }
 
 -- ---- a metric's line
 
