@@ -36,11 +36,11 @@ use Rattle.ar_document.specs.Opening.{Metric, metric_view}
 use Rattle.ar_reason.specs.Reason.{conditions_by, conditions_of, error_given, evaluated_if_there, given_by, given_of, is_unconditional, is_measured, lacks_conditions, measured_member, misfit_words, reason_if_there, reason_of, reasons_from, reasons_of, run_reasons}
 use Rattle.ar_reason.specs.ReasonData.{reasons_data}
 use Rattle.ar_reason.specs.ReasonText.{reasons_text}
-use Rattle.ar_reason.specs.Steps.{change_after, chosen_steps, closer_of, is_chosen_run, leaves_complete, measures, own_completer, step_after, steps_after}
-use Rattle.ar_reason.specs.declared.steps.Change.{Change}
-use Rattle.ar_reason.specs.declared.chosen.Chosen.{Chosen}
-use Rattle.ar_reason.specs.declared.chosen.Chosen.TheVariants as chosen
-use Rattle.ar_reason.specs.declared.steps.Step.{Step}
+use Rattle.ar_progress.specs.Steps.{change_after, chosen_steps, closer_of, is_chosen_run, leaves_complete, measures, own_completer, step_after, steps_after}
+use Rattle.ar_progress.specs.declared.steps.Change.{Change}
+use Rattle.ar_progress.specs.declared.chosen.Chosen.{Chosen}
+use Rattle.ar_progress.specs.declared.chosen.Chosen.TheVariants as chosen
+use Rattle.ar_progress.specs.declared.steps.Step.{Step}
 
 -- ---- what conditions say
 

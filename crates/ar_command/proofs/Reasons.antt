@@ -20,9 +20,9 @@ use Rattle.ar_document.specs.Unmeasured.{IsNoDocument, KeepsUnmeasured, lacks_va
 use Rattle.ar_document.specs.declared.error.BundleError.{BundleError}
 use Rattle.ar_facts.specs.Facts.{event_facts, facts_of_metrics}
 use Rattle.ar_reason.specs.Reason.{Given, Reason, RunReasons, conditions_of, error_given, gave_misfit, given_by, given_of, lacks_conditions, misfit_words, reason_if_there, reason_of, reason_with, reasons_from, reasons_of, run_reasons}
-use Rattle.ar_reason.specs.Steps.{chosen_steps, closer_of, is_chosen_run}
-use Rattle.ar_reason.specs.declared.chosen.Chosen.{Chosen}
-use Rattle.ar_reason.specs.declared.steps.Step.{Step}
+use Rattle.ar_progress.specs.Steps.{chosen_steps, closer_of, is_chosen_run}
+use Rattle.ar_progress.specs.declared.chosen.Chosen.{Chosen}
+use Rattle.ar_progress.specs.declared.steps.Step.{Step}
 
 -- a document is looked at only where there is no value
 given_alike : (text other : Text) (error also : Given) (sample : Sample) → (lacks_value sample ≡ true → (text ≡ other) × (error ≡ also)) → given_by text error sample ≡ given_by other also sample

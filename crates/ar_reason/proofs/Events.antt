@@ -13,9 +13,9 @@ use Rattle.ar_reason.proofs.Lists.{next_text, no_text_left}
 use Rattle.ar_reason.specs.Private.Found.{AreFoundSteps}
 use Rattle.ar_reason.specs.Reason.{conditions_of, given_of, lacks_conditions, reason_if_there, reason_of, reason_with}
 use Rattle.ar_reason.specs.ReasonText.{change_line, condition_text, given_line, no_condition_line, reason_text, why_line}
-use Rattle.ar_reason.specs.Why.{why_of}
+use Rattle.ar_progress.specs.Why.{why_of}
 use Rattle.ar_facts.specs.Report.{event_line}
-use Rattle.ar_reason.specs.declared.steps.Step.{Step}
+use Rattle.ar_progress.specs.declared.steps.Step.{Step}
 
 pub is_found : (bundle : Bundle) (run : ℕ) (steps : List Step) (index : ℕ) (step : Step) → AreFoundSteps bundle run steps → index < length steps → step ≡ slice_index_or steps index step → IsFound bundle run step.entry
 is_found bundle run steps index step all inside read = of_each (λ (step : Step). IsFound bundle run step.entry) steps index step all (slice_get_read steps (length steps) index step refl inside read)

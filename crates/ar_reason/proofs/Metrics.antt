@@ -12,7 +12,6 @@ use Rattle.ar_object.proofs.Texts.{Remains, next_value, none_remains}
 use Rattle.ar_object.specs.Written.{AddsValue, AddsValues, Output}
 use Rattle.ar_reason.specs.ReasonData.{waiting_data}
 use Rattle.ar_reason.specs.ReasonText.{metric_lines}
-use Rattle.ar_reason.specs.Waiting.{with_metric, with_metrics}
 
 pub next_metric : (metrics : List MetricPart) (limits : List Limits) (phases : List Phase) (others : List Counts) (index : ℕ) (metric : MetricPart) (phase : Phase) (counts : Counts) (closer : Option ℕ) (written : List ℕ) (own : Limits) (total : List ℕ) → index < length metrics → metric ≡ slice_index_or metrics index metric → index < length limits → own ≡ slice_index_or limits index own → slice_get phases index ≡ Some phase → slice_get others index ≡ Some counts
     → written ++ flat_map (metric_lines closer) (facts_of_metrics (drop index metrics) (drop index limits) (drop index phases) (drop index others)) ≡ total → (written ++ metric_lines closer (metric_facts metric own phase counts)) ++ flat_map (metric_lines closer) (facts_of_metrics (drop (index + 1) metrics) (drop (index + 1) limits) (drop (index + 1) phases) (drop (index + 1) others)) ≡ total
@@ -33,16 +32,3 @@ next_waiting metrics limits phases others index metric phase counts closer own a
 pub no_waiting_left : (metrics : List MetricPart) (limits : List Limits) (phases : List Phase) (others : List Counts) (index : ℕ) (closer : Option ℕ) (all : List Data) (start now : Output) → length metrics ≤ index
     → Remains (map (waiting_data closer) (facts_of_metrics (drop index metrics) (drop index limits) (drop index phases) (drop index others))) all start now → AddsValues all start now
 no_waiting_left metrics limits phases others index closer all start now past remains = none_remains (waiting_data closer) _ all start now (no_metric_there metrics limits phases others index past) remains
-
--- ---- what a run waits for
-
-pub next_wait : (metrics : List MetricPart) (limits : List Limits) (phases : List Phase) (others : List Counts) (index : ℕ) (metric : MetricPart) (phase : Phase) (counts : Counts) (words after : List ℕ) (own : Limits) (total : List ℕ) → index < length metrics → metric ≡ slice_index_or metrics index metric → index < length limits → own ≡ slice_index_or limits index own → slice_get phases index ≡ Some phase → slice_get others index ≡ Some counts
-    → after ≡ with_metric words (metric_facts metric own phase counts)
-    → with_metrics words (facts_of_metrics (drop index metrics) (drop index limits) (drop index phases) (drop index others)) ≡ total → with_metrics after (facts_of_metrics (drop (index + 1) metrics) (drop (index + 1) limits) (drop (index + 1) phases) (drop (index + 1) others)) ≡ total
-next_wait metrics limits phases others index metric phase counts words after own total inside read own_inside own_read phase_there counts_there is so_far =
-    ap (λ (words : List ℕ). with_metrics words (facts_of_metrics (drop (index + 1) metrics) (drop (index + 1) limits) (drop (index + 1) phases) (drop (index + 1) others))) is
-    ∙ (sym (ap (with_metrics words) (metric_read metrics limits phases others index metric phase counts own inside read own_inside own_read phase_there counts_there)) ∙ so_far)
-
-pub no_wait_left : (metrics : List MetricPart) (limits : List Limits) (phases : List Phase) (others : List Counts) (index : ℕ) (words total : List ℕ) → length metrics ≤ index → with_metrics words (facts_of_metrics (drop index metrics) (drop index limits) (drop index phases) (drop index others)) ≡ total → words ≡ total
-no_wait_left metrics limits phases others index words total past so_far =
-    sym (ap (with_metrics words) (no_metric_there metrics limits phases others index past)) ∙ so_far

@@ -13,10 +13,10 @@ use Rattle.ar_facts.specs.ReportData.{event_data}
 use Rattle.ar_object.specs.Object.{count_data, text_or_null}
 use Rattle.ar_reason.specs.Reason.{EvaluatedCondition, Reason, RunReasons}
 use Rattle.ar_reason.specs.ReasonData.{change_data, evaluated_data, failure_if_there, gap_data, given_error, given_misfit, given_value, operands_if_there, part_data, reason_data, reasons_data, run_reasons_data, value_if_there, waiting_data}
-use Rattle.ar_reason.specs.Settled.{settled_by}
-use Rattle.ar_reason.specs.Waiting.{run_waits_for, waits_for}
-use Rattle.ar_reason.specs.Why.{why_words}
-use Rattle.ar_reason.specs.declared.steps.Change.{Change}
+use Rattle.ar_progress.specs.Settled.{settled_by}
+use Rattle.ar_progress.specs.Waiting.{run_waits_for, waits_for}
+use Rattle.ar_progress.specs.Why.{why_words}
+use Rattle.ar_progress.specs.declared.steps.Change.{Change}
 
 text_small : (found : Option (List ℕ)) (levels : ℕ) → depth (text_or_null found) ≤ levels
 text_small found levels = let is = text_flat found in omega arith

@@ -17,11 +17,11 @@ use Rattle.ar_object.specs.Written.{AddsValue, AddsValues, Output}
 use Rattle.ar_reason.specs.Private.Found.{AreFoundSteps}
 use Rattle.ar_reason.specs.Reason.{RunReasons, reason_of, reasons_from, run_reasons}
 use Rattle.ar_reason.specs.ReasonData.{reason_data, run_members, run_reasons_data, waiting_data}
-use Rattle.ar_reason.specs.Waiting.{run_waits_for}
+use Rattle.ar_progress.specs.Waiting.{run_waits_for}
 use Rattle.ar_reason.specs.ReasonText.{line_if_there, metric_lines, reason_text, run_reasons_text}
-use Rattle.ar_reason.specs.Steps.{chosen_steps, closer_of, if_chosen, is_chosen, is_chosen_run, step_after, steps_after}
-use Rattle.ar_reason.specs.declared.chosen.Chosen.{Chosen}
-use Rattle.ar_reason.specs.declared.steps.Step.{Step}
+use Rattle.ar_progress.specs.Steps.{chosen_steps, closer_of, if_chosen, is_chosen, is_chosen_run, step_after, steps_after}
+use Rattle.ar_progress.specs.declared.chosen.Chosen.{Chosen}
+use Rattle.ar_progress.specs.declared.steps.Step.{Step}
 
 -- ---- what is known of the events that are chosen
 

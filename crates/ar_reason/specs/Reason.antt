@@ -31,12 +31,12 @@ use Rattle.ar_misfit.specs.Misfit.{misfit}
 use Rattle.ar_misfit.specs.MisfitText.{misfit_text_of}
 use Rattle.ar_facts.specs.Facts.{EventFacts, MetricFacts, event_facts, facts_of_metrics}
 use Rattle.ar_show.specs.Values.{shown_value}
-use Rattle.ar_reason.specs.Steps.{chosen_steps, closer_of, is_chosen_run}
-use Rattle.ar_reason.specs.Why.{why_of}
-use Rattle.ar_reason.specs.declared.chosen.Chosen.{Chosen}
-use Rattle.ar_reason.specs.declared.steps.Change.{Change}
-use Rattle.ar_reason.specs.declared.steps.Step.{Step}
-use Rattle.ar_reason.specs.declared.why.Why.{Why}
+use Rattle.ar_progress.specs.Steps.{chosen_steps, closer_of, is_chosen_run}
+use Rattle.ar_progress.specs.Why.{why_of}
+use Rattle.ar_progress.specs.declared.chosen.Chosen.{Chosen}
+use Rattle.ar_progress.specs.declared.steps.Change.{Change}
+use Rattle.ar_progress.specs.declared.steps.Step.{Step}
+use Rattle.ar_progress.specs.declared.why.Why.{Why}
 
 -- ---- what the provider of a metric gave
 

@@ -13,10 +13,10 @@ use Rattle.ar_object.specs.Object.{array_of, count_data, text_or_null}
 use Rattle.ar_show.specs.PartText.{shown_part}
 use Rattle.ar_reason.specs.Reason.{EvaluatedCondition, Given, Reason, RunReasons, gave_error, gave_misfit, gave_value}
 use Rattle.ar_reason.specs.ReasonText.{failure_name}
-use Rattle.ar_reason.specs.Settled.{settled_by}
-use Rattle.ar_reason.specs.Waiting.{run_waits_for, waits_for}
-use Rattle.ar_reason.specs.Why.{why_words}
-use Rattle.ar_reason.specs.declared.steps.Change.{Change}
+use Rattle.ar_progress.specs.Settled.{settled_by}
+use Rattle.ar_progress.specs.Waiting.{run_waits_for, waits_for}
+use Rattle.ar_progress.specs.Why.{why_words}
+use Rattle.ar_progress.specs.declared.steps.Change.{Change}
 
 -- ---- the parts of a condition
 

@@ -14,13 +14,13 @@ use Rattle.ar_facts.specs.Names.{phase_name}
 use Rattle.ar_facts.specs.Report.{event_line, metric_line, run_line}
 use Rattle.ar_show.specs.PartText.{shown_part}
 use Rattle.ar_show.specs.Words.{units}
-use Rattle.ar_reason.specs.Counts.{changed_counts}
+use Rattle.ar_progress.specs.Counts.{changed_counts}
 use Rattle.ar_reason.specs.Reason.{EvaluatedCondition, Given, Reason, RunReasons, gave_error, gave_misfit, gave_nothing, gave_value}
-use Rattle.ar_reason.specs.Settled.{settled_by}
-use Rattle.ar_reason.specs.Waiting.{run_waits_for, waits_for}
-use Rattle.ar_reason.specs.Why.{why_words}
-use Rattle.ar_reason.specs.declared.steps.Change.{Change}
-use Rattle.ar_reason.specs.declared.why.Why.{Why}
+use Rattle.ar_progress.specs.Settled.{settled_by}
+use Rattle.ar_progress.specs.Waiting.{run_waits_for, waits_for}
+use Rattle.ar_progress.specs.Why.{why_words}
+use Rattle.ar_progress.specs.declared.steps.Change.{Change}
+use Rattle.ar_progress.specs.declared.why.Why.{Why}
 
 -- ---- the lines of a condition
 

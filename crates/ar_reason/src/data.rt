@@ -23,25 +23,25 @@ ghost use Rattle.ar_show.specs.PartText.{shown_part};
 ghost use Rattle.ar_reason.specs.Reason.{conditions_by, conditions_of, conditions_on, evaluated_if_there, evaluated_with, has_failed, lacks_conditions, reason_of, reason_with, reasons_of, run_reasons};
 ghost use Rattle.ar_reason.specs.ReasonData.{change_data, evaluated_data, evaluation_data, failure_if_there, gap_data, given_error, given_misfit, given_value, operands_if_there, part_data, reason_data, reasons_data, run_reasons_data, value_if_there, waiting_data, was_needed};
 ghost use Rattle.ar_reason.specs.Views.{given_view};
-ghost use Rattle.ar_reason.specs.Waiting.{waits_for};
-ghost use Rattle.ar_reason.specs.Why.{why_of, why_words};
+ghost use Rattle.ar_progress.specs.Waiting.{waits_for};
+ghost use Rattle.ar_progress.specs.Why.{why_of, why_words};
 ghost use Rattle.ar_reason.specs.Private.Found.{AreFoundSteps};
 ghost use Rattle.ar_reason.specs.Private.Trees.{condition_tree, trees_of, run_trees, judge_trees_view};
 
-use crate::chosen::Chosen;
 use crate::evaluated::{JudgeTrees, NamedTree, trees_at, trees_of};
 use crate::given::{Given, given_of};
 use crate::lines::{judge_at, lacks_conditions};
 use crate::parts::{failure_name, is_failure};
-use crate::steps::{Change, Step, is_chosen_run, traced};
-use crate::waiting::{push_waiting, run_waits_for, settled_by};
-use crate::why::{push_why, why_of};
 use ar_bundle::{Bundle, Entry, Finished, MetricPart, RunPart, What};
 use ar_explain::{Evaluation, Explanation, Line, Said, tell};
 use ar_facts::{phase_name, write_counts, write_event, write_limits, write_metric};
 use ar_judge::{Judge, Sample, SharedCondition, Which};
 use ar_limits::{Counts, Limits, Phase, RunState};
 use ar_object::{JsonText, VERSION};
+use ar_progress::{
+    Change, Chosen, Step, is_chosen_run, push_waiting, push_why, run_waits_for, settled_by, traced,
+    why_of,
+};
 use ar_show::push_part;
 use ar_tree::Typed;
 use ar_value::value::Value;

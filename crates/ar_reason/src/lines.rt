@@ -14,23 +14,22 @@ ghost use Rattle.ar_facts.specs.Report.{run_line};
 ghost use Rattle.ar_reason.specs.Reason.{conditions_by, conditions_of, lacks_conditions, reason_of, reasons_of, run_reasons};
 ghost use Rattle.ar_reason.specs.ReasonText.{change_line, condition_text, given_line, line_if_there, metric_lines, no_condition_line, outcome_lines, reason_text, reasons_text, run_reasons_text, waits_line, why_line};
 ghost use Rattle.ar_reason.specs.Views.{given_view};
-ghost use Rattle.ar_reason.specs.Waiting.{run_waits_for, waits_for};
-ghost use Rattle.ar_reason.specs.Why.{why_of};
+ghost use Rattle.ar_progress.specs.Waiting.{run_waits_for, waits_for};
+ghost use Rattle.ar_progress.specs.Why.{why_of};
 ghost use Rattle.ar_reason.specs.Private.Found.{AreFoundSteps};
 ghost use Rattle.ar_reason.specs.Private.Trees.{trees_of, run_trees, judge_trees_view};
 
-use crate::chosen::Chosen;
-use crate::counts::push_counts;
 use crate::evaluated::{JudgeTrees, trees_at, trees_of};
 use crate::given::{Given, given_of};
 use crate::parts::push_conditions;
-use crate::steps::{Change, Step, is_chosen_run, traced};
-use crate::waiting::{push_waiting, run_waits_for, settled_by};
-use crate::why::{Why, push_why, why_of};
 use ar_bundle::{Bundle, Entry, Finished, MetricPart, RunPart, What};
 use ar_facts::{phase_name, put_event, put_metric, put_run_line};
 use ar_judge::{Judge, Sample, Which};
 use ar_limits::{Counts, Limits, Phase, RunState};
+use ar_progress::{
+    Change, Chosen, Step, Why, is_chosen_run, push_counts, push_waiting, push_why, run_waits_for,
+    settled_by, traced, why_of,
+};
 use serde_json::Value as Json;
 use std::alloc::{AllocError, Global};
 

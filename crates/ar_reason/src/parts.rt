@@ -7,7 +7,6 @@ ghost use Rattle.ar_operand.specs.Failures.{failure_of};
 ghost use Rattle.ar_tree.specs.Views.{typed_view};
 ghost use Rattle.ar_explain.specs.Views.{explanation_view, line_view, said_view};
 ghost use Rattle.ar_show.specs.PartText.{shown_part};
-ghost use Rattle.ar_show.specs.Words.{plural};
 ghost use Rattle.ar_reason.specs.Reason.{conditions_on, evaluated_if_there, evaluated_with, has_failed, is_failure};
 ghost use Rattle.ar_reason.specs.Private.Trees.{condition_tree, trees_of, judge_trees_view};
 ghost use Rattle.ar_reason.specs.ReasonText.{condition_text, between_text, failure_name, held_text, hold_word, item_text, left_out_line, operands_text, part_line, parts_text, said_part, said_text};
@@ -16,7 +15,7 @@ use crate::evaluated::{JudgeTrees, NamedTree};
 use ar_explain::{Explanation, Line, Said, tell};
 use ar_judge::{Judge, SharedCondition, Which};
 use ar_operand::operand::Failure;
-use ar_show::push_part;
+use ar_show::{plural, push_part};
 use ar_tree::Typed;
 use ar_value::value::Value;
 use std::alloc::{AllocError, Global};
@@ -46,15 +45,8 @@ fn push_operands(out: &mut String, on: &Option<String>) -> Result<(), AllocError
     }
 }
 
-/// What the word for one thing has at its end where there are `number` of them.
-fn plural(number: u64) -> &'static str
-    ensures { result.now ≡ plural number }
-{
-    if number == 1 { "" } else { "s" }
-}
-
 /// How many things come between two others.
-fn push_between(out: &mut String, what: &str, number: u64) -> Result<(), AllocError>
+fn push_between(out: &mut String, what: &str, number: usize) -> Result<(), AllocError>
     ensures { OnOk result (string_bytes out.new ≡ string_bytes out.old ++ between_text what.now number) }
 {
     write!(out, "{number} {what}{} between", plural(number))
@@ -83,7 +75,7 @@ fn push_gap(out: &mut String, items: usize, held: usize) -> Result<(), AllocErro
     ensures { OnOk result (string_bytes out.new ≡ string_bytes out.old
         ++ (between_text (codes "item") items ++ (codes ", " ++ held_text items held))) }
 {
-    push_between(out, "item", items as u64)?;
+    push_between(out, "item", items)?;
     out.push_str(", ")?;
     push_held(out, items, held)
 }
@@ -164,7 +156,7 @@ fn push_lines_between(out: &mut String, number: u64) -> Result<(), AllocError>
         ++ (codes "    " ++ (between_text (codes "line") number ++ codes "\n"))) }
 {
     out.push_str("    ")?;
-    push_between(out, "line", number)?;
+    push_between(out, "line", number as usize)?;
     out.push_str("\n")
 }
 

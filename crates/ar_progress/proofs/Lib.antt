@@ -1,0 +1,4 @@
+pub mod Completers
+pub mod Histories
+pub mod Settled
+pub mod Waits

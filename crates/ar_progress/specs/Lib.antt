@@ -1,0 +1,7 @@
+pub mod Counts
+pub mod Waiting
+pub mod Settled
+pub mod Steps
+pub mod Why
+pub mod Laws
+pub mod Private

@@ -1,0 +1,58 @@
+-- Why an event closed its run, or what had made it late.
+use Rattle.std.specs.Prelude.{◌&&◌, if◌then◌else◌, ◌++◌, codes, decimal, Option, Some, None, ◌≡◌, refl}
+use Rattle.std.specs.Fmt.{digits}
+use Rattle.ar_value.specs.Terms.{Text}
+use Rattle.ar_bundle.specs.Event.{EventNumber}
+use Rattle.ar_limits.specs.Metric.{is_unsuccessful}
+use Rattle.ar_limits.specs.declared.event.Effect.{Effect}
+use Rattle.ar_limits.specs.declared.event.Effect.TheVariants as effect
+use Rattle.ar_limits.specs.declared.phase.Phase.{Phase}
+use Rattle.ar_limits.specs.declared.phase.Phase.TheVariants as phases
+use Rattle.ar_facts.specs.Names.{phase_name}
+use Rattle.ar_progress.specs.declared.steps.Change.{Change}
+use Rattle.ar_progress.specs.declared.steps.Step.{Step}
+use Rattle.ar_progress.specs.declared.why.Why.{Why}
+use Rattle.ar_progress.specs.declared.why.Why.TheVariants.{Stopped, MetricEnded, AllComplete, Dry, AfterClose, MetricWas}
+
+-- by a stop; by a metric that completed without success; or, as all others, by the last metric that completed
+abbrev pub why_closed : Phase → Option Change → Why
+why_closed phase None = Stopped
+why_closed phase (Some change) = if is_unsuccessful phase then MetricEnded phase else AllComplete
+
+-- the run was closed before, or else its metric was complete
+abbrev pub why_late : (closer : Option EventNumber) → Option Change → (completer : Option EventNumber) → Option Why
+why_late (Some number) change completer = Some (AfterClose number)
+why_late None (Some change) completer = Some (MetricWas change.before.phase completer)
+why_late None None completer = None
+
+-- a dry metric completes without success, and closes nothing
+abbrev pub why_applied : Option Change → Option Why
+why_applied (Some change) =
+    if change.limits.dry && is_unsuccessful change.after.phase then Some (Dry change.after.phase) else None
+why_applied None = None
+
+abbrev pub why_by : Effect → Step → Option Why
+why_by effect.Applied step = why_applied step.change
+why_by (effect.Closed phase) step = Some (why_closed phase step.change)
+why_by effect.Late step = why_late step.closer step.change step.completer
+
+abbrev pub why_of : Step → Option Why
+why_of step = why_by step.entry.effect step
+
+-- ---- in words
+
+abbrev pub why_words : Why → Text
+why_words Stopped = codes "closed: the run was stopped"
+why_words (MetricEnded phase) = codes "closed: the metric is " ++ phase_name phase
+why_words AllComplete = codes "closed: each metric is Successful, or dry and complete"
+why_words (Dry phase) = codes "not closed: the metric is " ++ (phase_name phase ++ codes ", but dry")
+why_words (AfterClose number) = codes "late: event " ++ (decimal number ++ codes " had closed the run")
+why_words (MetricWas phase (Some number)) =
+    (codes "late: the metric was " ++ (phase_name phase ++ codes " since event ")) ++ decimal number
+why_words (MetricWas phase None) = codes "late: the metric was complete"
+
+-- ---- Worked rows
+
+complete_since : why_words (MetricWas phases.Failed (Some 12)) ≡ codes "late: the metric was Failed since event 12"
+unfolding digits
+complete_since = refl
