@@ -1,0 +1,194 @@
+-- What who reads the object of a report finds: members by their names, whatever their order. It is nothing where a
+-- member is missing, or isn't what it should be.
+use Rattle.std.specs.Prelude.{◌≡◌, refl, ℕ, ◌==◌, Bool, true, false, if◌then◌else◌, List, [], ◌∷◌, codes, find, Option, Some, None, option_and_then, option_map}
+use Rattle.std.specs.Str.{bytes_eq}
+use Rattle.serde_json.specs.Data.{Data, Items, item, no_items}
+use Rattle.serde_json.specs.Data as json
+use Rattle.serde_json.specs.Find.{as_str, get}
+use Rattle.ar_value.specs.Fault.{fault_name}
+use Rattle.ar_value.specs.Terms.{Text}
+use Rattle.ar_value.specs.declared.fault.Fault.{Fault}
+use Rattle.ar_value.specs.declared.fault.Fault.TheVariants as faults
+use Rattle.ar_json.specs.Refusals.{shape_fault_name}
+use Rattle.ar_json.specs.declared.value_reading.ShapeFault.{ShapeFault}
+use Rattle.ar_json.specs.declared.value_reading.ShapeFault.TheVariants as misfits
+use Rattle.ar_judge.specs.declared.verdict.Cause.{Cause}
+use Rattle.ar_judge.specs.declared.verdict.Cause.TheVariants as causes
+use Rattle.ar_judge.specs.declared.verdict.Verdict.{Verdict}
+use Rattle.ar_judge.specs.declared.verdict.Verdict.TheVariants as verdicts
+use Rattle.ar_limits.specs.declared.counts.Counts.{Counts}
+use Rattle.ar_limits.specs.declared.event.Effect.{Effect}
+use Rattle.ar_limits.specs.declared.event.Effect.TheVariants as effects
+use Rattle.ar_limits.specs.declared.limits.Limits.{Limits}
+use Rattle.ar_limits.specs.declared.phase.Phase.{Phase}
+use Rattle.ar_limits.specs.declared.phase.Phase.TheVariants as phases
+use Rattle.ar_facts.specs.Facts.{EventFacts, FindingFacts, MetricFacts, RunFacts, judged, stopped}
+use Rattle.ar_facts.specs.Names.{phase_name}
+
+-- ---- values of JSON
+
+-- what is found, and what follows from it
+infixl 10 ◌>>=◌
+abbrev pub ◌>>=◌ : {A B : Type 0} → Option A → (A → Option B) → Option B
+(Some found) >>= next = next found
+None >>= next = None
+
+abbrev pub count_in : Data → Option ℕ
+count_in (json.number (json.unsigned n)) = Some n
+count_in found = None
+
+abbrev pub flag_in : Data → Option Bool
+flag_in (json.boolean holds) = Some holds
+flag_in found = None
+
+-- null has nothing
+abbrev pub unless_null : {A : Type 0} → (Data → Option A) → Data → Option (Option A)
+unless_null read json.null = Some None
+unless_null read found = option_map Some (read found)
+
+abbrev pub each_in : {A : Type 0} → (Data → Option A) → Items → Option (List A)
+each_in read no_items = Some []
+each_in read (item found others) = read found >>= λ first. each_in read others >>= λ rest. Some (first ∷ rest)
+
+abbrev pub list_in : {A : Type 0} → (Data → Option A) → Data → Option (List A)
+list_in read (json.array items) = each_in read items
+list_in read found = None
+
+-- a member of an object
+abbrev pub the : {A : Type 0} → (name : Text) → (Data → Option A) → Data → Option A
+the name read object = get name object >>= read
+
+-- what has a name, of those that may
+abbrev pub named_among : {A : Type 0} → (name_of : A → Text) → List A → (name : Text) → Option A
+named_among name_of all name = find (λ one. bytes_eq (name_of one) name) all
+
+-- ---- metrics
+
+abbrev pub phase_in : Data → Option Phase
+phase_in found = as_str found >>= named_among phase_name
+    (phases.Pending ∷ phases.Running ∷ phases.Successful ∷ phases.Failed ∷ phases.Error ∷ phases.Inconclusive ∷ [])
+
+abbrev pub counts_in : Data → Option Counts
+counts_in object = do
+  successful ← the (codes "successful") count_in object
+  failed ← the (codes "failed") count_in object
+  inconclusive ← the (codes "inconclusive") count_in object
+  error ← the (codes "error") count_in object
+  succession ← the (codes "consecutiveError") count_in object
+  Some (record {
+    successful = successful;
+    failed = failed;
+    inconclusive = inconclusive;
+    error = error;
+    succession = succession;
+  })
+
+abbrev pub limits_in : (dry : Bool) → Data → Option Limits
+limits_in dry object = do
+  failure ← the (codes "failureLimit") count_in object
+  inconclusive ← the (codes "inconclusiveLimit") count_in object
+  consecutive_error ← the (codes "consecutiveErrorLimit") count_in object
+  count ← the (codes "count") (unless_null count_in) object
+  Some (record {
+    failure = failure;
+    inconclusive = inconclusive;
+    consecutive_error = consecutive_error;
+    count = count;
+    dry = dry;
+  })
+
+abbrev pub metric_in : Data → Option MetricFacts
+metric_in object = do
+  name ← the (codes "name") as_str object
+  dry ← the (codes "dryRun") flag_in object
+  limits ← the (codes "limits") (limits_in dry) object
+  phase ← the (codes "phase") phase_in object
+  counts ← the (codes "counts") counts_in object
+  Some (record { name = name; limits = limits; phase = phase; counts = counts })
+
+-- ---- events
+
+abbrev pub fault_in : Data → Option Fault
+fault_in found = as_str found >>= named_among fault_name
+    (faults.IndexOutOfRange ∷ faults.NilOperand ∷ faults.Overflow ∷ faults.DivisionByZero ∷ [])
+
+abbrev pub misfit_in : Data → Option ShapeFault
+misfit_in found = as_str found >>= named_among shape_fault_name
+    (misfits.WrongKind ∷ misfits.FloatNumber ∷ misfits.NotFinite ∷ misfits.BadDecimal ∷ misfits.OutOfRange
+    ∷ misfits.ListTooLong ∷ misfits.MissingField ∷ misfits.OutOfMemory ∷ [])
+
+-- an error's cause, of an event
+abbrev pub cause_named : (name : Text) → (event : Data) → Option Cause
+cause_named name event =
+    if bytes_eq name (codes "provider") then Some causes.Provider
+    else if bytes_eq name (codes "shape") then option_map causes.Shape (the (codes "fault") misfit_in event)
+    else if bytes_eq name (codes "success") then option_map causes.Success (the (codes "fault") fault_in event)
+    else if bytes_eq name (codes "failure") then option_map causes.Failure (the (codes "fault") fault_in event)
+    else None
+
+abbrev pub cause_in : (event : Data) → Option Cause
+cause_in event = the (codes "cause") as_str event >>= λ name. cause_named name event
+
+abbrev pub verdict_named : (name : Text) → (event : Data) → Option Verdict
+verdict_named name event =
+    if bytes_eq name (codes "Successful") then Some verdicts.Successful
+    else if bytes_eq name (codes "Failed") then Some verdicts.Failed
+    else if bytes_eq name (codes "Inconclusive") then Some verdicts.Inconclusive
+    else if bytes_eq name (codes "Error") then option_map verdicts.Error (cause_in event)
+    else None
+
+abbrev pub verdict_in : (event : Data) → Option Verdict
+verdict_in event = the (codes "verdict") as_str event >>= λ name. verdict_named name event
+
+abbrev pub judged_in : (event : Data) → Option FindingFacts
+judged_in event = the (codes "metric") as_str event >>= λ metric. option_map (judged metric) (verdict_in event)
+
+abbrev pub finding_in : (event : Data) → Option FindingFacts
+finding_in event = the (codes "stop") flag_in event >>= λ stop. if stop then Some stopped else judged_in event
+
+abbrev pub effect_named : (name : Text) → (event : Data) → Option Effect
+effect_named name event =
+    if bytes_eq name (codes "applied") then Some effects.Applied
+    else if bytes_eq name (codes "late") then Some effects.Late
+    else if bytes_eq name (codes "closed") then option_map effects.Closed (the (codes "phase") phase_in event)
+    else None
+
+abbrev pub effect_in : (event : Data) → Option Effect
+effect_in event = the (codes "effect") as_str event >>= λ name. effect_named name event
+
+abbrev pub event_in : Data → Option EventFacts
+event_in event = do
+  number ← the (codes "number") count_in event
+  finding ← finding_in event
+  effect ← effect_in event
+  Some (record { number = number; finding = finding; effect = effect })
+
+-- ---- runs, and the report
+
+abbrev pub run_in : Data → Option RunFacts
+run_in object = do
+  name ← the (codes "name") as_str object
+  phase ← the (codes "phase") phase_in object
+  metrics ← the (codes "metrics") (list_in metric_in) object
+  events ← the (codes "events") (list_in event_in) object
+  Some (record { name = name; phase = phase; metrics = metrics; events = events })
+
+-- the form of a report has version 1
+abbrev pub report_in : Data → Option (List RunFacts)
+report_in object = the (codes "version") count_in object >>= λ version.
+    if version == 1 then the (codes "runs") (list_in run_in) object else None
+
+-- ---- worked rows
+
+unordered : counts_in (json.object
+    (json.member (codes "successful") (json.number (json.unsigned 7))
+    (json.member (codes "failed") (json.number (json.unsigned 2))
+    (json.member (codes "error") (json.number (json.unsigned 3))
+    (json.member (codes "consecutiveError") (json.number (json.unsigned 1))
+    (json.member (codes "inconclusive") (json.number (json.unsigned 0)) json.no_members))))))
+    ≡ Some (record { successful = 7; failed = 2; inconclusive = 0; error = 3; succession = 1 })
+unordered = refl
+
+no_number : the (codes "failed") count_in (json.object (json.member (codes "failed") (json.string (codes "2")) json.no_members))
+    ≡ None
+no_number = refl
