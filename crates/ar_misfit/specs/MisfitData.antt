@@ -1,5 +1,5 @@
 -- A misfit as JSON (RFC 8259): one object. Its members are in the byte order of their names.
-use Rattle.std.specs.Prelude.{List, ◌++◌, codes, decimal, flat_map, map}
+use Rattle.std.specs.Prelude.{◌++◌, codes, decimal, flat_map, map}
 use Rattle.serde_json.specs.Data.{Data, member, no_members, object, string}
 use Rattle.ar_value.specs.Terms.{Text}
 use Rattle.ar_json.specs.Refusals.{shape_fault_name}

@@ -1,6 +1,6 @@
 //! What is said of a misfit.
 
-ghost use Rattle.std.specs.Prelude.{◌≡◌, ◌++◌, OnOk, Some, map, option_map, string_bytes};
+ghost use Rattle.std.specs.Prelude.{◌≡◌, ◌++◌, OnOk, Some, flat_map, map, option_map, string_bytes};
 ghost use Rattle.serde_json.specs.View.{number_view, view};
 ghost use Rattle.ar_value.specs.View.{shape_view};
 ghost use Rattle.ar_misfit.specs.MisfitText.{advice, advice_text, expected_text, fault_text, float_advice, found_text, misfit_text, number_shown, path_text, step_text};
@@ -112,16 +112,24 @@ fn push_step(out: &mut String, step: Step<'_>) -> Result<(), AllocError>
     }
 }
 
-fn push_path(out: &mut String, path: &[Step<'_>]) -> Result<(), AllocError>
-    ensures { OnOk result (string_bytes out.new ≡ string_bytes out.old ++ path_text (map step_view path.now)) }
+fn push_steps(out: &mut String, path: &[Step<'_>]) -> Result<(), AllocError>
+    ensures { OnOk result
+        (string_bytes out.new ≡ string_bytes out.old ++ flat_map step_text (map step_view path.now)) }
 {
-    if path.is_empty() {
-        return out.push_str("the value");
-    }
     for step in path {
         push_step(out, *step)?;
     }
     Ok(())
+}
+
+/// The steps, or words for the whole value where there are none.
+fn push_path(out: &mut String, path: &[Step<'_>]) -> Result<(), AllocError>
+    ensures { OnOk result (string_bytes out.new ≡ string_bytes out.old ++ path_text (map step_view path.now)) }
+{
+    match path {
+        [] => out.push_str("the value"),
+        [_, ..] => push_steps(out, path),
+    }
 }
 
 /// What comes after the path.

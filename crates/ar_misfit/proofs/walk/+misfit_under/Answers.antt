@@ -1,4 +1,4 @@
-use Rattle.std.proofs.Common.{arith, List, ℕ, Some, sym, ◌∙◌, ap, option_map, rules}
+use Rattle.std.proofs.Common.{arith, Some, sym, ◌∙◌, ap, option_map, rules}
 use Rattle.serde_json.proofs.Views.{view-Array}
 use Rattle.serde_json.specs.View.{view}
 use Rattle.ar_value.specs.View.{shape_view}
@@ -12,7 +12,7 @@ use Rattle.ar_misfit.proofs.walk.+misfit_under.Goals as goal
 
 pub list_misfit-returns-then-len-max : goal.list_misfit-returns-then-len-max
 list_misfit-returns-then-len-max t c =
-    ap (λ (found : Misfit). Some found) c.here-in-Array.ensures
+    ap (λ (found : Misfit). Some found) c.here.ensures
     ∙ sym (too_long_list (shape_view c.args.expected.now) (shape_view c.args.item.now) c.args.max (view c.args.json.now) c.in-Array.items.items
     (ap view c.in-Array.is ∙ view-Array c.in-Array.items) (omega (arith, c.len.ensures, c.if-len-max.true)))
 
