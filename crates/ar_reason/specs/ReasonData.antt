@@ -22,7 +22,7 @@ use Rattle.ar_progress.specs.declared.steps.Change.{Change}
 use Rattle.ar_progress.specs.declared.waiting.Progress.{Progress}
 use Rattle.ar_progress.specs.declared.why.Why.{Why}
 use Rattle.ar_progress.specs.declared.why.Why.TheVariants as whys
-use Rattle.ar_show.specs.Exact.{exact_data}
+use Rattle.ar_exact.specs.Exact.{exact_data}
 use Rattle.ar_show.specs.PartText.{shown_part}
 use Rattle.ar_show.specs.Values.{shown_value}
 use Rattle.ar_reason.specs.Reason.{EvaluatedCondition, Given, Reason, RunReasons, gave_error, gave_misfit, gave_value}
@@ -110,28 +110,28 @@ change_data change = object
     (member (codes "limits") (limits_data change.limits) no_members)))
 
 -- why an event closed its run, didn't, or came late: a kind with its numbers, null where the kind has none
-abbrev pub why_members : (count event : Data) → (kind : Text) → (limit phase value : Data) → Data
+abbrev pub why_members : (count event : Option ℕ) → (kind : Text) → (limit phase : Option Text) → (value : Option ℕ) → Data
 why_members count event kind limit phase value = object
-    (member (codes "count") count
-    (member (codes "event") event
+    (member (codes "count") (count_or_null count)
+    (member (codes "event") (count_or_null event)
     (member (codes "kind") (string kind)
-    (member (codes "limit") limit
-    (member (codes "phase") phase
-    (member (codes "value") value no_members))))))
+    (member (codes "limit") (text_or_null limit)
+    (member (codes "phase") (text_or_null phase)
+    (member (codes "value") (count_or_null value) no_members))))))
 
 -- the count `count` exceeded the limit, which allows `value`
 abbrev pub excess_data : Phase → Excess → Data
-excess_data phase excess = why_members (count_data excess.count) null (codes "limit")
-    (string (limit_name excess.limit)) (string (phase_name phase)) (count_data excess.value)
+excess_data phase excess = why_members (Some excess.count) None (codes "limit")
+    (Some (limit_name excess.limit)) (Some (phase_name phase)) (Some excess.value)
 
 abbrev pub why_data : Why → Data
-why_data whys.Stopped = why_members null null (codes "stop") null null null
+why_data whys.Stopped = why_members None None (codes "stop") None None None
 why_data (whys.Exceeded phase excess) = excess_data phase excess
-why_data whys.AllComplete = why_members null null (codes "complete") null null null
-why_data (whys.Dry phase) = why_members null null (codes "dry") null (string (phase_name phase)) null
-why_data (whys.AfterClose number) = why_members null (count_data number) (codes "runClosed") null null null
+why_data whys.AllComplete = why_members None None (codes "complete") None None None
+why_data (whys.Dry phase) = why_members None None (codes "dry") None (Some (phase_name phase)) None
+why_data (whys.AfterClose number) = why_members None (Some number) (codes "runClosed") None None None
 why_data (whys.MetricWas phase since) =
-    why_members null (count_or_null since) (codes "metricComplete") null (string (phase_name phase)) null
+    why_members None since (codes "metricComplete") None (Some (phase_name phase)) None
 
 abbrev pub reason_members : (conditions : List Data)
     → (counts error event misfit no_condition reason shown value : Data) → Data

@@ -37,7 +37,7 @@ use ar_explain::{Evaluation, Explanation, Line, Said, tell};
 use ar_facts::{phase_name, write_counts, write_event, write_limits, write_metric};
 use ar_judge::{Judge, Sample, SharedCondition, Which};
 use ar_limits::{Counts, Limits, Phase, RunState};
-use ar_object::{JsonText, VERSION};
+use ar_object::JsonText;
 use ar_progress::{
     Change, Chosen, Step, is_chosen_run, push_waiting, push_why, run_waits_for, settled_by, traced,
     why_of,
@@ -47,6 +47,9 @@ use ar_tree::Typed;
 use ar_value::value::Value;
 use serde_json::Value as Json;
 use std::alloc::{AllocError, Global};
+
+/// The version of the form of the object.
+const FORM: u64 = 2;
 
 // ---- the parts of a condition
 
@@ -296,31 +299,77 @@ fn write_evaluated(
     }
 }
 
-fn given_value(given: &Given) -> Option<&str>
-    ensures { option_map (λ text. text.now) result ≡ given_value (given_view given.now) }
+/// Writes the text of a provider's error, or null.
+fn put_error(json: &mut JsonText, given: &Given<'_>)
+    ensures { AddsMember (codes "error") (given_error (given_view given.now)) json.old.written json.new.written }
 {
     match given {
-        Given::Value(text) => Some(text.as_str()),
-        Given::Nothing | Given::Error(_) | Given::Misfit(_) => None,
+        Given::Error(text) => json.put_text("error", text),
+        Given::Nothing | Given::Misfit(_) | Given::Value(_) => json.put_null("error"),
     }
 }
 
-fn given_error(given: &Given) -> Option<&str>
-    ensures { option_map (λ text. text.now) result ≡ given_error (given_view given.now) }
+/// The pointer to the value of a measurement.
+fn value_pointer(alloc: Global, number: u64) -> Result<String, AllocError>
+    ensures { IfOk result (λ pointer. string_bytes pointer ≡ value_pointer number) }
 {
-    match given {
-        Given::Error(text) => Some(text.as_str()),
-        Given::Nothing | Given::Misfit(_) | Given::Value(_) => None,
-    }
+    let mut pointer = String::new(alloc);
+    write!(pointer, "/measurements/{number}/value")?;
+    Ok(pointer)
 }
 
-fn given_misfit(given: &Given) -> Option<&str>
-    ensures { option_map (λ text. text.now) result ≡ given_misfit (given_view given.now) }
+/// Writes where a measured value doesn't fit its shape, or null.
+fn put_misfit(
+    alloc: Global,
+    json: &mut JsonText,
+    number: u64,
+    given: &Given<'_>,
+) -> Result<(), AllocError>
+    ensures { OnOk result (AddsMember (codes "misfit") (given_misfit number (given_view given.now))
+        json.old.written json.new.written) }
 {
-    match given {
-        Given::Misfit(text) => Some(text.as_str()),
-        Given::Nothing | Given::Error(_) | Given::Value(_) => None,
-    }
+    let Given::Misfit(misfit) = given else {
+        json.put_null("misfit");
+        return Ok(());
+    };
+    let pointer = value_pointer(alloc, number)?;
+    json.put_key("misfit");
+    write_misfit(alloc, json, &pointer, misfit)
+}
+
+fn value_text(alloc: Global, value: &Value) -> Result<String, AllocError>
+    ensures { IfOk result (λ text. string_bytes text ≡ shown_value (value_view value.now)) }
+{
+    let mut text = String::new(alloc);
+    push_value(&mut text, OperandRef::Borrowed(value_ref(value)))?;
+    Ok(text)
+}
+
+/// Writes a measured value as lines show it, or null.
+fn put_shown(alloc: Global, json: &mut JsonText, given: &Given<'_>) -> Result<(), AllocError>
+    ensures { OnOk result (AddsMember (codes "shown") (given_shown (given_view given.now))
+        json.old.written json.new.written) }
+{
+    let Given::Value(value) = given else {
+        json.put_null("shown");
+        return Ok(());
+    };
+    let text = value_text(alloc, value)?;
+    json.put_text("shown", &text);
+    Ok(())
+}
+
+/// Writes a measured value where JSON has it, or null.
+fn put_value(alloc: Global, json: &mut JsonText, given: &Given<'_>) -> Result<(), AllocError>
+    ensures { OnOk result (AddsMember (codes "value") (given_value (given_view given.now))
+        json.old.written json.new.written) }
+{
+    let Given::Value(value) = given else {
+        json.put_null("value");
+        return Ok(());
+    };
+    exact_of(alloc, OperandRef::Borrowed(value_ref(value)))?.put(json, "value");
+    Ok(())
 }
 
 fn write_change(json: &mut JsonText, change: Change)
@@ -347,30 +396,84 @@ fn put_change(json: &mut JsonText, change: Option<Change>)
     write_change(json, change)
 }
 
-/// Writes words, or null where there are none.
-fn put_words(json: &mut JsonText, name: &str, words: Option<String>)
-    ensures { AddsMember name.now (text_or_null (option_map string_bytes words))
-        json.old.written json.new.written }
+/// Writes a number, or null where there is none.
+fn put_number_if_there(json: &mut JsonText, name: &str, number: Option<u64>)
+    ensures { AddsMember name.now (count_or_null number) json.old.written json.new.written }
 {
-    match words {
-        Some(words) => json.put_text(name, &words),
+    match number {
+        Some(number) => json.put_count(name, number),
         None => json.put_null(name),
     }
 }
 
-/// Writes why an event closed its run or came late, or null.
-fn put_why(alloc: Global, json: &mut JsonText, step: Step) -> Result<(), AllocError>
-    ensures { OnOk result (AddsMember (codes "reason") (text_or_null (option_map why_words (why_of step)))
-        json.old.written json.new.written) }
+fn write_why_members(
+    json: &mut JsonText,
+    count: Option<u64>,
+    event: Option<u64>,
+    kind: &str,
+    limit: Option<&str>,
+    phase: Option<&str>,
+    value: Option<u64>,
+)
+    ensures { AddsValue (why_members count event kind.now (option_map (λ limit. limit.now) limit.entry)
+        (option_map (λ phase. phase.now) phase.entry) value) json.old.written json.new.written }
 {
-    let Some(why) = why_of(step) else {
-        json.put_null("reason");
-        return Ok(());
+    json.begin_object();
+    put_number_if_there(json, "count", count);
+    put_number_if_there(json, "event", event);
+    json.put_text("kind", kind);
+    json.put_text_if_there("limit", limit);
+    json.put_text_if_there("phase", phase);
+    put_number_if_there(json, "value", value);
+    json.end_object()
+}
+
+/// Writes the count that exceeded its limit.
+fn write_excess(json: &mut JsonText, phase: Phase, excess: Excess)
+    ensures { AddsValue (excess_data phase excess) json.old.written json.new.written }
+{
+    let (limit, phase) = (excess.limit.name(), phase_name(phase));
+    let (count, value) = (excess.count, u64::from(excess.value));
+    write_why_members(
+        json,
+        Some(count),
+        None,
+        "limit",
+        Some(limit),
+        Some(phase),
+        Some(value),
+    )
+}
+
+fn write_why(json: &mut JsonText, why: Why)
+    ensures { AddsValue (why_data why) json.old.written json.new.written }
+{
+    match why {
+        Why::Stopped => write_why_members(json, None, None, "stop", None, None, None),
+        Why::Exceeded(phase, excess) => write_excess(json, phase, excess),
+        Why::AllComplete => write_why_members(json, None, None, "complete", None, None, None),
+        Why::Dry(phase) => {
+            write_why_members(json, None, None, "dry", None, Some(phase_name(phase)), None)
+        }
+        Why::AfterClose(number) => {
+            write_why_members(json, None, Some(number), "runClosed", None, None, None)
+        }
+        Why::MetricWas(phase, since) => {
+            let phase = Some(phase_name(phase));
+            write_why_members(json, None, since, "metricComplete", None, phase, None)
+        }
+    }
+}
+
+/// Writes why an event closed its run, didn't, or came late, or null.
+fn put_why(json: &mut JsonText, why: Option<Why>)
+    ensures { AddsMember (codes "reason") (option_map_or why_data why null) json.old.written json.new.written }
+{
+    let Some(why) = why else {
+        return json.put_null("reason");
     };
-    let mut words = String::new(alloc);
-    push_why(&mut words, why)?;
-    json.put_text("reason", &words);
-    Ok(())
+    json.put_key("reason");
+    write_why(json, why)
 }
 
 /// Writes what led to an event of a run, for which the provider gave this.
@@ -382,7 +485,7 @@ fn write_reason_of(
     trees: &[JudgeTrees],
     step: Step,
     what: &What,
-    given: &Given,
+    given: &Given<'_>,
 ) -> Result<(), AllocError>
     requires found { finding_at bundle.now step.entry.number ≡ Some step.entry.finding }
     requires trees { map judge_trees_view trees.now ≡ run_trees bundle.now run }
@@ -396,13 +499,14 @@ fn write_reason_of(
     write_evaluated(alloc, json, bundle, run, trees, what)?;
     json.end_list();
     put_change(json, step.change);
-    json.put_text_if_there("error", given_error(given));
+    put_error(json, given);
     json.put_key("event");
     write_event(json, bundle, step.entry);
-    json.put_text_if_there("misfit", given_misfit(given));
+    put_misfit(alloc, json, step.entry.number, given)?;
     json.put_flag("noCondition", lacks_conditions(bundle, run, what));
-    put_why(alloc, json, step)?;
-    json.put_text_if_there("value", given_value(given));
+    put_why(json, why_of(step));
+    put_shown(alloc, json, given)?;
+    put_value(alloc, json, given)?;
     json.end_object();
     Ok(())
 }
@@ -454,71 +558,151 @@ fn put_reasons(
 
 // ---- metrics
 
-/// Writes what a metric waits for, or null where it is complete.
-fn put_waits(
-    alloc: Global,
-    json: &mut JsonText,
-    phase: Phase,
-    limits: Limits,
-    counts: Counts,
-) -> Result<(), AllocError>
-    ensures { OnOk result (AddsMember (codes "waitsFor") (text_or_null (waits_for phase limits counts))
-        json.old.written json.new.written) }
+/// A number of measurements, or the greatest that has 64 bits.
+fn put_measured(json: &mut JsonText, measured: u128)
+    ensures { AddsMember (codes "measured") (measured_data measured) json.old.written json.new.written }
 {
-    if phase.is_complete() {
-        json.put_null("waitsFor");
-        return Ok(());
-    }
-    let mut words = String::new(alloc);
-    push_waiting(&mut words, limits, counts)?;
-    json.put_text("waitsFor", &words);
-    Ok(())
+    let most = u128::from(u64::MAX);
+    json.put_count("measured", measured.min(most) as u64)
+}
+
+fn write_progress(json: &mut JsonText, progress: Progress)
+    ensures { AddsValue (progress_data progress) json.old.written json.new.written }
+{
+    json.begin_object();
+    json.put_count_if_there("count", progress.count);
+    put_measured(json, progress.measured);
+    json.end_object()
+}
+
+/// Writes what a metric waits for, or null where it is complete.
+fn put_waits(json: &mut JsonText, waits: Option<Progress>)
+    ensures { AddsMember (codes "waitsFor") (option_map_or progress_data waits null)
+        json.old.written json.new.written }
+{
+    let Some(progress) = waits else {
+        return json.put_null("waitsFor");
+    };
+    json.put_key("waitsFor");
+    write_progress(json, progress)
+}
+
+fn write_settled(json: &mut JsonText, settled: Settled)
+    ensures { AddsValue (settled_data settled) json.old.written json.new.written }
+{
+    json.begin_object();
+    json.put_count_if_there("count", settled.count);
+    json.put_count("event", settled.closer);
+    put_measured(json, settled.measured);
+    json.end_object()
+}
+
+/// Writes by which event the close of its run settled a metric, or null.
+fn put_settled(json: &mut JsonText, settled: Option<Settled>)
+    ensures { AddsMember (codes "settled") (option_map_or settled_data settled null)
+        json.old.written json.new.written }
+{
+    let Some(settled) = settled else {
+        return json.put_null("settled");
+    };
+    json.put_key("settled");
+    write_settled(json, settled)
 }
 
 /// Writes a metric, whose run this event closed, if one did.
 fn write_waiting(
-    alloc: Global,
     json: &mut JsonText,
     metric: &MetricPart,
     limits: Limits,
     phase: Phase,
     counts: Counts,
     closer: Option<u64>,
-) -> Result<(), AllocError>
-    ensures { OnOk result (AddsValue (waiting_data closer (metric_facts metric.now limits phase counts))
-        json.old.written json.new.written) }
+)
+    ensures { AddsValue (waiting_data closer (metric_facts metric.now limits phase counts))
+        json.old.written json.new.written }
 {
     json.begin_object();
     json.put_key("metric");
     write_metric(json, metric, limits, phase, counts);
-    put_words(json, "settled", settled_by(alloc, closer, limits, counts)?);
-    put_waits(alloc, json, phase, limits, counts)?;
-    json.end_object();
-    Ok(())
+    put_settled(json, settled_by(closer, limits, counts));
+    put_waits(json, waits_for(phase, limits, counts));
+    json.end_object()
 }
 
 /// Writes a run's metrics, as the run is.
 fn put_metrics(
-    alloc: Global,
     json: &mut JsonText,
     metrics: &[MetricPart],
     limits: &[Limits],
     state: &RunState,
     closer: Option<u64>,
-) -> Result<(), AllocError>
+)
     requires limits { length limits.now ≡ length metrics.now }
     requires metrics { length state.now.limits ≡ length metrics.now }
-    ensures { OnOk result (AddsMember (codes "metrics") (array_of (map (waiting_data closer)
+    ensures { AddsMember (codes "metrics") (array_of (map (waiting_data closer)
         (facts_of_metrics metrics.now limits.now state.now.phases state.now.counts)))
-        json.old.written json.new.written) }
+        json.old.written json.new.written }
 {
     json.begin_list("metrics");
     for (number, metric) in metrics.iter().enumerate() {
         let (phase, counts) = (state.metric_phase(number), state.counts(number));
-        write_waiting(alloc, json, metric, limits[number], phase, counts, closer)?;
+        write_waiting(json, metric, limits[number], phase, counts, closer);
     }
-    json.end_list();
-    Ok(())
+    json.end_list()
+}
+
+/// Writes a metric that its run waits for, if the metric isn't complete.
+fn write_awaited(json: &mut JsonText, metric: &MetricPart, limits: Limits, counts: Counts)
+    ensures { (phase : Phase) → AddsValue (awaited_data (metric_facts metric.now limits phase counts))
+        json.old.written json.new.written }
+{
+    let progress = progress_of(limits, counts);
+    json.begin_object();
+    json.put_count_if_there("count", progress.count);
+    put_measured(json, progress.measured);
+    json.put_text("metric", metric.name.as_str());
+    json.end_object()
+}
+
+/// Writes the metrics that aren't complete.
+fn write_all_awaited(
+    json: &mut JsonText,
+    metrics: &[MetricPart],
+    limits: &[Limits],
+    state: &RunState,
+)
+    requires limits { length limits.now ≡ length metrics.now }
+    requires metrics { length state.now.limits ≡ length metrics.now }
+    ensures { AddsValues (flat_map awaited
+        (facts_of_metrics metrics.now limits.now state.now.phases state.now.counts))
+        json.old.written json.new.written }
+{
+    for (number, metric) in metrics.iter().enumerate() {
+        if !state.metric_phase(number).is_complete() {
+            write_awaited(json, metric, limits[number], state.counts(number));
+        }
+    }
+}
+
+/// Writes what a run waits for, or null where it is closed.
+fn put_run_waits(
+    json: &mut JsonText,
+    metrics: &[MetricPart],
+    limits: &[Limits],
+    state: &RunState,
+)
+    requires limits { length limits.now ≡ length metrics.now }
+    requires metrics { length state.now.limits ≡ length metrics.now }
+    ensures { AddsMember (codes "waitsFor") (run_waits_data state.now.phase
+        (facts_of_metrics metrics.now limits.now state.now.phases state.now.counts))
+        json.old.written json.new.written }
+{
+    if state.phase().is_complete() {
+        return json.put_null("waitsFor");
+    }
+    json.begin_list("waitsFor");
+    write_all_awaited(json, metrics, limits, state);
+    json.end_list()
 }
 
 // ---- runs
@@ -547,13 +731,12 @@ fn write_run(
     let trees = trees_of(alloc, run.judges.as_slice())?;
     let (metrics, limits) = (bundle.metrics(), run.limits.as_slice());
     let found = traced(alloc, bundle, chosen, run, entries)?;
-    let waits = run_waits_for(alloc, metrics, limits, state)?;
     json.begin_object();
     put_reasons(alloc, json, document, bundle, number, &trees, &found.steps)?;
-    put_metrics(alloc, json, metrics, limits, state, found.closer)?;
+    put_metrics(json, metrics, limits, state, found.closer);
     json.put_text("name", run.name.as_str());
     json.put_text("phase", phase_name(state.phase()));
-    put_words(json, "waitsFor", waits);
+    put_run_waits(json, metrics, limits, state);
     json.end_object();
     Ok(())
 }
@@ -607,7 +790,7 @@ pub fn reasons_json(
     let mut json = JsonText::new(alloc);
     json.begin_object();
     put_runs(alloc, &mut json, document, bundle, finished, chosen)?;
-    json.put_count("version", VERSION);
+    json.put_count("version", FORM);
     json.end_object();
     json.finish()
 }
