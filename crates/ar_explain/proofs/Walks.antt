@@ -1,19 +1,21 @@
 -- What functions of the walk give and say, one after another.
-use Rattle.std.proofs.Common.{◌≡◌, ℕ, Bool, true, false, List, [], ◌++◌, Option, None, Result, Ok, Err, refl, ap, sym, ◌∙◌, subst, true≢false}
+use Rattle.std.proofs.Common.{◌≡◌, ℕ, Bool, true, false, List, [], ◌∷◌, ◌++◌, Option, None, Some, Result, Ok, Err, refl, ap, sym, ◌∙◌, subst, true≢false}
 use Rattle.std.specs.Prelude.{◌||◌, IfOk, not, if◌then◌else◌}
 use Rattle.std.specs.declared.alloc.AllocError.{AllocError}
 use Rattle.std.proofs.lemmas.List.{append-nil}
 use Rattle.ar_value.specs.Answer.{◌>>=◌}
-use Rattle.ar_value.specs.Operators.{Failure, Meaning, field_in}
+use Rattle.ar_value.specs.Operators.{Failure, Meaning, field_in, unary_meaning}
 use Rattle.ar_value.specs.Terms.{Text}
 use Rattle.ar_value.specs.Value.{Value}
 use Rattle.ar_value.specs.declared.operator.Predicate.{Predicate}
+use Rattle.ar_value.specs.declared.operator.UnaryOperator.{UnaryOperator}
 use Rattle.ar_tree.specs.Meaning.{mean}
 use Rattle.ar_tree.specs.Typed.{Typed}
+use Rattle.ar_tree.specs.Typed as typed
 use Rattle.ar_operand.specs.Operand.{Meets, failure_of}
 use Rattle.ar_operand.specs.declared.operand.Failure.{Failure as FailureCode}
-use Rattle.ar_explain.specs.Lines.{Explanation, Line, Outcome, Seen, earlier_lines, explained, gap_lines, is_shown, item_lines, lines_on_item, own_lines, outcome_of}
-use Rattle.ar_explain.specs.Operands.{failed_on, on_value}
+use Rattle.ar_explain.specs.Lines.{Explanation, Line, Outcome, Seen, earlier_lines, explained, gap_lines, is_shown, item_line, item_lines, lines_on_item, operand_own_lines, own_lines, outcome_of}
+use Rattle.ar_explain.specs.Operands.{failed_on, on_value, one_operand}
 use Rattle.ar_explain.specs.Private.Failed.{MeetsOn, came, came_on, on_of}
 use Rattle.ar_explain.specs.Private.Keeping.{with_lines}
 use Rattle.ar_explain.specs.Private.Places.{Explains, ExplainsOn, Place, as_meant, at_item, earlier_at, failed_at, holds_meant, holds_on, lines_at, lines_on, meant, with_lines_at}
@@ -112,31 +114,68 @@ after_list view place old mid new result m x taken next on first later value one
 
 -- ---- a part's own line
 
--- a part's own line is as what came of it
-own_as_came : {X : Type 0} (view : X → Value) (met : Result X FailedCode) (meaning : Meaning) (on : Option Text) (tree : Typed) → MeetsOn view met meaning on
-    → own_lines tree (came view met) (came_on met) ≡ own_lines tree meaning on
-own_as_came view (Ok x) meaning on tree is = ap (λ m. own_lines tree m on) (sym is)
-own_as_came view (Err failed) meaning on tree is = ap (λ m. own_lines tree m (on_of failed)) (sym is.0) ∙ ap (λ on. own_lines tree meaning on) is.1
+-- what is said of what came is said of what is meant
+module _ (said : Meaning → Option Text → List Line) (of_value : (value : Value) (on : Option Text) → said (Ok value) None ≡ said (Ok value) on) where
+  said_of_came : {X : Type 0} (view : X → Value) (met : Result X FailedCode) (meaning : Meaning) (on : Option Text) → MeetsOn view met meaning on
+      → said (came view met) (came_on met) ≡ said meaning on
+  said_of_came view (Ok x) meaning on is = of_value (view x) on ∙ ap (λ m. said m on) (sym is)
+  said_of_came view (Err failed) meaning on is = ap (λ m. said m (on_of failed)) (sym is.0) ∙ ap (λ on. said meaning on) is.1
+
+  said_after : {X : Type 0} (view : X → Value) (place : Place) (old mid new : ExplanationCode) (met : Result X FailedCode) (meaning : Meaning) (on : Option Text) (earlier : List Line)
+      → MeetsOn view met meaning on → explanation_view mid ≡ with_lines_at place old earlier → explanation_view new ≡ with_lines_at place mid (said (came view met) (came_on met))
+      → explanation_view new ≡ with_lines_at place old (earlier ++ said meaning on)
+  said_after view place old mid new met meaning on earlier is one two =
+      more place old mid new earlier (said meaning on) one
+      (two ∙ ap (λ lines. with_lines_at place mid lines) (said_of_came view met meaning on is))
 
 pub own_after : {X : Type 0} (view : X → Value) (place : Place) (old mid new : ExplanationCode) (met : Result X FailedCode) (meaning : Meaning) (on : Option Text) (tree : Typed) (earlier : List Line)
     → MeetsOn view met meaning on → explanation_view mid ≡ with_lines_at place old earlier → explanation_view new ≡ with_lines_at place mid (own_lines tree (came view met) (came_on met))
     → explanation_view new ≡ with_lines_at place old (earlier ++ own_lines tree meaning on)
 own_after view place old mid new met meaning on tree earlier is one two =
-    more place old mid new earlier (own_lines tree meaning on) one
-    (two ∙ ap (λ lines. with_lines_at place mid lines) (own_as_came view met meaning on tree is))
+    said_after (own_lines tree) (λ value on. refl) view place old mid new met meaning on earlier is one two
+
+-- ---- operands of unary operators
+
+of_operand : (operator : UnaryOperator) (tree : Typed) (value : Value) (on : Option Text) → operand_own_lines operator tree (Ok value) None ≡ operand_own_lines operator tree (Ok value) on
+of_operand operator tree value on = refl
+
+module _ {X : Type 0} (view : X → Value) (place : Place) (old mid new : ExplanationCode) (met : Result X FailedCode) (operator : UnaryOperator) (tree : Typed)
+    (is : MeetsOn view met (meant place tree) (failed_at place tree)) (one : explanation_view mid ≡ with_lines_at place old (earlier_at place tree))
+    (two : explanation_view new ≡ with_lines_at place mid (operand_own_lines operator tree (came view met) (came_on met))) where
+  operand_said : explanation_view new ≡ with_lines_at place old (earlier_at place (typed.unary operator tree))
+  operand_said =
+      said_after (operand_own_lines operator tree) (of_operand operator tree) view place old mid new met (meant place tree) (failed_at place tree) (earlier_at place tree) is one two
+
+  pub after_operand : (x : X) (result : Result (Result X FailedCode) AllocError) → met ≡ Ok x
+      → IfOk result (λ met. MeetsOn view met (unary_meaning operator (view x)) (Some (one_operand (view x))))
+      → ExplainsOn view place old new result (meant place (typed.unary operator tree)) (failed_at place (typed.unary operator tree)) (earlier_at place (typed.unary operator tree))
+  after_operand x (Ok found) met_is applied =
+      (subst (λ m. MeetsOn view found (m >>= unary_meaning operator) (on_value m (λ value. Some (one_operand value)))) (sym (value_came view met x (meant place tree) (failed_at place tree) met_is is)) applied, operand_said)
+  after_operand x (Err error) met_is applied = tt
+
+  pub after_failure : (failed inside : FailedCode) → met ≡ Err failed → inside.failure ≡ failed.failure → on_of inside ≡ None
+      → ExplainsOn view place old new (Ok (Err inside)) (meant place (typed.unary operator tree)) (failed_at place (typed.unary operator tree)) (earlier_at place (typed.unary operator tree))
+  after_failure failed inside met_is same none =
+      let fails = (failure_came view met failed (meant place tree) (failed_at place tree) met_is is).0 in (
+        (
+          ap (λ m. m >>= unary_meaning operator) fails ∙ ap (λ failure. Err (failure_of failure)) (sym same),
+          none ∙ ap (λ m. on_value m (λ value. Some (one_operand value))) (sym fails),
+        ),
+        operand_said,
+      )
 
 -- ---- branches
 
 -- ---- items of predicates
 
 pub held_on : (place inner : Place) (number : ℕ) (value : Value) (silent : Bool) (old new : ExplanationCode) (result : Result (Result Bool FailureCode) AllocError) (body : Typed)
-    → inner ≡ at_item number value silent place → Explains (λ (it : Bool). it) inner old new result (holds_meant inner body) (lines_at inner body)
+    → inner ≡ at_item number value silent place → Explains (λ (it : Bool). it) inner old new result (holds_meant inner body) (item_line body value ∷ lines_at inner body)
     → IfOk result (λ holds. Meets (λ (it : Bool). it) holds (holds_on place body value)
     × (explanation_view new ≡ with_lines silent place.items (explanation_view old) (lines_on_item number (lines_on place body value))))
 held_on place inner number value silent old new (Err error) body is said = tt
 held_on place inner number value silent old new (Ok met) body is said =
     let at : Explains (λ (it : Bool). it) (at_item number value silent place) old new (Ok met) (holds_on place body value) (lines_on place body value) =
-    subst (λ (inner : Place). Explains (λ (it : Bool). it) inner old new (Ok met) (holds_meant inner body) (lines_at inner body)) is said in
+    subst (λ (inner : Place). Explains (λ (it : Bool). it) inner old new (Ok met) (holds_meant inner body) (item_line body value ∷ lines_at inner body)) is said in
     (at.0, at.1 ∙ with_item silent place.items number (explanation_view old) (lines_on place body value))
 
 -- nothing is said of an item that isn't shown, and nothing at all in silence

@@ -2,7 +2,7 @@
 use Rattle.std.specs.Prelude.{map, option_map, string_bytes}
 use Rattle.ar_tree.specs.Views.{typed_view}
 use Rattle.ar_operand.specs.Failures.{failure_of}
-use Rattle.ar_explain.specs.Lines.{Explanation, Line, Outcome, failed, passed, unneeded, valued}
+use Rattle.ar_explain.specs.Lines.{Explanation, Line, Outcome, failed, is_item, passed, unneeded, valued}
 use Rattle.ar_explain.specs.declared.explanation.Explanation.{Explanation as ExplanationCode}
 use Rattle.ar_explain.specs.declared.explanation.Line.{Line as LineCode}
 use Rattle.ar_explain.specs.declared.explanation.Said.{Said as SaidCode}
@@ -12,6 +12,7 @@ abbrev pub said_view : SaidCode → Outcome
 said_view (said.Valued text) = valued (string_bytes text)
 said_view (said.Failed failure on) = failed (failure_of failure) (option_map string_bytes on)
 said_view said.Unneeded = unneeded
+said_view (said.Item text) = is_item (string_bytes text)
 said_view (said.Passed items held) = passed items held
 
 abbrev pub line_view : LineCode → Line

@@ -48,7 +48,8 @@ pub fn parts_evaluated_are_needed()
 {}
 
 /// Each line that says a value or a failure is of an entry of the trace: it has the entry's part and items, and says
-/// its meaning, and where a failure arises, on which operands.
+/// its meaning, and where a failure arises, on which operands. So is each line that shows an item: the entry's part is
+/// evaluated on it.
 pub fn lines_are_of_entries()
     ensures { (result : Value) (here : Option Value) (tree : Typed)
         → All (IsFrom result (trace result here tree)) (all_lines result here tree) }
@@ -61,8 +62,8 @@ pub fn root_line_is_last()
         ≡ earlier ++ own_line tree (mean result here tree) (failed_on result here tree) ∷ []) }
 {}
 
-/// The last item that a predicate looks at has the line of its body, if the body has one, whatever other items are
-/// left out of the lines.
+/// The last item that a predicate looks at has its line and those of the body on it, whatever other items are left out
+/// of the lines.
 pub fn last_items_have_lines()
     ensures { (result : Value) (here : Option Value) (predicate : Predicate) (many body : Typed) (first : Value)
         (others : Items) → mean result here many ≡ Ok (list (item first others))

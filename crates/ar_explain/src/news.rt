@@ -4,7 +4,7 @@ ghost use Rattle.std.specs.Prelude.{◌≡◌, ◌∷◌, [], Ok, OnOk};
 ghost use Rattle.ar_value.specs.Value.{bool};
 ghost use Rattle.ar_tree.specs.Views.{typed_view};
 ghost use Rattle.ar_operand.specs.Operand.{operand_view};
-ghost use Rattle.ar_explain.specs.Lines.{changes_value, gap_lines, is_literal, own_lines, outcome_of, says_more, unneeded_line};
+ghost use Rattle.ar_explain.specs.Lines.{changes_value, gap_lines, is_literal, is_missing, operand_own_lines, own_lines, outcome_of, says_more, unneeded_line};
 ghost use Rattle.ar_explain.specs.Private.Failed.{came, came_on};
 ghost use Rattle.ar_explain.specs.Private.Places.{Explains, place_view, said_by, seen_view, with_lines_at};
 ghost use Rattle.ar_explain.specs.Views.{explanation_view};
@@ -13,6 +13,7 @@ use crate::explanation::{Explanation, Remark};
 use crate::failed::Failed;
 use crate::place::Place;
 use crate::seen::Seen;
+use ar_machine::operand::borrowed::ValueRef;
 use ar_operand::operand::{Failure, Operand};
 use ar_tree::Typed;
 use ar_value::operator::UnaryOperator;
@@ -39,10 +40,9 @@ fn says_more(tree: &Typed) -> bool
     ensures { result ≡ says_more (typed_view tree.now) }
 {
     match tree {
-        Typed::Result | Typed::Literal(_) | Typed::List { .. } => false,
+        Typed::Result | Typed::Item | Typed::Literal(_) | Typed::List { .. } => false,
         Typed::Unary { operator, operand } => changes_value(*operator, is_literal(operand)),
-        Typed::Item
-        | Typed::Field { .. }
+        Typed::Field { .. }
         | Typed::Binary { .. }
         | Typed::And { .. }
         | Typed::Or { .. }
@@ -76,6 +76,31 @@ pub(crate) fn say_own<'t>(
         return Ok(());
     }
     out.say(alloc, place, tree, remark_on(met))
+}
+
+/// Whether an operator's failure says of its operand that it is nil.
+fn is_missing(operator: UnaryOperator, met: &Result<Operand<'_>, Failed>) -> bool
+    ensures { result ≡ is_missing operator (came operand_view met.now) }
+{
+    matches!(operator, UnaryOperator::Need) && matches!(met, Ok(Operand::Value(ValueRef::Nil)))
+}
+
+/// Says what came of the operand of an operator, where it is news and the operator's failure doesn't say it.
+pub(crate) fn say_operand<'t>(
+    alloc: Global,
+    operator: UnaryOperator,
+    tree: &'t Typed,
+    met: &Result<Operand<'_>, Failed>,
+    place: &Place<'_>,
+    out: &mut Explanation<'t>,
+) -> Result<(), AllocError>
+    ensures { OnOk result (explanation_view out.new ≡ with_lines_at (place_view place.now) out.old
+        (operand_own_lines operator (typed_view tree.now) (came operand_view met.now) (came_on met.now))) }
+{
+    if is_missing(operator, met) {
+        return Ok(());
+    }
+    say_own(alloc, tree, met, place, out)
 }
 
 /// Says of a part that it isn't needed, since a boolean is the answer without it.

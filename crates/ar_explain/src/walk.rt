@@ -22,7 +22,7 @@ use crate::applied::{binary_on, field_on, inherited, operand_ref, plain, scalar_
 use crate::explanation::{Evaluation, Explanation, Remark, said_of};
 use crate::failed::Failed;
 use crate::looked::{Looked, is_enough};
-use crate::news::{remark_on, say_gap, say_own, unneeded};
+use crate::news::{remark_on, say_gap, say_operand, say_own, unneeded};
 use crate::place::Place;
 use crate::seen::Seen;
 use ar_machine::operand::borrowed::{ValueRef, value_ref};
@@ -144,11 +144,13 @@ fn unary<'t: 'v, 'v>(
     ensures { ExplainsOn operand_view (place_view place.now) out.old out.new result
         (meant (place_view place.now) (typed.unary operator (typed_view operand.now)))
         (failed_at (place_view place.now) (typed.unary operator (typed_view operand.now)))
-        (lines_at (place_view place.now) (typed_view operand.now)) }
+        (earlier_at (place_view place.now) (typed.unary operator (typed_view operand.now))) }
 {
-    match walk(alloc, operand, place, out)? {
+    let met = parts(alloc, operand, place, out)?;
+    say_operand(alloc, operator, operand, &met, place, out)?;
+    match met {
         Ok(operand) => unary_on(alloc, operator, operand),
-        Err(failure) => Ok(Err(Failed::inside(failure))),
+        Err(failed) => Ok(Err(Failed::inside(failed.failure))),
     }
 }
 
@@ -478,7 +480,7 @@ fn look<'t: 'v, 'v>(
     holds_at(alloc, body, looked, place, false, out)
 }
 
-/// Whether a body holds of an item; nothing is said of it where it is silent.
+/// Whether a body holds of an item. Unless it is silent, the item is shown, and then what came of the body's parts.
 #[cycle(walk)]
 fn holds_at<'t: 'v, 'v>(
     alloc: Global,
@@ -495,6 +497,7 @@ fn holds_at<'t: 'v, 'v>(
         (lines_on (place_view place.now) (typed_view body.now) (value_of looked.entry.item))))) }
 {
     let inner = place.on_item(alloc, looked.number, looked.item, silent)?;
+    out.say(alloc, &inner, body, Remark::Item(looked.item))?;
     holds(alloc, body, &inner, out)
 }
 

@@ -15,7 +15,7 @@ use Rattle.ar_tree.specs.declared.typed.Typed.{Typed as TypedCode}
 use Rattle.ar_machine.specs.Operand.{value_of}
 use Rattle.ar_operand.specs.Operand.{Meets, failure_of, operand_view}
 use Rattle.ar_operand.specs.declared.operand.Failure.{Failure as FailureCode}
-use Rattle.ar_explain.specs.Lines.{Explanation, Line, Outcome, Seen, each_item_lines, earlier_lines, failed, items_lines, none_seen, passed, unneeded, valued, with_own}
+use Rattle.ar_explain.specs.Lines.{Explanation, Line, Outcome, Seen, body_lines, each_item_lines, earlier_lines, failed, is_item, items_lines, none_seen, passed, unneeded, valued, with_own}
 use Rattle.ar_explain.specs.Operands.{failed_on, item_failed_on, two_operands, on_value, refused_or}
 use Rattle.ar_explain.specs.Private.Failed.{MeetsOn}
 use Rattle.ar_explain.specs.Private.Keeping.{with_lines}
@@ -110,7 +110,7 @@ abbrev pub holds_on : Place → Typed → Value → Result Bool Failure
 holds_on place body value = mean place.result (Some value) body >>= boolean
 
 abbrev pub lines_on : Place → Typed → Value → List Line
-lines_on place body value = with_own place.result (Some value) body (earlier_lines place.result (Some value) body)
+lines_on place body value = body_lines place.result body value
 
 -- what a predicate gives over the items of an operand, and the lines of those
 abbrev pub over_meant : Predicate → Value → Place → Typed → Meaning
@@ -129,6 +129,7 @@ abbrev pub said_by : Remark → Outcome
 said_by (remarks.Value operand) = valued (shown_value (operand_view operand.now))
 said_by (remarks.Failure failure on) = failed (failure_of failure) (option_map (λ text. text.now) on)
 said_by remarks.Unneeded = unneeded
+said_by (remarks.Item value) = is_item (shown_value (value_of value))
 said_by (remarks.Passed seen) = passed seen.items seen.held
 
 -- what was met, as a meaning

@@ -11,12 +11,26 @@ use Rattle.ar_tree.specs.Typed as typed
 use Rattle.ar_tree.specs.Views.{typed_view}
 use Rattle.ar_tree.specs.declared.typed.Typed.{the_lemmas}
 use Rattle.ar_operand.specs.Operand.{failure_of, operand_view}
-use Rattle.ar_explain.specs.Lines.{Seen, each_item_lines, none_seen, unneeded_line}
+use Rattle.ar_explain.specs.Lines.{Seen, each_item_lines, item_line, none_seen, unneeded_line}
 use Rattle.ar_explain.specs.Private.Failed.{on_of}
 use Rattle.ar_explain.specs.Private.Places.{ExplainsOn, earlier_at, failed_at, holds_meant, holds_on, items_failed_at, items_lines_at, items_meant, lines_at, lines_on, meant, operated, operated_on, over_failed_on, place_view, scalar_failed_at, scalar_meant, seen_view, typeds_view, with_lines_at}
-use Rattle.ar_explain.proofs.Walks.{after_left, after_list, after_taken, failure_came, held_on, look_once, look_twice, more, otherwise, own_after, value_came, value_is}
+use Rattle.ar_explain.proofs.Walks.{after_failure, after_left, after_list, after_operand, after_taken, also, failure_came, held_on, look_once, look_twice, more, otherwise, own_after, value_came, value_is}
 use Rattle.ar_explain.proofs.Loops.{all_items_made, all_lines_said, failed_after, failed_here, item_lines_after, item_lines_failed, items_after, items_failed, lines_after, none_within, rest_after, rest_of_all}
 use Rattle.ar_explain.proofs.walk.+walk.Goals as goal
+
+pub unary-returns-in-Ok : goal.unary-returns-in-Ok
+unary-returns-in-Ok t c =
+    let place = place_view c.args.place.now in
+    let met = c.in_ok-met.ensures in
+    after_operand operand_view place c.args.out.now c.parts.new.out c.say_operand.new.out c.in_ok-met.met c.args.operator (typed_view c.args.operand.now) met.0 met.1 c.in_ok-say_operand.ensures
+    c.in-Ok.operand c.unary_on.result c.in-Ok.is c.unary_on.ensures
+
+pub unary-returns-in-Err : goal.unary-returns-in-Err
+unary-returns-in-Err t c =
+    let place = place_view c.args.place.now in
+    let met = c.in_ok-met.ensures in
+    after_failure operand_view place c.args.out.now c.parts.new.out c.say_operand.new.out c.in_ok-met.met c.args.operator (typed_view c.args.operand.now) met.0 met.1 c.in_ok-say_operand.ensures
+    c.in-Err.failed c.inside.result c.in-Err.is c.inside.ensures.failure c.inside.ensures.on
 
 pub binary-returns-in-Ok : goal.binary-returns-in-Ok
 binary-returns-in-Ok t c =
@@ -80,9 +94,12 @@ over-returns-in-Ok t c =
 
 pub holds_at-returns : goal.holds_at-returns
 holds_at-returns t c =
-    let inner = c.in_ok-inner.ensures in
-    held_on (place_view c.args.place.now) (place_view c.in_ok-inner.inner) c.args.looked.number (value_of c.args.looked.item) c.args.silent c.args.out.now c.holds.new.out c.holds.result
-    (typed_view c.args.body.now) inner c.holds.ensures
+    let inner = place_view c.in_ok-inner.inner in
+    let body = typed_view c.args.body.now in
+    let value = value_of c.args.looked.item in
+    held_on (place_view c.args.place.now) inner c.args.looked.number value c.args.silent c.args.out.now c.holds.new.out c.holds.result body c.in_ok-inner.ensures
+    (also (λ (it : Bool). it) inner c.args.out.now c.say.new.self c.holds.new.out c.holds.result (holds_meant inner body) (item_line body value ∷ []) (lines_at inner body) c.in_ok-say.ensures
+    c.holds.ensures)
 
 pub walk-returns : goal.walk-returns
 walk-returns t c =
