@@ -1,4 +1,6 @@
+pub mod Changes
+pub mod Closes
 pub mod Completers
+pub mod Fronts
 pub mod Histories
-pub mod Settled
 pub mod Waits

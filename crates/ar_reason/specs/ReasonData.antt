@@ -13,8 +13,8 @@ use Rattle.ar_object.specs.Object.{array_of, count_data, text_or_null}
 use Rattle.ar_show.specs.PartText.{shown_part}
 use Rattle.ar_reason.specs.Reason.{EvaluatedCondition, Given, Reason, RunReasons, gave_error, gave_misfit, gave_value}
 use Rattle.ar_reason.specs.ReasonText.{failure_name}
-use Rattle.ar_progress.specs.Settled.{settled_by}
-use Rattle.ar_progress.specs.Waiting.{run_waits_for, waits_for}
+use Rattle.ar_progress.specs.Settled.{settled_by, settled_text}
+use Rattle.ar_progress.specs.Waiting.{run_waits_for, waiting_text, waits_for}
 use Rattle.ar_progress.specs.Why.{why_words}
 use Rattle.ar_progress.specs.declared.steps.Change.{Change}
 
@@ -114,8 +114,9 @@ reason_data reason =
 abbrev pub waiting_data : (closer : Option EventNumber) → MetricFacts → Data
 waiting_data closer metric = object
     (member (codes "metric") (metric_data metric)
-    (member (codes "settled") (text_or_null (settled_by closer metric.limits metric.counts))
-    (member (codes "waitsFor") (text_or_null (waits_for metric.phase metric.limits metric.counts)) no_members)))
+    (member (codes "settled") (text_or_null (option_map settled_text (settled_by closer metric.limits metric.counts)))
+    (member (codes "waitsFor")
+    (text_or_null (option_map waiting_text (waits_for metric.phase metric.limits metric.counts))) no_members)))
 
 abbrev pub run_members : (name : Text) → Phase → (waits : Option Text) → (metrics events : List Data) → Data
 run_members name phase waits metrics events = object

@@ -23,7 +23,8 @@ ghost use Rattle.ar_show.specs.PartText.{shown_part};
 ghost use Rattle.ar_reason.specs.Reason.{conditions_by, conditions_of, conditions_on, evaluated_if_there, evaluated_with, has_failed, lacks_conditions, reason_of, reason_with, reasons_of, run_reasons};
 ghost use Rattle.ar_reason.specs.ReasonData.{change_data, evaluated_data, evaluation_data, failure_if_there, gap_data, given_error, given_misfit, given_value, operands_if_there, part_data, reason_data, reasons_data, run_reasons_data, value_if_there, waiting_data, was_needed};
 ghost use Rattle.ar_reason.specs.Views.{given_view};
-ghost use Rattle.ar_progress.specs.Waiting.{waits_for};
+ghost use Rattle.ar_progress.specs.Settled.{settled_text};
+ghost use Rattle.ar_progress.specs.Waiting.{waiting_text};
 ghost use Rattle.ar_progress.specs.Why.{why_of, why_words};
 ghost use Rattle.ar_reason.specs.Private.Found.{AreFoundSteps};
 ghost use Rattle.ar_reason.specs.Private.Trees.{condition_tree, trees_of, run_trees, judge_trees_view};
@@ -39,8 +40,8 @@ use ar_judge::{Judge, Sample, SharedCondition, Which};
 use ar_limits::{Counts, Limits, Phase, RunState};
 use ar_object::{JsonText, VERSION};
 use ar_progress::{
-    Change, Chosen, Step, is_chosen_run, push_waiting, push_why, run_waits_for, settled_by, traced,
-    why_of,
+    Change, Chosen, Progress, Settled, Step, is_chosen_run, push_settled, push_waiting, push_why,
+    run_waits_for, settled_by, traced, waits_for, why_of,
 };
 use ar_show::push_part;
 use ar_tree::Typed;
@@ -454,23 +455,36 @@ fn put_reasons(
 
 // ---- metrics
 
-/// Writes what a metric waits for, or null where it is complete.
-fn put_waits(
+/// Writes that the close of a run settled a metric, or null.
+fn put_settled(
     alloc: Global,
     json: &mut JsonText,
-    phase: Phase,
-    limits: Limits,
-    counts: Counts,
+    settled: Option<Settled>,
 ) -> Result<(), AllocError>
-    ensures { OnOk result (AddsMember (codes "waitsFor") (text_or_null (waits_for phase limits counts))
+    ensures { OnOk result (AddsMember (codes "settled") (text_or_null (option_map settled_text settled))
         json.old.written json.new.written) }
 {
-    if phase.is_complete() {
+    let Some(settled) = settled else {
+        json.put_null("settled");
+        return Ok(());
+    };
+    let mut words = String::new(alloc);
+    push_settled(&mut words, settled)?;
+    json.put_text("settled", &words);
+    Ok(())
+}
+
+/// Writes what a metric waits for, or null where it is complete.
+fn put_waits(alloc: Global, json: &mut JsonText, waits: Option<Progress>) -> Result<(), AllocError>
+    ensures { OnOk result (AddsMember (codes "waitsFor") (text_or_null (option_map waiting_text waits))
+        json.old.written json.new.written) }
+{
+    let Some(progress) = waits else {
         json.put_null("waitsFor");
         return Ok(());
-    }
+    };
     let mut words = String::new(alloc);
-    push_waiting(&mut words, limits, counts)?;
+    push_waiting(&mut words, progress)?;
     json.put_text("waitsFor", &words);
     Ok(())
 }
@@ -491,8 +505,8 @@ fn write_waiting(
     json.begin_object();
     json.put_key("metric");
     write_metric(json, metric, limits, phase, counts);
-    put_words(json, "settled", settled_by(alloc, closer, limits, counts)?);
-    put_waits(alloc, json, phase, limits, counts)?;
+    put_settled(alloc, json, settled_by(closer, limits, counts))?;
+    put_waits(alloc, json, waits_for(phase, limits, counts))?;
     json.end_object();
     Ok(())
 }
