@@ -1,6 +1,9 @@
 pub mod Changes
 pub mod Closes
 pub mod Completers
+pub mod Entries
+pub mod Exceeding
 pub mod Fronts
 pub mod Histories
+pub mod Reasons
 pub mod Waits

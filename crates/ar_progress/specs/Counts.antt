@@ -5,7 +5,7 @@ use Rattle.ar_value.specs.Terms.{Text}
 use Rattle.ar_limits.specs.declared.counts.Counts.{Counts}
 use Rattle.ar_limits.specs.declared.limits.Limits.{Limits}
 use Rattle.ar_limits.specs.Metric.{counted}
-use Rattle.ar_progress.specs.Excess.{count_name, count_of, limit_name, limit_of}
+use Rattle.ar_progress.specs.Excess.{count_name, bounded_count, limit_name, limit_of}
 use Rattle.ar_progress.specs.declared.excess.LimitName.{LimitName}
 use Rattle.ar_progress.specs.declared.excess.LimitName.TheVariants.{Failure, Inconclusive, ConsecutiveError}
 
@@ -21,8 +21,8 @@ order_text count limit = if nat_lt limit count then codes " > " else codes " <= 
 -- the count that a limit bounds, with that
 unfoldable pub count_and_limit : LimitName → Limits → (before after : Counts) → Text
 count_and_limit name limits before after =
-    count_name name ++ (codes " " ++ (change_text (count_of name before) (count_of name after)
-    ++ (order_text (count_of name after) (limit_of name limits)
+    count_name name ++ (codes " " ++ (change_text (bounded_count name before) (bounded_count name after)
+    ++ (order_text (bounded_count name after) (limit_of name limits)
     ++ (limit_name name ++ (codes " " ++ decimal (limit_of name limits))))))
 
 -- the measurements that count towards the `count`: all but errors

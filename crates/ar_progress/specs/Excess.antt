@@ -29,13 +29,13 @@ limit_of Inconclusive limits = limits.inconclusive
 limit_of ConsecutiveError limits = limits.consecutive_error
 
 -- the consecutive errors are those at the end
-abbrev pub count_of : LimitName → Counts → ℕ
-count_of Failure counts = counts.failed
-count_of Inconclusive counts = counts.inconclusive
-count_of ConsecutiveError counts = counts.succession
+abbrev pub bounded_count : LimitName → Counts → ℕ
+bounded_count Failure counts = counts.failed
+bounded_count Inconclusive counts = counts.inconclusive
+bounded_count ConsecutiveError counts = counts.succession
 
 abbrev pub exceeds : LimitName → Limits → Counts → Bool
-exceeds name limits counts = nat_lt (limit_of name limits) (count_of name counts)
+exceeds name limits counts = nat_lt (limit_of name limits) (bounded_count name counts)
 
 -- ---- by which a metric has its phase
 
@@ -50,7 +50,7 @@ limit_exceeded phases.Successful = None
 
 abbrev pub excess_at : Limits → Counts → LimitName → Excess
 excess_at limits counts name =
-    record { limit = name; value = limit_of name limits; count = count_of name counts }
+    record { limit = name; value = limit_of name limits; count = bounded_count name counts }
 
 abbrev pub excess_of : Phase → Limits → Counts → Option Excess
 excess_of phase limits counts = option_map (excess_at limits counts) (limit_exceeded phase)

@@ -1,7 +1,7 @@
 //! The limits of a metric by their names, and counts that exceed them.
 
 ghost use Rattle.std.specs.Prelude.{◌≡◌, ◌++◌, OnOk, string_bytes};
-ghost use Rattle.ar_progress.specs.Excess.{count_name, count_of, excess_of, excess_text, limit_name, limit_of, limit_exceeded};
+ghost use Rattle.ar_progress.specs.Excess.{count_name, bounded_count, excess_of, excess_text, limit_name, limit_of, limit_exceeded};
 
 use ar_limits::{Counts, Limits, Phase};
 use std::alloc::AllocError;
@@ -54,7 +54,7 @@ impl LimitName {
 
     /// The count that it bounds.
     pub fn count(self, counts: Counts) -> u64
-        ensures { result ≡ count_of self counts }
+        ensures { result ≡ bounded_count self counts }
     {
         match self {
             LimitName::Failure => counts.failed,

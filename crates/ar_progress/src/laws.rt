@@ -1,6 +1,6 @@
 //! Laws of the definitions. Each function does nothing: its contract is the law, which its proof shows.
 
-ghost use Rattle.ar_progress.specs.Laws.{ChangesAreOfFronts, CountsStay, LastCountsAreReported, SettledByTheClose};
+ghost use Rattle.ar_progress.specs.Laws.{ChangesAreOfFronts, ClosersAreFirstOver, CountsStay, LastCountsAreReported, SettledByTheClose};
 
 /// What an event changes are the phase and the counts of its metric: before, those of the events before it, and after,
 /// those of these and it.
@@ -13,6 +13,12 @@ pub fn changes_are_of_fronts()
 pub fn counts_stay()
     ensures until_the_next { CountsStay }
     ensures reported { LastCountsAreReported }
+{}
+
+/// An event that closes its run without success is the first after which the count that the reason names exceeds its
+/// limit.
+pub fn closers_are_first_over()
+    ensures { ClosersAreFirstOver }
 {}
 
 /// A metric whose counts decide nothing in the end is one that its run's close made Successful: its own marks had not
