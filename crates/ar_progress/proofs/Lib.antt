@@ -1,4 +1,9 @@
+pub mod Changes
+pub mod Closes
 pub mod Completers
+pub mod Entries
+pub mod Exceeding
+pub mod Fronts
 pub mod Histories
-pub mod Settled
+pub mod Reasons
 pub mod Waits

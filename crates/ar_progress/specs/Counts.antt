@@ -5,6 +5,9 @@ use Rattle.ar_value.specs.Terms.{Text}
 use Rattle.ar_limits.specs.declared.counts.Counts.{Counts}
 use Rattle.ar_limits.specs.declared.limits.Limits.{Limits}
 use Rattle.ar_limits.specs.Metric.{counted}
+use Rattle.ar_progress.specs.Excess.{count_name, bounded_count, limit_name, limit_of}
+use Rattle.ar_progress.specs.declared.excess.LimitName.{LimitName}
+use Rattle.ar_progress.specs.declared.excess.LimitName.TheVariants.{Failure, Inconclusive, ConsecutiveError}
 
 -- a number before and after, once where it stayed the same
 abbrev pub change_text : (before after : ℕ) → Text
@@ -15,11 +18,12 @@ change_text before after =
 abbrev pub order_text : (count limit : ℕ) → Text
 order_text count limit = if nat_lt limit count then codes " > " else codes " <= "
 
--- a count with its limit
-unfoldable pub count_and_limit : (name : Text) → (before after : ℕ) → (limit_name : Text) → (limit : ℕ) → Text
-count_and_limit name before after limit_name limit =
-    name ++ (codes " " ++ (change_text before after ++ (order_text after limit
-    ++ (limit_name ++ (codes " " ++ decimal limit)))))
+-- the count that a limit bounds, with that
+unfoldable pub count_and_limit : LimitName → Limits → (before after : Counts) → Text
+count_and_limit name limits before after =
+    count_name name ++ (codes " " ++ (change_text (bounded_count name before) (bounded_count name after)
+    ++ (order_text (bounded_count name after) (limit_of name limits)
+    ++ (limit_name name ++ (codes " " ++ decimal (limit_of name limits))))))
 
 -- the measurements that count towards the `count`: all but errors
 unfoldable pub measured_text : (before after : ℕ) → (count : Option ℕ) → Text
@@ -28,16 +32,13 @@ measured_text before after (Some count) =
 measured_text before after None = codes "measured " ++ (change_text before after ++ codes ", no count")
 
 -- the same after another one
-unfoldable pub next_limit : (name : Text) → (before after : ℕ) → (limit_name : Text) → (limit : ℕ) → Text
-next_limit name before after limit_name limit = codes ", " ++ count_and_limit name before after limit_name limit
+unfoldable pub next_limit : LimitName → Limits → (before after : Counts) → Text
+next_limit name limits before after = codes ", " ++ count_and_limit name limits before after
 
 abbrev pub limits_text : Limits → (before after : Counts) → Text
 limits_text limits before after =
-    count_and_limit (codes "failed") before.failed after.failed (codes "failureLimit") limits.failure
-    ++ (next_limit (codes "inconclusive") before.inconclusive after.inconclusive
-    (codes "inconclusiveLimit") limits.inconclusive
-    ++ next_limit (codes "consecutiveError") before.succession after.succession
-    (codes "consecutiveErrorLimit") limits.consecutive_error)
+    count_and_limit Failure limits before after
+    ++ (next_limit Inconclusive limits before after ++ next_limit ConsecutiveError limits before after)
 
 unfoldable pub changed_counts : Limits → (before after : Counts) → Text
 changed_counts limits before after =

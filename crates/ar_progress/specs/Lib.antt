@@ -1,3 +1,4 @@
+pub mod Excess
 pub mod Counts
 pub mod Waiting
 pub mod Settled

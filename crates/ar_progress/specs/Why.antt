@@ -9,15 +9,23 @@ use Rattle.ar_limits.specs.declared.event.Effect.TheVariants as effect
 use Rattle.ar_limits.specs.declared.phase.Phase.{Phase}
 use Rattle.ar_limits.specs.declared.phase.Phase.TheVariants as phases
 use Rattle.ar_facts.specs.Names.{phase_name}
+use Rattle.ar_progress.specs.Excess.{excess_of, excess_text}
+use Rattle.ar_progress.specs.declared.excess.Excess.{Excess}
+use Rattle.ar_progress.specs.declared.excess.LimitName.TheVariants as limits
 use Rattle.ar_progress.specs.declared.steps.Change.{Change}
 use Rattle.ar_progress.specs.declared.steps.Step.{Step}
 use Rattle.ar_progress.specs.declared.why.Why.{Why}
-use Rattle.ar_progress.specs.declared.why.Why.TheVariants.{Stopped, MetricEnded, AllComplete, Dry, AfterClose, MetricWas}
+use Rattle.ar_progress.specs.declared.why.Why.TheVariants.{Stopped, Exceeded, AllComplete, Dry, AfterClose, MetricWas}
 
--- by a stop; by a metric that completed without success; or, as all others, by the last metric that completed
+-- by a count over its limit, or else by the last metric that completed
+abbrev pub why_completed : Phase → Option Excess → Why
+why_completed phase (Some excess) = Exceeded phase excess
+why_completed phase None = AllComplete
+
+-- by a stop, or by the event's metric
 abbrev pub why_closed : Phase → Option Change → Why
 why_closed phase None = Stopped
-why_closed phase (Some change) = if is_unsuccessful phase then MetricEnded phase else AllComplete
+why_closed phase (Some change) = why_completed phase (excess_of phase change.limits change.after.counts)
 
 -- the run was closed before, or else its metric was complete
 abbrev pub why_late : (closer : Option EventNumber) → Option Change → (completer : Option EventNumber) → Option Why
@@ -43,7 +51,8 @@ why_of step = why_by step.entry.effect step
 
 abbrev pub why_words : Why → Text
 why_words Stopped = codes "closed: the run was stopped"
-why_words (MetricEnded phase) = codes "closed: the metric is " ++ phase_name phase
+why_words (Exceeded phase excess) =
+    (codes "closed: the metric is " ++ (phase_name phase ++ codes ": ")) ++ excess_text excess
 why_words AllComplete = codes "closed: each metric is Successful, or dry and complete"
 why_words (Dry phase) = codes "not closed: the metric is " ++ (phase_name phase ++ codes ", but dry")
 why_words (AfterClose number) = codes "late: event " ++ (decimal number ++ codes " had closed the run")
@@ -52,6 +61,11 @@ why_words (MetricWas phase (Some number)) =
 why_words (MetricWas phase None) = codes "late: the metric was complete"
 
 -- ---- Worked rows
+
+over_the_limit : why_words (Exceeded phases.Failed (record { limit = limits.Failure; value = 1; count = 2 }))
+    ≡ codes "closed: the metric is Failed: failed 2 > failureLimit 1"
+unfolding excess_text digits
+over_the_limit = refl
 
 complete_since : why_words (MetricWas phases.Failed (Some 12)) ≡ codes "late: the metric was Failed since event 12"
 unfolding digits

@@ -4,6 +4,7 @@ ghost use Rattle.std.specs.Prelude.{◌≡◌, ◌++◌, OnOk, string_bytes};
 ghost use Rattle.ar_limits.specs.Metric.{counted};
 ghost use Rattle.ar_progress.specs.Counts.{measured_text, count_and_limit, change_text, changed_counts, limits_text, next_limit, order_text};
 
+use crate::excess::LimitName;
 use ar_limits::{Counts, Limits};
 use std::alloc::AllocError;
 use std::fmt::Write;
@@ -34,23 +35,24 @@ fn order_of(count: u64, limit: u32) -> &'static str
     }
 }
 
+/// Appends the count that a limit bounds, before and after a measurement, next to the limit.
 #[tactic(auto, unfolding(crate::specs::Counts::count_and_limit))]
 fn push_count_and_limit(
     out: &mut String,
-    name: &str,
-    before: u64,
-    after: u64,
-    limit_name: &str,
-    limit: u32,
+    name: LimitName,
+    limits: Limits,
+    before: Counts,
+    after: Counts,
 ) -> Result<(), AllocError>
     ensures { OnOk result
-        (string_bytes out.new ≡ string_bytes out.old ++ count_and_limit name.now before after limit_name.now limit) }
+        (string_bytes out.new ≡ string_bytes out.old ++ count_and_limit name limits before after) }
 {
-    out.push_str(name)?;
+    let (was, is, limit) = (name.count(before), name.count(after), name.value(limits));
+    out.push_str(name.count_name())?;
     out.push_str(" ")?;
-    push_change(out, u128::from(before), u128::from(after))?;
-    out.push_str(order_of(after, limit))?;
-    write!(out, "{limit_name} {limit}")
+    push_change(out, u128::from(was), u128::from(is))?;
+    out.push_str(order_of(is, limit))?;
+    write!(out, "{} {limit}", name.name())
 }
 
 #[tactic(auto, unfolding(crate::specs::Counts::measured_text))]
@@ -73,17 +75,16 @@ fn push_measured(
 #[tactic(auto, unfolding(crate::specs::Counts::next_limit))]
 fn push_next_limit(
     out: &mut String,
-    name: &str,
-    before: u64,
-    after: u64,
-    limit_name: &str,
-    limit: u32,
+    name: LimitName,
+    limits: Limits,
+    before: Counts,
+    after: Counts,
 ) -> Result<(), AllocError>
     ensures { OnOk result
-        (string_bytes out.new ≡ string_bytes out.old ++ next_limit name.now before after limit_name.now limit) }
+        (string_bytes out.new ≡ string_bytes out.old ++ next_limit name limits before after) }
 {
     out.push_str(", ")?;
-    push_count_and_limit(out, name, before, after, limit_name, limit)
+    push_count_and_limit(out, name, limits, before, after)
 }
 
 fn push_limits(
@@ -94,23 +95,9 @@ fn push_limits(
 ) -> Result<(), AllocError>
     ensures { OnOk result (string_bytes out.new ≡ string_bytes out.old ++ limits_text limits before after) }
 {
-    let (was, is, limit) = (before.failed, after.failed, limits.failure);
-    push_count_and_limit(out, "failed", was, is, "failureLimit", limit)?;
-    let (was, is, limit) = (before.inconclusive, after.inconclusive, limits.inconclusive);
-    push_next_limit(out, "inconclusive", was, is, "inconclusiveLimit", limit)?;
-    let (was, is, limit) = (
-        before.succession,
-        after.succession,
-        limits.consecutive_error,
-    );
-    push_next_limit(
-        out,
-        "consecutiveError",
-        was,
-        is,
-        "consecutiveErrorLimit",
-        limit,
-    )
+    push_count_and_limit(out, LimitName::Failure, limits, before, after)?;
+    push_next_limit(out, LimitName::Inconclusive, limits, before, after)?;
+    push_next_limit(out, LimitName::ConsecutiveError, limits, before, after)
 }
 
 /// Appends the counts of a metric before and after a measurement, each next to its limit.

@@ -1,10 +1,29 @@
-//! A law of the definitions. The function does nothing: its contract is the law, which its proof shows.
+//! Laws of the definitions. Each function does nothing: its contract is the law, which its proof shows.
 
-ghost use Rattle.ar_progress.specs.Laws.{SettledByTheClose};
+ghost use Rattle.ar_progress.specs.Laws.{ChangesAreOfFronts, ClosersAreFirstOver, CountsStay, LastCountsAreReported, SettledByTheClose};
+
+/// What an event changes are the phase and the counts of its metric: before, those of the events before it, and after,
+/// those of these and it.
+pub fn changes_are_of_fronts()
+    ensures { ChangesAreOfFronts }
+{}
+
+/// The counts of a metric after one of its events stay until its next one; after its last they are those of the report.
+#[tactic(auto, using(crate::proofs::Changes::counts_stay, crate::proofs::Changes::last_counts_are_reported))]
+pub fn counts_stay()
+    ensures until_the_next { CountsStay }
+    ensures reported { LastCountsAreReported }
+{}
+
+/// An event that closes its run without success is the first after which the count that the reason names exceeds its
+/// limit.
+pub fn closers_are_first_over()
+    ensures { ClosersAreFirstOver }
+{}
 
 /// A metric whose counts decide nothing in the end is one that its run's close made Successful: its own marks had not
 /// completed it then.
-#[tactic(auto, using(crate::proofs::Settled::settled_by_the_close))]
+#[tactic(auto, using(crate::proofs::Closes::settled_by_the_close))]
 pub fn settled_by_the_close()
     ensures { SettledByTheClose }
 {}

@@ -1,92 +1,73 @@
-//! What a metric waits for, and what a run does; and that the close of a run settled a metric.
+//! What a metric waits for, and what a run does.
 
-ghost use Rattle.std.specs.Prelude.{◌≡◌, ◌++◌, IfOk, OnOk, is_some, length, option_map, string_bytes};
+ghost use Rattle.std.specs.Prelude.{◌≡◌, ◌++◌, IfOk, OnOk, length, option_map, string_bytes};
 ghost use Rattle.ar_facts.specs.Facts.{facts_of_metrics, metric_facts};
-ghost use Rattle.ar_limits.specs.Metric.{decided_by};
-ghost use Rattle.ar_progress.specs.Settled.{settled_by};
-ghost use Rattle.ar_progress.specs.Waiting.{progress_text, run_waits_for, separated, waiting_text, with_metric};
+ghost use Rattle.ar_progress.specs.Waiting.{progress_of, progress_text, run_waits_for, separated, waiting_text, waits_for, with_metric};
 
 use crate::counts::measured;
 use ar_bundle::MetricPart;
+use ar_quote::push_name;
 use ar_limits::{Counts, Limits, Phase, RunState};
 use std::alloc::{AllocError, Global};
 use std::fmt::Write;
 
 // ---- a metric
 
-/// Appends how many measurements of a metric count, next to its `count`.
-#[tactic(auto, unfolding(crate::specs::Waiting::progress_text))]
-fn push_progress(out: &mut String, limits: Limits, counts: Counts) -> Result<(), AllocError>
-    ensures { OnOk result (string_bytes out.new ≡ string_bytes out.old ++ progress_text limits counts) }
+/// How many measurements of a metric count so far, next to its `count`.
+#[derive(Clone, Copy)]
+pub struct Progress {
+    /// All but errors. The sum may have more than 64 bits.
+    pub measured: u128,
+    pub count: Option<u32>,
+}
+
+/// How far a metric with these counts is.
+pub fn progress_of(limits: Limits, counts: Counts) -> Progress
+    ensures { result ≡ progress_of limits counts }
 {
-    let measured = measured(counts);
-    match limits.count {
+    Progress {
+        measured: measured(counts),
+        count: limits.count,
+    }
+}
+
+/// How far a metric is that isn't complete, and so waits for more.
+pub fn waits_for(phase: Phase, limits: Limits, counts: Counts) -> Option<Progress>
+    ensures { result ≡ waits_for phase limits counts }
+{
+    if phase.is_complete() {
+        None
+    } else {
+        Some(progress_of(limits, counts))
+    }
+}
+
+/// Appends how far a metric is.
+#[tactic(auto, unfolding(crate::specs::Waiting::progress_text))]
+pub(crate) fn push_progress(out: &mut String, progress: Progress) -> Result<(), AllocError>
+    ensures { OnOk result (string_bytes out.new ≡ string_bytes out.old ++ progress_text progress) }
+{
+    let Progress { measured, count } = progress;
+    match count {
         Some(count) => write!(out, "{measured} of count {count}"),
         None => write!(out, "{measured} measured, no count"),
     }
 }
 
-/// Appends what a metric that isn't complete waits for.
+/// Appends what a metric waits for that is so far.
 ///
 /// # Errors
 ///
 /// Out of memory alone.
 #[tactic(auto, unfolding(crate::specs::Waiting::waiting_text))]
-pub fn push_waiting(out: &mut String, limits: Limits, counts: Counts) -> Result<(), AllocError>
-    ensures { OnOk result (string_bytes out.new ≡ string_bytes out.old ++ waiting_text limits counts) }
+pub fn push_waiting(out: &mut String, progress: Progress) -> Result<(), AllocError>
+    ensures { OnOk result (string_bytes out.new ≡ string_bytes out.old ++ waiting_text progress) }
 {
-    push_progress(out, limits, counts)?;
-    match limits.count {
+    push_progress(out, progress)?;
+    match progress.count {
         Some(_) => Ok(()),
         None => out.push_str(": until a limit is exceeded or the run is closed"),
     }
-}
-
-// ---- a metric that the close settled
-
-/// Whether the counts of a metric exceed a limit or reach the `count`.
-fn is_decided(limits: Limits, counts: Counts) -> bool
-    ensures { result ≡ is_some (decided_by limits counts) }
-{
-    if counts.failed > u64::from(limits.failure)
-        || counts.inconclusive > u64::from(limits.inconclusive)
-        || counts.succession > u64::from(limits.consecutive_error)
-    {
-        return true;
-    }
-    match limits.count {
-        Some(count) => measured(counts) >= u128::from(count),
-        None => false,
-    }
-}
-
-/// That the close of its run settled a metric with these counts in the end, if it did.
-///
-/// # Errors
-///
-/// Out of memory alone.
-#[tactic(auto, unfolding(crate::specs::Settled::settled_text))]
-pub fn settled_by(
-    alloc: Global,
-    closer: Option<u64>,
-    limits: Limits,
-    counts: Counts,
-) -> Result<Option<String>, AllocError>
-    ensures { IfOk result (λ words. option_map string_bytes words ≡ settled_by closer limits counts) }
-{
-    let Some(closer) = closer else {
-        return Ok(None);
-    };
-    if is_decided(limits, counts) {
-        return Ok(None);
-    }
-    let mut words = String::new(alloc);
-    write!(
-        words,
-        "Successful, since the run closed at event {closer}; "
-    )?;
-    push_progress(&mut words, limits, counts)?;
-    Ok(Some(words))
 }
 
 // ---- a run
@@ -117,9 +98,9 @@ fn push_waiting_metric(
         return Ok(());
     }
     push_separator(out)?;
-    out.push_str(metric.name.as_str())?;
+    push_name(out, metric.name.as_str())?;
     out.push_str(" ")?;
-    push_progress(out, limits, counts)
+    push_progress(out, progress_of(limits, counts))
 }
 
 /// What a run waits for, if it isn't closed.

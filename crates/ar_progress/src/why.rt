@@ -2,9 +2,10 @@
 
 ghost use Rattle.std.specs.Prelude.{◌≡◌, ◌++◌, OnOk, string_bytes};
 ghost use Rattle.ar_facts.specs.Names.{phase_name};
-ghost use Rattle.ar_progress.specs.declared.why.Why.TheVariants.{MetricWas};
+ghost use Rattle.ar_progress.specs.declared.why.Why.TheVariants.{Exceeded, MetricWas};
 ghost use Rattle.ar_progress.specs.Why.{why_applied, why_closed, why_late, why_of, why_words};
 
+use crate::excess::{Excess, excess_of, push_excess};
 use crate::steps::{Change, Step};
 use ar_facts::phase_name;
 use ar_limits::{Effect, Phase};
@@ -16,8 +17,8 @@ use std::fmt::Write;
 pub enum Why {
     /// The run was stopped from outside.
     Stopped,
-    /// Its metric completed with this phase.
-    MetricEnded(Phase),
+    /// Its metric completed with this phase, since this count exceeded its limit.
+    Exceeded(Phase, Excess),
     /// Its metric was the last to complete.
     AllComplete,
     /// Its metric completed with this phase, but is dry.
@@ -31,10 +32,12 @@ pub enum Why {
 fn why_closed(phase: Phase, change: Option<Change>) -> Why
     ensures { result ≡ why_closed phase change }
 {
-    match change {
-        None => Why::Stopped,
-        Some(_) if phase.is_unsuccessful() => Why::MetricEnded(phase),
-        Some(_) => Why::AllComplete,
+    let Some(change) = change else {
+        return Why::Stopped;
+    };
+    match excess_of(phase, change.limits, change.after.counts) {
+        Some(excess) => Why::Exceeded(phase, excess),
+        None => Why::AllComplete,
     }
 }
 
@@ -80,6 +83,13 @@ fn push_phase(out: &mut String, before: &str, phase: Phase, after: &str) -> Resu
     out.push_str(after)
 }
 
+fn push_exceeded(out: &mut String, phase: Phase, excess: Excess) -> Result<(), AllocError>
+    ensures { OnOk result (string_bytes out.new ≡ string_bytes out.old ++ why_words (Exceeded phase excess)) }
+{
+    push_phase(out, "closed: the metric is ", phase, ": ")?;
+    push_excess(out, excess)
+}
+
 fn push_metric_was(out: &mut String, phase: Phase, since: Option<u64>) -> Result<(), AllocError>
     ensures { OnOk result (string_bytes out.new ≡ string_bytes out.old ++ why_words (MetricWas phase since)) }
 {
@@ -100,7 +110,7 @@ pub fn push_why(out: &mut String, why: Why) -> Result<(), AllocError>
 {
     match why {
         Why::Stopped => out.push_str("closed: the run was stopped"),
-        Why::MetricEnded(phase) => write!(out, "closed: the metric is {}", phase_name(phase)),
+        Why::Exceeded(phase, excess) => push_exceeded(out, phase, excess),
         Why::AllComplete => {
             out.push_str("closed: each metric is Successful, or dry and complete")
         }

@@ -13,8 +13,8 @@ use Rattle.ar_facts.specs.ReportData.{event_data}
 use Rattle.ar_object.specs.Object.{count_data, text_or_null}
 use Rattle.ar_reason.specs.Reason.{EvaluatedCondition, Reason, RunReasons}
 use Rattle.ar_reason.specs.ReasonData.{change_data, evaluated_data, failure_if_there, gap_data, given_error, given_misfit, given_value, operands_if_there, part_data, reason_data, reasons_data, run_reasons_data, value_if_there, waiting_data}
-use Rattle.ar_progress.specs.Settled.{settled_by}
-use Rattle.ar_progress.specs.Waiting.{run_waits_for, waits_for}
+use Rattle.ar_progress.specs.Settled.{settled_by, settled_text}
+use Rattle.ar_progress.specs.Waiting.{run_waits_for, waiting_text, waits_for}
 use Rattle.ar_progress.specs.Why.{why_words}
 use Rattle.ar_progress.specs.declared.steps.Change.{Change}
 
@@ -67,7 +67,7 @@ reason_flat reason =
     eight_deep _ _ _ _ _ 0 _ _ 6 (above (none_deep evaluated_data 5 evaluated_flat reason.conditions)) (change_flat reason.change) (text_small (given_error reason.given) 6) (finding_small reason) (text_small (given_misfit reason.given) 6) (zero_small 6) (text_small (option_map why_words reason.why) 6) (text_small (given_value reason.given) 6)
 
 waiting_flat : (closer : Option ℕ) (metric : MetricFacts) → depth (waiting_data closer metric) ≡ 3
-waiting_flat closer metric = rw (metric_flat metric, text_flat (settled_by closer metric.limits metric.counts), text_flat (waits_for metric.phase metric.limits metric.counts)) refl
+waiting_flat closer metric = rw (metric_flat metric, text_flat (option_map settled_text (settled_by closer metric.limits metric.counts)), text_flat (option_map waiting_text (waits_for metric.phase metric.limits metric.counts))) refl
 
 run_flat : (run : RunReasons) → depth (run_reasons_data run) ≤ 9
 run_flat run =

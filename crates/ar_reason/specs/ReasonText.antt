@@ -1,5 +1,5 @@
 -- The text of reasons: the line of each run, the lines of its events, and those of its metrics.
-use Rattle.std.specs.Prelude.{ℕ, ◌==◌, ◌≡◌, refl, Bool, if◌then◌else◌, List, [], ◌∷◌, ◌++◌, codes, decimal, flat_map, Option, Some, None}
+use Rattle.std.specs.Prelude.{ℕ, ◌==◌, ◌≡◌, refl, Bool, if◌then◌else◌, List, [], ◌∷◌, ◌++◌, codes, decimal, flat_map, Option, Some, None, option_map}
 use Rattle.std.specs.Fmt.{digits}
 use Rattle.ar_value.specs.Fault.{fault_name}
 use Rattle.ar_value.specs.Operators.{Failure, faulted, ill_kinded}
@@ -22,10 +22,11 @@ use Rattle.ar_show.specs.Values.{shown_value}
 use Rattle.ar_show.specs.Words.{units}
 use Rattle.ar_progress.specs.Counts.{changed_counts}
 use Rattle.ar_reason.specs.Reason.{EvaluatedCondition, Given, Reason, RunReasons, gave_error, gave_misfit, gave_nothing, gave_value}
-use Rattle.ar_progress.specs.Settled.{settled_by}
-use Rattle.ar_progress.specs.Waiting.{run_waits_for, waits_for}
+use Rattle.ar_progress.specs.Settled.{settled_by, settled_text}
+use Rattle.ar_progress.specs.Waiting.{run_waits_for, waiting_text, waits_for}
 use Rattle.ar_progress.specs.Why.{why_words}
 use Rattle.ar_progress.specs.declared.steps.Change.{Change}
+use Rattle.ar_progress.specs.declared.waiting.Progress.{Progress}
 use Rattle.ar_progress.specs.declared.why.Why.{Why}
 
 -- ---- the lines of a condition
@@ -126,9 +127,10 @@ reason_text reason =
 
 -- ---- the lines of a run
 
-abbrev pub waits_line : Phase → (waits : Option Text) → Text
+abbrev pub waits_line : Phase → (waits : Option Progress) → Text
 waits_line phase None = []
-waits_line phase (Some text) = codes "  " ++ (phase_name phase ++ (codes ": " ++ (text ++ codes "\n")))
+waits_line phase (Some progress) =
+    codes "  " ++ (phase_name phase ++ (codes ": " ++ (waiting_text progress ++ codes "\n")))
 
 -- a line that begins so, where there are words for it
 abbrev pub line_if_there : (before : Text) → (words : Option Text) → Text
@@ -139,7 +141,7 @@ line_if_there before (Some words) = before ++ (words ++ codes "\n")
 abbrev pub metric_lines : (closer : Option EventNumber) → MetricFacts → Text
 metric_lines closer metric =
     metric_line (named_metric naming.Clear metric) ++ (waits_line metric.phase (waits_for metric.phase metric.limits metric.counts)
-    ++ line_if_there (codes "  ") (settled_by closer metric.limits metric.counts))
+    ++ line_if_there (codes "  ") (option_map settled_text (settled_by closer metric.limits metric.counts)))
 
 abbrev pub run_reasons_text : RunReasons → Text
 run_reasons_text run =

@@ -19,7 +19,8 @@ ghost use Rattle.ar_show.specs.Values.{shown_value};
 ghost use Rattle.ar_reason.specs.Reason.{conditions_by, conditions_of, lacks_conditions, reason_of, reasons_of, run_reasons};
 ghost use Rattle.ar_reason.specs.ReasonText.{change_line, condition_text, given_line, line_if_there, metric_lines, no_condition_line, outcome_lines, reason_text, reasons_text, run_reasons_text, waits_line, why_line};
 ghost use Rattle.ar_reason.specs.Views.{given_view};
-ghost use Rattle.ar_progress.specs.Waiting.{run_waits_for, waits_for};
+ghost use Rattle.ar_progress.specs.Settled.{settled_text};
+ghost use Rattle.ar_progress.specs.Waiting.{run_waits_for};
 ghost use Rattle.ar_progress.specs.Why.{why_of};
 ghost use Rattle.ar_reason.specs.Private.Found.{AreFoundSteps};
 ghost use Rattle.ar_reason.specs.Private.Trees.{trees_of, run_trees, judge_trees_view};
@@ -35,8 +36,8 @@ use ar_machine::operand::OperandRef;
 use ar_machine::operand::borrowed::{ValueRef, value_ref};
 use ar_misfit::{Misfit, push_misfit};
 use ar_progress::{
-    Change, Chosen, Step, Why, is_chosen_run, push_counts, push_waiting, push_why, run_waits_for,
-    settled_by, traced, why_of,
+    Change, Chosen, Progress, Settled, Step, Why, is_chosen_run, push_counts, push_settled,
+    push_waiting, push_why, run_waits_for, settled_by, traced, waits_for, why_of,
 };
 use ar_show::push_value;
 use serde_json::Value as Json;
@@ -250,28 +251,34 @@ fn push_if_there(out: &mut String, before: &str, words: Option<String>) -> Resul
     }
 }
 
-fn push_waits(
-    out: &mut String,
-    phase: Phase,
-    limits: Limits,
-    counts: Counts,
-) -> Result<(), AllocError>
-    ensures { OnOk result (string_bytes out.new ≡ string_bytes out.old
-        ++ waits_line phase (waits_for phase limits counts)) }
+fn push_waits(out: &mut String, phase: Phase, waits: Option<Progress>) -> Result<(), AllocError>
+    ensures { OnOk result (string_bytes out.new ≡ string_bytes out.old ++ waits_line phase waits) }
 {
-    if phase.is_complete() {
+    let Some(progress) = waits else {
         return Ok(());
-    }
+    };
     out.push_str("  ")?;
     out.push_str(phase_name(phase))?;
     out.push_str(": ")?;
-    push_waiting(out, limits, counts)?;
+    push_waiting(out, progress)?;
+    out.push_str("\n")
+}
+
+/// That the close of a run settled a metric, if it did.
+fn push_settled_line(out: &mut String, settled: Option<Settled>) -> Result<(), AllocError>
+    ensures { OnOk result (string_bytes out.new
+        ≡ string_bytes out.old ++ line_if_there (codes "  ") (option_map settled_text settled)) }
+{
+    let Some(settled) = settled else {
+        return Ok(());
+    };
+    out.push_str("  ")?;
+    push_settled(out, settled)?;
     out.push_str("\n")
 }
 
 /// The lines of a metric, whose run this event closed, if one did.
 fn push_metric(
-    alloc: Global,
     out: &mut String,
     metric: &MetricPart,
     limits: Limits,
@@ -282,16 +289,14 @@ fn push_metric(
     ensures { OnOk result (string_bytes out.new ≡ string_bytes out.old
         ++ metric_lines closer (metric_facts metric.now limits phase counts)) }
 {
-    let settled = settled_by(alloc, closer, limits, counts)?;
     put_metric(out, Naming::Clear, metric, limits, phase, counts)?;
-    push_waits(out, phase, limits, counts)?;
-    push_if_there(out, "  ", settled)
+    push_waits(out, phase, waits_for(phase, limits, counts))?;
+    push_settled_line(out, settled_by(closer, limits, counts))
 }
 
 /// The lines of a run's metrics, as the run is.
 #[tactic(auto, using(crate::proofs::Metrics::next_metric, crate::proofs::Metrics::no_metric_left))]
 fn push_metrics(
-    alloc: Global,
     out: &mut String,
     metrics: &[MetricPart],
     limits: &[Limits],
@@ -306,7 +311,7 @@ fn push_metrics(
 {
     for (number, metric) in metrics.iter().enumerate() {
         let (phase, counts) = (state.metric_phase(number), state.counts(number));
-        push_metric(alloc, out, metric, limits[number], phase, counts, closer)?;
+        push_metric(out, metric, limits[number], phase, counts, closer)?;
     }
     Ok(())
 }
@@ -358,7 +363,7 @@ fn push_run(
     let found = traced(alloc, bundle, chosen, run, entries)?;
     push_head(alloc, out, metrics, run, state)?;
     push_reasons(alloc, out, document, bundle, number, &trees, &found.steps)?;
-    push_metrics(alloc, out, metrics, limits, state, found.closer)
+    push_metrics(out, metrics, limits, state, found.closer)
 }
 
 /// What led to the verdict and the effect of each event that is asked for, in lines.

@@ -95,7 +95,7 @@ alike-push limits metric own there events e so_far =
 alike : (limits : List Limits) (metric : ℕ) (own : Limits) → positive own → slice_get limits metric ≡ Some own → (events : List Event) → Alike limits metric own events
 alike limits metric own is there events = push_induction (Alike limits metric own) (alike-nil limits metric own is) (alike-push limits metric own there) events
 
-counts_there : (limits : List Limits) (events : List Event) (metric : ℕ) (own : Limits) → slice_get limits metric ≡ Some own → slice_get (metric_counts limits events) metric ≡ Some (counts_of (marks_of metric (timely limits events)))
+pub counts_there : (limits : List Limits) (events : List Event) (metric : ℕ) (own : Limits) → slice_get limits metric ≡ Some own → slice_get (metric_counts limits events) metric ≡ Some (counts_of (marks_of metric (timely limits events)))
 unfolding metric_counts
 counts_there limits events metric own there = numbered_get (λ (x : ℕ × Limits). counts_of (marks_of x.0 (timely limits events))) limits metric own there
 
