@@ -1,5 +1,5 @@
 -- What JSON (RFC 8259) has of a value, so that each reader takes it as it is.
-use Rattle.std.specs.Prelude.{◌≡◌, refl, ℕ, ℤ, pos, negsuc, ◌^◌, nat_abs, nat_le, nat_lt, Bool, true, false, if◌then◌else◌, codes, length, replicate}
+use Rattle.std.specs.Prelude.{◌≡◌, refl, ℕ, ℤ, pos, negsuc, ◌^◌, nat_abs, nat_le, nat_lt, Bool, if◌then◌else◌, codes, length, replicate}
 use Rattle.std.specs.Fmt.{digits, signed_decimal}
 use Rattle.serde_json.specs.Data.{Data, boolean, null, string}
 use Rattle.ar_object.specs.Object.{count_data, integer_data}
@@ -32,7 +32,7 @@ exact_data (values.whole integer) = whole_data integer
 exact_data (values.decimal millionths) = string (decimal_text millionths)
 exact_data (values.text text) = text_data text
 exact_data (values.list items) = null
-exact_data (values.object fields) = null
+exact_data (values.object of) = null
 
 -- ---- worked rows
 

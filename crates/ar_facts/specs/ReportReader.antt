@@ -1,6 +1,6 @@
 -- What who reads the object of a report finds: members by their names, whatever their order. It is nothing where a
 -- member is missing, or isn't what it should be.
-use Rattle.std.specs.Prelude.{◌≡◌, refl, ℕ, ◌==◌, Bool, true, false, if◌then◌else◌, List, [], ◌∷◌, codes, find, Option, Some, None, option_and_then, option_map}
+use Rattle.std.specs.Prelude.{◌≡◌, refl, ℕ, ◌==◌, Bool, if◌then◌else◌, List, [], ◌∷◌, codes, find, Option, Some, None, option_map}
 use Rattle.std.specs.Str.{bytes_eq}
 use Rattle.serde_json.specs.Data.{Data, Items, item, no_items}
 use Rattle.serde_json.specs.Data as json
@@ -56,7 +56,7 @@ list_in read found = None
 
 -- a member of an object
 abbrev pub the : {A : Type 0} → (name : Text) → (Data → Option A) → Data → Option A
-the name read object = get name object >>= read
+the name read from = get name from >>= read
 
 -- what has a name, of those that may
 abbrev pub named_among : {A : Type 0} → (name_of : A → Text) → List A → (name : Text) → Option A
@@ -69,12 +69,12 @@ phase_in found = as_str found >>= named_among phase_name
     (phases.Pending ∷ phases.Running ∷ phases.Successful ∷ phases.Failed ∷ phases.Error ∷ phases.Inconclusive ∷ [])
 
 abbrev pub counts_in : Data → Option Counts
-counts_in object = do
-  successful ← the (codes "successful") count_in object
-  failed ← the (codes "failed") count_in object
-  inconclusive ← the (codes "inconclusive") count_in object
-  error ← the (codes "error") count_in object
-  succession ← the (codes "consecutiveError") count_in object
+counts_in from = do
+  successful ← the (codes "successful") count_in from
+  failed ← the (codes "failed") count_in from
+  inconclusive ← the (codes "inconclusive") count_in from
+  error ← the (codes "error") count_in from
+  succession ← the (codes "consecutiveError") count_in from
   Some (record {
     successful = successful;
     failed = failed;
@@ -84,11 +84,11 @@ counts_in object = do
   })
 
 abbrev pub limits_in : (dry : Bool) → Data → Option Limits
-limits_in dry object = do
-  failure ← the (codes "failureLimit") count_in object
-  inconclusive ← the (codes "inconclusiveLimit") count_in object
-  consecutive_error ← the (codes "consecutiveErrorLimit") count_in object
-  count ← the (codes "count") (unless_null count_in) object
+limits_in dry from = do
+  failure ← the (codes "failureLimit") count_in from
+  inconclusive ← the (codes "inconclusiveLimit") count_in from
+  consecutive_error ← the (codes "consecutiveErrorLimit") count_in from
+  count ← the (codes "count") (unless_null count_in) from
   Some (record {
     failure = failure;
     inconclusive = inconclusive;
@@ -98,12 +98,12 @@ limits_in dry object = do
   })
 
 abbrev pub metric_in : Data → Option MetricFacts
-metric_in object = do
-  name ← the (codes "name") as_str object
-  dry ← the (codes "dryRun") flag_in object
-  limits ← the (codes "limits") (limits_in dry) object
-  phase ← the (codes "phase") phase_in object
-  counts ← the (codes "counts") counts_in object
+metric_in from = do
+  name ← the (codes "name") as_str from
+  dry ← the (codes "dryRun") flag_in from
+  limits ← the (codes "limits") (limits_in dry) from
+  phase ← the (codes "phase") phase_in from
+  counts ← the (codes "counts") counts_in from
   Some (record { name = name; limits = limits; phase = phase; counts = counts })
 
 -- ---- events
@@ -166,17 +166,17 @@ event_in event = do
 -- ---- runs, and the report
 
 abbrev pub run_in : Data → Option RunFacts
-run_in object = do
-  name ← the (codes "name") as_str object
-  phase ← the (codes "phase") phase_in object
-  metrics ← the (codes "metrics") (list_in metric_in) object
-  events ← the (codes "events") (list_in event_in) object
+run_in from = do
+  name ← the (codes "name") as_str from
+  phase ← the (codes "phase") phase_in from
+  metrics ← the (codes "metrics") (list_in metric_in) from
+  events ← the (codes "events") (list_in event_in) from
   Some (record { name = name; phase = phase; metrics = metrics; events = events })
 
 -- the form of a report has version 1
 abbrev pub report_in : Data → Option (List RunFacts)
-report_in object = the (codes "version") count_in object >>= λ version.
-    if version == 1 then the (codes "runs") (list_in run_in) object else None
+report_in from = the (codes "version") count_in from >>= λ version.
+    if version == 1 then the (codes "runs") (list_in run_in) from else None
 
 -- ---- worked rows
 

@@ -25,7 +25,7 @@ use Rattle.ar_bundle.specs.declared.bundle.What.{What}
 use Rattle.ar_bundle.specs.declared.bundle.What.TheVariants.{Measure, Stop}
 use Rattle.ar_bundle.specs.declared.history.Entry.{Entry}
 use Rattle.ar_explain.specs.Operands.{failed_on}
-use Rattle.ar_explain.specs.Lines.{Explanation, Outcome, earlier_lines, explained, failed, outcome_of, passed, unneeded, valued}
+use Rattle.ar_explain.specs.Lines.{Explanation, Outcome, earlier_lines, explained, failed, is_item, outcome_of, passed, unneeded, valued}
 use Rattle.ar_misfit.specs.Misfit.{Misfit, misfit}
 use Rattle.ar_facts.specs.Facts.{EventFacts, MetricFacts, event_facts, facts_of_metrics}
 use Rattle.ar_progress.specs.Steps.{chosen_steps, closer_of, is_chosen_run}
@@ -111,7 +111,8 @@ evaluated_if_there which found (Some condition) =
 
 abbrev pub is_failure : Outcome → Bool
 is_failure (failed failure on) = true
-is_failure (valued text) = false
+is_failure (valued text exact apart) = false
+is_failure (is_item text exact) = false
 is_failure unneeded = false
 is_failure (passed items held) = false
 

@@ -3,11 +3,14 @@ use Rattle.std.specs.Prelude.{ℕ, ◌-◌, ◌^◌, nat_le, min, Bool, true, fa
 use Rattle.std.specs.Option.{option_map_or}
 use Rattle.serde_json.specs.Data.{Data, boolean, member, no_members, null, object, string}
 use Rattle.ar_value.specs.Terms.{Text}
-use Rattle.ar_value.specs.Value as values
 use Rattle.ar_bundle.specs.Event.{EventNumber}
 use Rattle.ar_limits.specs.Metric.{counted, is_complete}
 use Rattle.ar_limits.specs.declared.phase.Phase.{Phase}
-use Rattle.ar_explain.specs.Lines.{Explanation, Line, Outcome, failed, passed, unneeded, valued}
+use Rattle.ar_tree.specs.Typed.{Typed}
+use Rattle.ar_tree.specs.Typed as typed
+use Rattle.ar_value.specs.declared.operator.UnaryOperator.TheVariants as unary
+use Rattle.ar_explain.specs.Apart.{Apart}
+use Rattle.ar_explain.specs.Lines.{Explanation, Line, Outcome, failed, is_item, passed, unneeded, valued}
 use Rattle.ar_facts.specs.Facts.{MetricFacts}
 use Rattle.ar_facts.specs.Names.{phase_name}
 use Rattle.ar_facts.specs.ReportData.{counts_data, event_data, limits_data, metric_data}
@@ -30,9 +33,17 @@ use Rattle.ar_reason.specs.ReasonText.{failure_name}
 
 -- ---- the parts of a condition
 
-abbrev pub value_if_there : Outcome → Option Text
-value_if_there (valued text) = Some text
-value_if_there said = None
+-- a value as lines show it
+abbrev pub shown_if_there : Outcome → Option Text
+shown_if_there (valued text exact apart) = Some text
+shown_if_there (is_item text exact) = Some text
+shown_if_there said = None
+
+-- the value, where JSON has it exactly
+abbrev pub value_if_there : Outcome → Data
+value_if_there (valued text exact apart) = exact
+value_if_there (is_item text exact) = exact
+value_if_there said = null
 
 abbrev pub failure_if_there : Outcome → Option Text
 failure_if_there (failed failure on) = Some (failure_name failure)
@@ -43,9 +54,15 @@ abbrev pub operands_if_there : Outcome → Option Text
 operands_if_there (failed failure on) = on
 operands_if_there said = None
 
+-- where two texts differ that are shown alike
+abbrev pub apart_if_there : Outcome → Option Apart
+apart_if_there (valued text exact apart) = apart
+apart_if_there said = None
+
 abbrev pub was_needed : Outcome → Bool
 was_needed unneeded = false
-was_needed (valued text) = true
+was_needed (valued text exact apart) = true
+was_needed (is_item text exact) = true
 was_needed (failed failure on) = true
 was_needed (passed items held) = true
 
@@ -55,26 +72,50 @@ gap_data (passed items held) = object
     (member (codes "hold") (count_data held) (member (codes "items") (count_data items) no_members))
 gap_data said = null
 
+abbrev pub apart_data : Apart → Data
+apart_data apart = object
+    (member (codes "byte") (count_data apart.byte)
+    (member (codes "left") (string apart.left)
+    (member (codes "right") (string apart.right) no_members)))
+
+-- a failed part that converts its operand to a decimal, which the part's text doesn't show
+abbrev pub converts : Typed → Outcome → Bool
+converts (typed.unary unary.ToDecimal operand) (failed failure on) = true
+converts part said = false
+
+-- the item itself has the text `#`
+abbrev pub part_name : Typed → Outcome → Text
+part_name part (is_item text exact) = codes "#"
+part_name part said = shown_part part
+
 abbrev pub part_data : Line → Data
 part_data line = object
+    (member (codes "asDecimal") (boolean (converts line.part line.said))
     (member (codes "between") (gap_data line.said)
+    (member (codes "differ") (option_map_or apart_data (apart_if_there line.said) null)
     (member (codes "failure") (text_or_null (failure_if_there line.said))
     (member (codes "items") (array_of (map count_data line.items))
     (member (codes "needed") (boolean (was_needed line.said))
     (member (codes "on") (text_or_null (operands_if_there line.said))
-    (member (codes "part") (string (shown_part line.part))
-    (member (codes "value") (text_or_null (value_if_there line.said)) no_members)))))))
+    (member (codes "part") (string (part_name line.part line.said))
+    (member (codes "shown") (text_or_null (shown_if_there line.said))
+    (member (codes "value") (value_if_there line.said) no_members))))))))))
+
+-- the whole condition's boolean, or the name of its failure
+abbrev pub answer_data : Outcome → Data
+answer_data (valued text exact apart) = exact
+answer_data (failed failure on) = string (failure_name failure)
+answer_data said = null
 
 -- `leftOut`: how many parts come after the first 500
 abbrev pub evaluation_data : (which text : Text) → Explanation → (answer : Outcome) → Data
 evaluation_data which text parts answer = object
-    (member (codes "answer") (text_or_null (value_if_there answer))
+    (member (codes "answer") (answer_data answer)
     (member (codes "condition") (string which)
-    (member (codes "failure") (text_or_null (failure_if_there answer))
     (member (codes "leftOut") (count_data parts.left_out)
     (member (codes "on") (text_or_null (operands_if_there answer))
     (member (codes "parts") (array_of (map part_data (parts.lines ++ parts.last)))
-    (member (codes "text") (string text) no_members)))))))
+    (member (codes "text") (string text) no_members))))))
 
 abbrev pub evaluated_data : EvaluatedCondition → Data
 evaluated_data condition = evaluation_data condition.which condition.text condition.parts condition.answer

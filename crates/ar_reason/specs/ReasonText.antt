@@ -10,7 +10,8 @@ use Rattle.ar_limits.specs.declared.phase.Phase.{Phase}
 use Rattle.ar_tree.specs.Typed.{Typed}
 use Rattle.ar_tree.specs.Typed as typed
 use Rattle.ar_value.specs.declared.operator.UnaryOperator.TheVariants as unary
-use Rattle.ar_explain.specs.Lines.{Explanation, Line, Outcome, failed, passed, passed_line, unneeded, valued}
+use Rattle.ar_explain.specs.Apart.{Apart}
+use Rattle.ar_explain.specs.Lines.{Explanation, Line, Outcome, failed, is_item, passed, passed_line, unneeded, valued}
 use Rattle.ar_facts.specs.Facts.{MetricFacts}
 use Rattle.ar_facts.specs.Names.{phase_name}
 use Rattle.ar_facts.specs.Report.{event_line, metric_line, named_event, named_metric, run_line}
@@ -53,8 +54,15 @@ held_text items held =
     if held == 0 then codes "none holds" else if held == items then codes "each holds"
     else decimal held ++ (codes " " ++ hold_word held)
 
+-- where two texts differ that are shown alike
+abbrev pub apart_text : Option Apart → Text
+apart_text None = []
+apart_text (Some apart) =
+    codes "; byte " ++ (decimal apart.byte ++ (codes " differs: " ++ (apart.left ++ (codes " and " ++ apart.right))))
+
 abbrev pub said_text : Outcome → Text
-said_text (valued text) = codes " = " ++ text
+said_text (valued text exact apart) = codes " = " ++ (text ++ apart_text apart)
+said_text (is_item text exact) = codes " = " ++ text
 said_text (failed failure on) = codes ": " ++ (failure_name failure ++ operands_text on)
 said_text unneeded = codes ": not needed"
 said_text (passed items held) = between_text (codes "item") items ++ (codes ", " ++ held_text items held)
@@ -70,7 +78,8 @@ conversion_text part = []
 
 -- the part itself; where only items of it are counted it isn't written again
 abbrev pub said_part : Typed → Outcome → Text
-said_part part (valued text) = shown_part part
+said_part part (valued text exact apart) = shown_part part
+said_part part (is_item text exact) = codes "#"
 said_part part (failed failure on) = shown_part part ++ conversion_text part
 said_part part unneeded = shown_part part
 said_part part (passed items held) = []

@@ -1,259 +1,56 @@
 //! Reasons as one JSON object.
 
-ghost use Rattle.std.specs.Prelude.{◌≡◌, ◌++◌, ◌≤◌, IfOk, OnOk, Some, codes, length, map, option_map, slice_get, string_bytes};
-ghost use Rattle.std.specs.List.{AllByRecursion, list_any};
+ghost use Rattle.std.specs.Prelude.{◌≡◌, ◌++◌, ◌≤◌, IfOk, OnOk, Some, codes, flat_map, length, map, option_map, slice_get, string_bytes};
+ghost use Rattle.std.specs.List.{AllByRecursion};
 ghost use Rattle.std.specs.Option.{option_map_or};
 ghost use Rattle.serde_json.specs.Data.{null};
 ghost use Rattle.serde_json.specs.View.{view};
 ghost use Rattle.ar_value.specs.View.{value_view};
 ghost use Rattle.ar_limits.specs.Replay.{Replays, most_events};
+ghost use Rattle.ar_limits.specs.declared.phase.Phase.{Phase};
 ghost use Rattle.ar_bundle.specs.Bundle.{events_of, finding_at};
 ghost use Rattle.ar_bundle.specs.Finished.{AreFinished};
 ghost use Rattle.ar_bundle.specs.Lawful.{IsFound, numbers_of};
 ghost use Rattle.ar_bundle.specs.Sound.{IsRun};
 ghost use Rattle.ar_judge.specs.Verdict.{sample_view};
-ghost use Rattle.ar_explain.specs.Lines.{passed};
-ghost use Rattle.ar_explain.specs.Views.{explanation_view, line_view, said_view};
 ghost use Rattle.ar_facts.specs.Facts.{event_facts, facts_of_metrics, metric_facts};
 ghost use Rattle.ar_object.specs.Line.{IsJsonLine};
-ghost use Rattle.ar_object.specs.Object.{array_of, count_data, text_or_null};
+ghost use Rattle.ar_object.specs.Object.{array_of};
 ghost use Rattle.ar_object.specs.Written.{AddsMember, AddsValue, AddsValues};
-ghost use Rattle.ar_tree.specs.Views.{typed_view};
-ghost use Rattle.ar_show.specs.PartText.{shown_part};
-ghost use Rattle.ar_reason.specs.Reason.{conditions_by, conditions_of, conditions_on, evaluated_if_there, evaluated_with, has_failed, lacks_conditions, reason_of, reason_with, reasons_of, run_reasons};
-ghost use Rattle.ar_reason.specs.ReasonData.{change_data, evaluated_data, evaluation_data, failure_if_there, gap_data, given_error, given_misfit, given_value, operands_if_there, part_data, reason_data, reasons_data, run_reasons_data, value_if_there, waiting_data, was_needed};
+ghost use Rattle.ar_progress.specs.Why.{why_of};
+ghost use Rattle.ar_show.specs.Values.{shown_value};
+ghost use Rattle.ar_reason.specs.Reason.{conditions_by, conditions_of, lacks_conditions, reason_of, reason_with, reasons_of, run_reasons};
+ghost use Rattle.ar_reason.specs.ReasonData.{awaited, awaited_data, change_data, evaluated_data, given_error, given_misfit, given_shown, given_value, measured_data, progress_data, reason_data, reasons_data, run_reasons_data, run_waits_data, settled_data, value_pointer, waiting_data};
 ghost use Rattle.ar_reason.specs.Views.{given_view};
-ghost use Rattle.ar_progress.specs.Waiting.{waits_for};
-ghost use Rattle.ar_progress.specs.Why.{why_of, why_words};
 ghost use Rattle.ar_reason.specs.Private.Found.{AreFoundSteps};
-ghost use Rattle.ar_reason.specs.Private.Trees.{condition_tree, trees_of, run_trees, judge_trees_view};
+ghost use Rattle.ar_reason.specs.Private.Trees.{trees_of, run_trees, judge_trees_view};
 
-use crate::evaluated::{JudgeTrees, NamedTree, trees_at, trees_of};
+use crate::evaluated::{JudgeTrees, trees_at, trees_of};
 use crate::given::{Given, given_of};
 use crate::lines::{judge_at, lacks_conditions};
-use crate::parts::{failure_name, is_failure};
+use crate::part_data::write_conditions;
+use crate::why_data::put_why;
 use ar_bundle::{Bundle, Entry, Finished, MetricPart, RunPart, What};
-use ar_explain::{Evaluation, Explanation, Line, Said, tell};
+use ar_exact::exact_of;
 use ar_facts::{phase_name, write_counts, write_event, write_limits, write_metric};
-use ar_judge::{Judge, Sample, SharedCondition, Which};
+use ar_judge::{Judge, Sample};
 use ar_limits::{Counts, Limits, Phase, RunState};
+use ar_machine::operand::OperandRef;
+use ar_machine::operand::borrowed::value_ref;
+use ar_misfit::write_misfit;
 use ar_object::JsonText;
 use ar_progress::{
-    Change, Chosen, Step, is_chosen_run, push_waiting, push_why, run_waits_for, settled_by, traced,
-    why_of,
+    Change, Chosen, Progress, Settled, Step, is_chosen_run, progress_of, settled_by, traced,
+    waits_for, why_of,
 };
-use ar_show::push_part;
-use ar_tree::Typed;
+use ar_show::push_value;
 use ar_value::value::Value;
 use serde_json::Value as Json;
 use std::alloc::{AllocError, Global};
+use std::fmt::Write;
 
 /// The version of the form of the object.
 const FORM: u64 = 2;
-
-// ---- the parts of a condition
-
-fn value_if_there(said: &Said) -> Option<&str>
-    ensures { option_map (λ text. text.now) result ≡ value_if_there (said_view said.now) }
-{
-    match said {
-        Said::Valued(text) => Some(text.as_str()),
-        Said::Failed(..) | Said::Unneeded | Said::Passed { .. } => None,
-    }
-}
-
-fn failure_if_there(said: &Said) -> Option<&'static str>
-    ensures { option_map (λ text. text.now) result ≡ failure_if_there (said_view said.now) }
-{
-    match said {
-        Said::Failed(failure, _) => Some(failure_name(*failure)),
-        Said::Valued(_) | Said::Unneeded | Said::Passed { .. } => None,
-    }
-}
-
-/// On which operands a failure arose, if it arose in the part.
-fn operands_if_there(said: &Said) -> Option<&str>
-    ensures { option_map (λ text. text.now) result ≡ operands_if_there (said_view said.now) }
-{
-    match said {
-        Said::Failed(_, Some(on)) => Some(on.as_str()),
-        Said::Failed(_, None) | Said::Valued(_) | Said::Unneeded | Said::Passed { .. } => None,
-    }
-}
-
-fn was_needed(said: &Said) -> bool
-    ensures { result ≡ was_needed (said_view said.now) }
-{
-    !matches!(said, Said::Unneeded)
-}
-
-fn shown(alloc: Global, part: &Typed) -> Result<String, AllocError>
-    ensures { IfOk result (λ text. string_bytes text ≡ shown_part (typed_view part.now)) }
-{
-    let mut text = String::new(alloc);
-    push_part(&mut text, part)?;
-    Ok(text)
-}
-
-fn write_gap(json: &mut JsonText, items: usize, held: usize)
-    ensures { AddsValue (gap_data (passed items held)) json.old.written json.new.written }
-{
-    json.begin_object();
-    json.put_count("hold", held as u64);
-    json.put_count("items", items as u64);
-    json.end_object()
-}
-
-/// Writes how many items aren't shown, or null.
-fn put_gap(json: &mut JsonText, said: &Said)
-    ensures { AddsMember (codes "between") (gap_data (said_view said.now)) json.old.written json.new.written }
-{
-    match said {
-        Said::Passed { items, held } => {
-            json.put_key("between");
-            write_gap(json, *items, *held)
-        }
-        Said::Valued(_) | Said::Failed(..) | Said::Unneeded => json.put_null("between"),
-    }
-}
-
-/// Writes the items that a part has lines of.
-fn put_items(json: &mut JsonText, items: &[usize])
-    ensures { AddsMember (codes "items") (array_of (map count_data items.now)) json.old.written json.new.written }
-{
-    json.begin_list("items");
-    for item in items {
-        json.put_count_value(*item as u64);
-    }
-    json.end_list()
-}
-
-fn write_part(alloc: Global, json: &mut JsonText, line: &Line<'_>) -> Result<(), AllocError>
-    ensures { OnOk result (AddsValue (part_data (line_view line.now)) json.old.written json.new.written) }
-{
-    let part = shown(alloc, line.part)?;
-    json.begin_object();
-    put_gap(json, &line.said);
-    json.put_text_if_there("failure", failure_if_there(&line.said));
-    put_items(json, &line.items);
-    json.put_flag("needed", was_needed(&line.said));
-    json.put_text_if_there("on", operands_if_there(&line.said));
-    json.put_text("part", &part);
-    json.put_text_if_there("value", value_if_there(&line.said));
-    json.end_object();
-    Ok(())
-}
-
-fn write_parts(alloc: Global, json: &mut JsonText, lines: &[Line<'_>]) -> Result<(), AllocError>
-    ensures { OnOk result
-        (AddsValues (map part_data (map line_view lines.now)) json.old.written json.new.written) }
-{
-    for line in lines {
-        write_part(alloc, json, line)?;
-    }
-    Ok(())
-}
-
-/// Writes the first parts, then the last ones.
-fn put_parts(alloc: Global, json: &mut JsonText, parts: &Explanation<'_>) -> Result<(), AllocError>
-    ensures { OnOk result (AddsMember (codes "parts") (array_of (map part_data
-        ((explanation_view parts.now).lines ++ (explanation_view parts.now).last)))
-        json.old.written json.new.written) }
-{
-    let (first, second) = parts.last.as_slices();
-    json.begin_list("parts");
-    write_parts(alloc, json, &parts.lines)?;
-    write_parts(alloc, json, first)?;
-    write_parts(alloc, json, second)?;
-    json.end_list();
-    Ok(())
-}
-
-/// Writes a condition with the parts and the answer of its evaluation.
-fn write_evaluation(
-    alloc: Global,
-    json: &mut JsonText,
-    which: &str,
-    text: &str,
-    evaluation: &Evaluation<'_>,
-) -> Result<(), AllocError>
-    ensures { OnOk result (AddsValue (evaluation_data which.now text.now (explanation_view evaluation.now.parts)
-        (said_view evaluation.now.answer)) json.old.written json.new.written) }
-{
-    json.begin_object();
-    json.put_text_if_there("answer", value_if_there(&evaluation.answer));
-    json.put_text("condition", which);
-    json.put_text_if_there("failure", failure_if_there(&evaluation.answer));
-    json.put_count("leftOut", evaluation.parts.left_out);
-    json.put_text_if_there("on", operands_if_there(&evaluation.answer));
-    put_parts(alloc, json, &evaluation.parts)?;
-    json.put_text("text", text);
-    json.end_object();
-    Ok(())
-}
-
-/// Writes a condition's tree on a value, and returns whether the condition has failed there.
-fn write_tree(
-    alloc: Global,
-    json: &mut JsonText,
-    condition: &NamedTree<'_>,
-    value: &Value,
-) -> Result<bool, AllocError>
-    ensures json { OnOk result (AddsValue (evaluated_data (evaluated_with condition.now.which.now
-        condition.now.text.now (value_view value.now) (typed_view condition.now.tree.now)))
-        json.old.written json.new.written) }
-    ensures fails { IfOk result (λ failed. failed ≡ has_failed (evaluated_with condition.now.which.now
-        condition.now.text.now (value_view value.now) (typed_view condition.now.tree.now))) }
-{
-    let evaluation = tell(alloc, condition.tree, value)?;
-    write_evaluation(alloc, json, condition.which, condition.text, &evaluation)?;
-    Ok(is_failure(&evaluation.answer))
-}
-
-/// Writes a condition with its tree on a value, where it is there, and returns whether it has failed.
-fn write_condition(
-    alloc: Global,
-    json: &mut JsonText,
-    which: &str,
-    condition: Option<&SharedCondition>,
-    tree: &Option<Typed>,
-    value: &Value,
-) -> Result<bool, AllocError>
-    requires { option_map typed_view tree.now
-        ≡ condition_tree (option_map (λ condition. condition.now) condition) }
-    ensures json { OnOk result (AddsValues (map evaluated_data (evaluated_if_there which.now (value_view value.now)
-        (option_map (λ condition. condition.now) condition.entry))) json.old.written json.new.written) }
-    ensures fails { IfOk result (λ failed. failed ≡ list_any has_failed (evaluated_if_there which.now
-        (value_view value.now) (option_map (λ condition. condition.now) condition.entry))) }
-{
-    match (condition, tree) {
-        (Some(condition), Some(tree)) => {
-            let text = condition.get().text();
-            write_tree(alloc, json, &NamedTree { which, text, tree }, value)
-        }
-        (_, None) | (None, _) => Ok(false),
-    }
-}
-
-/// Writes what a judge's conditions say of a value.
-fn write_conditions(
-    alloc: Global,
-    json: &mut JsonText,
-    judge: &Judge,
-    trees: &JudgeTrees,
-    value: &Value,
-) -> Result<(), AllocError>
-    requires { judge_trees_view trees.now ≡ trees_of judge.now }
-    ensures { OnOk result (AddsValues (map evaluated_data (conditions_on judge.now (value_view value.now)))
-        json.old.written json.new.written) }
-{
-    let success = judge.condition(Which::Success);
-    if !write_condition(alloc, json, "success", success, &trees.success, value)? {
-        let failure = judge.condition(Which::Failure);
-        write_condition(alloc, json, "failure", failure, &trees.failure, value)?;
-    }
-    Ok(())
-}
 
 // ---- events
 
@@ -394,86 +191,6 @@ fn put_change(json: &mut JsonText, change: Option<Change>)
     };
     json.put_key("counts");
     write_change(json, change)
-}
-
-/// Writes a number, or null where there is none.
-fn put_number_if_there(json: &mut JsonText, name: &str, number: Option<u64>)
-    ensures { AddsMember name.now (count_or_null number) json.old.written json.new.written }
-{
-    match number {
-        Some(number) => json.put_count(name, number),
-        None => json.put_null(name),
-    }
-}
-
-fn write_why_members(
-    json: &mut JsonText,
-    count: Option<u64>,
-    event: Option<u64>,
-    kind: &str,
-    limit: Option<&str>,
-    phase: Option<&str>,
-    value: Option<u64>,
-)
-    ensures { AddsValue (why_members count event kind.now (option_map (λ limit. limit.now) limit.entry)
-        (option_map (λ phase. phase.now) phase.entry) value) json.old.written json.new.written }
-{
-    json.begin_object();
-    put_number_if_there(json, "count", count);
-    put_number_if_there(json, "event", event);
-    json.put_text("kind", kind);
-    json.put_text_if_there("limit", limit);
-    json.put_text_if_there("phase", phase);
-    put_number_if_there(json, "value", value);
-    json.end_object()
-}
-
-/// Writes the count that exceeded its limit.
-fn write_excess(json: &mut JsonText, phase: Phase, excess: Excess)
-    ensures { AddsValue (excess_data phase excess) json.old.written json.new.written }
-{
-    let (limit, phase) = (excess.limit.name(), phase_name(phase));
-    let (count, value) = (excess.count, u64::from(excess.value));
-    write_why_members(
-        json,
-        Some(count),
-        None,
-        "limit",
-        Some(limit),
-        Some(phase),
-        Some(value),
-    )
-}
-
-fn write_why(json: &mut JsonText, why: Why)
-    ensures { AddsValue (why_data why) json.old.written json.new.written }
-{
-    match why {
-        Why::Stopped => write_why_members(json, None, None, "stop", None, None, None),
-        Why::Exceeded(phase, excess) => write_excess(json, phase, excess),
-        Why::AllComplete => write_why_members(json, None, None, "complete", None, None, None),
-        Why::Dry(phase) => {
-            write_why_members(json, None, None, "dry", None, Some(phase_name(phase)), None)
-        }
-        Why::AfterClose(number) => {
-            write_why_members(json, None, Some(number), "runClosed", None, None, None)
-        }
-        Why::MetricWas(phase, since) => {
-            let phase = Some(phase_name(phase));
-            write_why_members(json, None, since, "metricComplete", None, phase, None)
-        }
-    }
-}
-
-/// Writes why an event closed its run, didn't, or came late, or null.
-fn put_why(json: &mut JsonText, why: Option<Why>)
-    ensures { AddsMember (codes "reason") (option_map_or why_data why null) json.old.written json.new.written }
-{
-    let Some(why) = why else {
-        return json.put_null("reason");
-    };
-    json.put_key("reason");
-    write_why(json, why)
 }
 
 /// Writes what led to an event of a run, for which the provider gave this.

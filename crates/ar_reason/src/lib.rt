@@ -14,14 +14,18 @@
 //! it from that.
 //!
 //! - `given`: what a provider gave; `evaluated`: the trees of conditions; `parts`: the lines of their parts
-//! - `lines`: the text; `data`: the object
+//! - `lines`: the text
+//! - `data`: the object; `part_data`: the objects of conditions and their parts; `why_data`: why an event closed its
+//!   run or came late
 #![tactic(auto)]
 
 mod data;
 mod evaluated;
 mod given;
 mod lines;
+mod part_data;
 mod parts;
+mod why_data;
 
 pub use data::reasons_json;
 pub use lines::reasons_text;

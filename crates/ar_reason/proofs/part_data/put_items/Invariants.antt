@@ -1,7 +1,7 @@
 use Rattle.std.proofs.Common.{drop, map}
 use Rattle.ar_object.proofs.Texts.{Remains}
 use Rattle.ar_object.specs.Object.{count_data}
-use Rattle.ar_reason.proofs.data.put_items.Given as goal
+use Rattle.ar_reason.proofs.part_data.put_items.Given as goal
 
 -- the items that are left are still to be written
 abbrev pub invariant-loop-item : goal.invariant-loop-item

@@ -2,7 +2,7 @@ use Rattle.std.proofs.Common.{drop, map}
 use Rattle.ar_object.proofs.Texts.{Remains}
 use Rattle.ar_explain.specs.Views.{line_view}
 use Rattle.ar_reason.specs.ReasonData.{part_data}
-use Rattle.ar_reason.proofs.data.write_parts.Given as goal
+use Rattle.ar_reason.proofs.part_data.write_parts.Given as goal
 
 -- the parts of the lines that are left are still to be written
 abbrev pub invariant-loop-line : goal.invariant-loop-line

@@ -2,7 +2,7 @@ use Rattle.std.proofs.Common.{arith}
 use Rattle.std.proofs.lemmas.List.{drop_all, drop_more}
 use Rattle.ar_object.proofs.Texts.{all_remain, list_member, next_value, none_remains}
 use Rattle.ar_object.specs.Object.{count_data}
-use Rattle.ar_reason.proofs.data.put_items.Goals as goal
+use Rattle.ar_reason.proofs.part_data.put_items.Goals as goal
 
 pub loop-item-init : goal.loop-item-init
 loop-item-init c = all_remain _ _

@@ -1,6 +1,6 @@
 use Rattle.ar_object.proofs.Texts.{list_member}
 use Rattle.ar_reason.proofs.Lists.{all_parts}
-use Rattle.ar_reason.proofs.data.put_parts.Goals as goal
+use Rattle.ar_reason.proofs.part_data.put_parts.Goals as goal
 
 pub returns : goal.returns
 returns c =

@@ -3,7 +3,7 @@ use Rattle.ar_explain.specs.Views.{line_view}
 use Rattle.ar_object.proofs.Texts.{all_remain}
 use Rattle.ar_reason.proofs.Lists.{next_object, no_object_left}
 use Rattle.ar_reason.specs.ReasonData.{part_data}
-use Rattle.ar_reason.proofs.data.write_parts.Goals as goal
+use Rattle.ar_reason.proofs.part_data.write_parts.Goals as goal
 
 pub loop-line-init : goal.loop-line-init
 loop-line-init c = all_remain _ _
