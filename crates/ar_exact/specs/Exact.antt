@@ -8,47 +8,63 @@ use Rattle.ar_value.specs.Terms.{Text}
 use Rattle.ar_value.specs.Value.{Value}
 use Rattle.ar_value.specs.Value as values
 
+pub data Exact : Type 0 where
+  -- null: nil, or a value that has no form of its own
+  no_form : Exact
+  a_boolean : Bool → Exact
+  an_integer : ℤ → Exact
+  -- a text, or the digits of a number
+  a_text : Text → Exact
+
 -- readers that take numbers as floats have the integers up to 2^53 exactly
 abbrev pub is_exact : ℤ → Bool
 is_exact integer = nat_le (nat_abs integer) (2 ^ 53)
 
 -- a greater integer is a text with its digits
-abbrev pub whole_data : ℤ → Data
-whole_data integer = if is_exact integer then integer_data integer else string (signed_decimal integer)
+abbrev pub exact_whole : ℤ → Exact
+exact_whole integer = if is_exact integer then an_integer integer else a_text (signed_decimal integer)
 
 -- how many bytes a text may have
 abbrev pub most_bytes : ℕ
 most_bytes = 256
 
--- null in place of a longer text
-abbrev pub text_data : Text → Data
-text_data text = if nat_lt most_bytes (length text) then null else string text
+abbrev pub exact_text : Text → Exact
+exact_text text = if nat_lt most_bytes (length text) then no_form else a_text text
 
--- null in place of a list and of a record
-abbrev pub exact_data : Value → Data
-exact_data values.nil = null
-exact_data (values.bool holds) = boolean holds
-exact_data (values.whole integer) = whole_data integer
-exact_data (values.decimal millionths) = string (decimal_text millionths)
-exact_data (values.text text) = text_data text
-exact_data (values.list items) = null
-exact_data (values.object of) = null
+-- a list and a record have no such form
+abbrev pub exact_of : Value → Exact
+exact_of values.nil = no_form
+exact_of (values.bool holds) = a_boolean holds
+exact_of (values.whole integer) = exact_whole integer
+exact_of (values.decimal millionths) = a_text (decimal_text millionths)
+exact_of (values.text text) = exact_text text
+exact_of (values.list items) = no_form
+exact_of (values.object of) = no_form
+
+abbrev pub exact_data : Exact → Data
+exact_data no_form = null
+exact_data (a_boolean holds) = boolean holds
+exact_data (an_integer integer) = integer_data integer
+exact_data (a_text text) = string text
 
 -- ---- worked rows
 
-the_greatest : exact_data (values.whole (pos 9007199254740992)) ≡ count_data 9007199254740992
+abbrev written : Value → Data
+written value = exact_data (exact_of value)
+
+the_greatest : written (values.whole (pos 9007199254740992)) ≡ count_data 9007199254740992
 the_greatest = refl
 
-one_more : exact_data (values.whole (pos 9007199254740993)) ≡ string (codes "9007199254740993")
+one_more : written (values.whole (pos 9007199254740993)) ≡ string (codes "9007199254740993")
 unfolding digits
 one_more = refl
 
-below_zero : exact_data (values.whole (negsuc 4)) ≡ integer_data (negsuc 4)
+below_zero : written (values.whole (negsuc 4)) ≡ integer_data (negsuc 4)
 below_zero = refl
 
-a_decimal : exact_data (values.decimal (negsuc 499999)) ≡ string (codes "-0.5")
+a_decimal : written (values.decimal (negsuc 499999)) ≡ string (codes "-0.5")
 unfolding decimal_text digits
 a_decimal = refl
 
-a_long_text : exact_data (values.text (replicate 257 97)) ≡ null
+a_long_text : written (values.text (replicate 257 97)) ≡ null
 a_long_text = refl

@@ -2,7 +2,7 @@
 
 ghost use Rattle.std.specs.Prelude.{◌≡◌, IfOk, string_bytes};
 ghost use Rattle.std.specs.Fmt.{signed_decimal};
-ghost use Rattle.ar_exact.specs.Exact.{exact_data, is_exact, text_data, whole_data};
+ghost use Rattle.ar_exact.specs.Exact.{exact_data, exact_of, exact_text, exact_whole, is_exact};
 ghost use Rattle.ar_exact.specs.Views.{exact_view};
 ghost use Rattle.ar_machine.specs.Operand.{operand_value, value_of};
 ghost use Rattle.ar_object.specs.Written.{AddsMember};
@@ -46,7 +46,7 @@ fn whole_digits(alloc: Global, whole: i64) -> Result<String, AllocError>
 }
 
 fn whole_of(alloc: Global, whole: i64) -> Result<Exact, AllocError>
-    ensures { IfOk result (λ exact. exact_view exact ≡ whole_data whole) }
+    ensures { IfOk result (λ exact. exact_view exact ≡ exact_whole whole) }
 {
     if is_exact(whole) {
         return Ok(Exact::Integer(whole));
@@ -63,7 +63,7 @@ fn decimal_digits(alloc: Global, millionths: i64) -> Result<String, AllocError>
 }
 
 fn text_of(alloc: Global, text: &str) -> Result<Exact, AllocError>
-    ensures { IfOk result (λ exact. exact_view exact ≡ text_data text.now) }
+    ensures { IfOk result (λ exact. exact_view exact ≡ exact_text text.now) }
 {
     if text.len() > MOST_BYTES {
         return Ok(Exact::Null);
@@ -74,7 +74,7 @@ fn text_of(alloc: Global, text: &str) -> Result<Exact, AllocError>
 }
 
 fn borrowed_of(alloc: Global, value: ValueRef<'_>) -> Result<Exact, AllocError>
-    ensures { IfOk result (λ exact. exact_view exact ≡ exact_data (value_of value.entry)) }
+    ensures { IfOk result (λ exact. exact_view exact ≡ exact_of (value_of value.entry)) }
 {
     match value {
         ValueRef::Bool(boolean) => Ok(Exact::Bool(boolean)),
@@ -91,7 +91,7 @@ fn borrowed_of(alloc: Global, value: ValueRef<'_>) -> Result<Exact, AllocError>
 ///
 /// Out of memory alone.
 pub fn exact_of(alloc: Global, value: OperandRef<'_, '_>) -> Result<Exact, AllocError>
-    ensures { IfOk result (λ exact. exact_view exact ≡ exact_data (operand_value value.entry)) }
+    ensures { IfOk result (λ exact. exact_view exact ≡ exact_of (operand_value value.entry)) }
 {
     match value {
         OperandRef::Borrowed(value) => borrowed_of(alloc, value),
@@ -102,7 +102,7 @@ pub fn exact_of(alloc: Global, value: OperandRef<'_, '_>) -> Result<Exact, Alloc
 impl Exact {
     /// Writes the value as a member of an object.
     pub fn put(&self, json: &mut JsonText, name: &str)
-        ensures { AddsMember name.now (exact_view self.now) json.old.written json.new.written }
+        ensures { AddsMember name.now (exact_data (exact_view self.now)) json.old.written json.new.written }
     {
         match self {
             Exact::Null => json.put_null(name),

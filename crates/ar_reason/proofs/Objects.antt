@@ -1,22 +1,19 @@
 -- No object of reasons is deep.
 use Rattle.std.proofs.Common.{◌≡◌, ◌≤◌, ◌++◌, ℕ, ℤ, pos, negsuc, suc, max, Bool, true, false, if◌then◌else◌, List, [], ◌∷◌, length, nat_lt, Option, Some, None, refl, arith}
 use Rattle.std.specs.Prelude.{codes, flat_map, map}
-use Rattle.std.specs.Fmt.{signed_decimal}
 use Rattle.std.specs.Option.{option_map_or}
 use Rattle.std.proofs.Math.Nat.{max-le}
 use Rattle.serde_json.specs.Data.{depth, items_depth, null, string}
 use Rattle.serde_json.specs.Read.{max_depth}
 use Rattle.serde_json.specs.View.{items_of}
-use Rattle.ar_value.specs.Value.{Value}
-use Rattle.ar_value.specs.Value as values
-use Rattle.ar_exact.specs.Exact.{exact_data, is_exact, text_data, whole_data}
+use Rattle.ar_exact.specs.Exact.{Exact, a_boolean, a_text, an_integer, exact_data, exact_of, no_form}
 use Rattle.ar_explain.specs.Apart.{Apart}
 use Rattle.ar_explain.specs.Lines.{Line, Outcome, failed, is_item, passed, unneeded, valued}
 use Rattle.ar_facts.proofs.Objects.{finding_flat, metric_flat}
 use Rattle.ar_object.proofs.Values.{above, count_flat, none_deep, one_deep, text_flat}
-use Rattle.ar_object.specs.Object.{count_data, count_or_null, integer_data, text_or_null}
+use Rattle.ar_object.specs.Object.{array_of, count_data, count_or_null, integer_data, text_or_null}
 use Rattle.ar_facts.specs.Facts.{MetricFacts}
-use Rattle.ar_facts.specs.ReportData.{event_data}
+use Rattle.ar_facts.specs.ReportData.{event_data, metric_data}
 use Rattle.ar_limits.specs.Metric.{is_complete}
 use Rattle.ar_limits.specs.declared.phase.Phase.{Phase}
 use Rattle.ar_misfit.specs.Misfit.{Misfit, Step, index, named}
@@ -69,23 +66,146 @@ integer_flat : (integer : ℤ) → depth (integer_data integer) ≡ 0
 integer_flat (pos n) = refl
 integer_flat (negsuc n) = refl
 
-whole_flat : (integer : ℤ) → depth (whole_data integer) ≡ 0
-whole_flat integer = by (is_exact integer) where
-  by : (exact : Bool) → depth (if exact then integer_data integer else string (signed_decimal integer)) ≡ 0
-  by true = integer_flat integer
-  by false = refl
+exact_flat : (exact : Exact) → depth (exact_data exact) ≡ 0
+exact_flat no_form = refl
+exact_flat (a_boolean holds) = refl
+exact_flat (an_integer integer) = integer_flat integer
+exact_flat (a_text text) = refl
 
-text_data_flat : (text : List ℕ) → depth (text_data text) ≡ 0
-text_data_flat text = by (nat_lt 256 (length text)) where
-  by : (long : Bool) → depth (if long then null else string text) ≡ 0
-  by true = refl
-  by false = refl
+exact_small : (exact : Exact) (levels : ℕ) → depth (exact_data exact) ≤ levels
+exact_small exact levels = let is = exact_flat exact in omega arith
 
-exact_flat : (value : Value) → depth (exact_data value) ≡ 0
-exact_flat values.nil = refl
-exact_flat (values.bool holds) = refl
-exact_flat (values.whole integer) = whole_flat integer
-exact_flat (values.decimal millionths) = refl
-exact_flat (values.text text) = text_data_flat text
-exact_flat (values.list items) = refl
-exact_flat (values.object of) = refl
+-- ---- the parts of a condition
+
+value_small : (said : Outcome) (levels : ℕ) → depth (value_if_there said) ≤ levels
+value_small (valued text exact apart) levels = exact_small exact levels
+value_small (is_item text exact) levels = exact_small exact levels
+value_small (failed failure on) levels = zero_small levels
+value_small unneeded levels = zero_small levels
+value_small (passed items held) levels = zero_small levels
+
+answer_small : (said : Outcome) (levels : ℕ) → depth (answer_data said) ≤ levels
+answer_small (valued text exact apart) levels = exact_small exact levels
+answer_small (is_item text exact) levels = zero_small levels
+answer_small (failed failure on) levels = zero_small levels
+answer_small unneeded levels = zero_small levels
+answer_small (passed items held) levels = zero_small levels
+
+gap_flat : (said : Outcome) → depth (gap_data said) ≤ 2
+gap_flat (passed items held) = omega arith
+gap_flat (valued text exact apart) = omega arith
+gap_flat (is_item text exact) = omega arith
+gap_flat (failed failure on) = omega arith
+gap_flat unneeded = omega arith
+
+apart_small : (apart : Option Apart) → depth (option_map_or apart_data apart null) ≤ 2
+apart_small (Some apart) = omega arith
+apart_small None = omega arith
+
+part_flat : (line : Line) → depth (part_data line) ≤ 3
+part_flat line =
+    ten_deep 0 _ _ _ _ 0 _ 0 _ _ 2 (zero_small 2) (gap_flat line.said) (apart_small (apart_if_there line.said)) (text_small (failure_if_there line.said) 2) (above (none_deep count_data 1 (λ n. omega arith) line.items)) (zero_small 2) (text_small (operands_if_there line.said) 2) (zero_small 2) (text_small (shown_if_there line.said) 2) (value_small line.said 2)
+
+evaluated_flat : (condition : EvaluatedCondition) → depth (evaluated_data condition) ≤ 5
+evaluated_flat condition =
+    six_deep _ 0 0 _ _ 0 4 (answer_small condition.answer 4) (zero_small 4) (zero_small 4) (text_small (operands_if_there condition.answer) 4) (above (none_deep part_data 3 part_flat (condition.parts.lines ++ condition.parts.last))) (zero_small 4)
+
+-- ---- an event
+
+change_flat : (change : Option Change) → depth (option_map_or change_data change null) ≤ 6
+change_flat (Some change) = rw (count_flat change.limits.count) (omega arith)
+change_flat None = omega arith
+
+finding_small : (reason : Reason) → depth (event_data reason.event) ≤ 6
+finding_small reason = let is = finding_flat reason.event reason.event.finding in omega arith
+
+error_small : (given : Given) → depth (given_error given) ≤ 6
+error_small gave_nothing = omega arith
+error_small (gave_error text) = omega arith
+error_small (gave_value value) = omega arith
+error_small (gave_misfit misfit) = omega arith
+
+shown_small : (given : Given) → depth (given_shown given) ≤ 6
+shown_small gave_nothing = omega arith
+shown_small (gave_error text) = omega arith
+shown_small (gave_value value) = omega arith
+shown_small (gave_misfit misfit) = omega arith
+
+given_small : (given : Given) → depth (given_value given) ≤ 6
+given_small gave_nothing = omega arith
+given_small (gave_error text) = omega arith
+given_small (gave_value value) = exact_small (exact_of value) 6
+given_small (gave_misfit misfit) = omega arith
+
+step_flat : (step : Step) → depth (step_data step) ≤ 4
+step_flat (index n) = omega arith
+step_flat (named name) = omega arith
+
+misfit_small : (number : ℕ) (given : Given) → depth (given_misfit number given) ≤ 6
+misfit_small number gave_nothing = omega arith
+misfit_small number (gave_error text) = omega arith
+misfit_small number (gave_value value) = omega arith
+misfit_small number (gave_misfit misfit) =
+    six_deep 0 0 0 _ _ 0 5 (zero_small 5) (zero_small 5) (zero_small 5) (text_small (advice misfit.fault misfit.expected) 5) (above (none_deep step_data 4 step_flat misfit.path)) (zero_small 5)
+
+members_small : (count event value : Option ℕ) (kind : List ℕ) (limit phase : Option (List ℕ)) → depth (why_members count event kind limit phase value) ≤ 6
+members_small count event value kind limit phase =
+    six_deep _ _ 0 _ _ _ 5 (count_small count 5) (count_small event 5) (zero_small 5) (text_small limit 5) (text_small phase 5) (count_small value 5)
+
+why_small : (why : Option Why) → depth (option_map_or why_data why null) ≤ 6
+why_small None = omega arith
+why_small (Some whys.Stopped) = members_small _ _ _ _ _ _
+why_small (Some (whys.Exceeded phase excess)) = members_small _ _ _ _ _ _
+why_small (Some whys.AllComplete) = members_small _ _ _ _ _ _
+why_small (Some (whys.Dry phase)) = members_small _ _ _ _ _ _
+why_small (Some (whys.AfterClose number)) = members_small _ _ _ _ _ _
+why_small (Some (whys.MetricWas phase since)) = members_small _ _ _ _ _ _
+
+reason_flat : (reason : Reason) → depth (reason_data reason) ≤ 7
+reason_flat reason =
+    nine_deep _ _ _ _ _ 0 _ _ _ 6 (above (none_deep evaluated_data 5 evaluated_flat reason.conditions)) (change_flat reason.change) (error_small reason.given) (finding_small reason) (misfit_small reason.event.number reason.given) (zero_small 6) (why_small reason.why) (shown_small reason.given) (given_small reason.given)
+
+-- ---- a run
+
+progress_small : (progress : Option Progress) → depth (option_map_or progress_data progress null) ≤ 2
+progress_small None = omega arith
+progress_small (Some progress) = let is = count_flat progress.count in omega arith
+
+settled_small : (settled : Option Settled) → depth (option_map_or settled_data settled null) ≤ 2
+settled_small None = omega arith
+settled_small (Some settled) = three_deep _ 0 0 1 (count_small settled.count 1) (zero_small 1) (zero_small 1)
+
+metric_small : (metric : MetricFacts) → depth (metric_data metric) ≤ 2
+metric_small metric = let is = metric_flat metric in omega arith
+
+waiting_flat : (closer : Option ℕ) (metric : MetricFacts) → depth (waiting_data closer metric) ≤ 3
+waiting_flat closer metric =
+    three_deep _ _ _ 2 (metric_small metric) (settled_small (settled_by closer metric.limits metric.counts)) (progress_small (waits_for metric.phase metric.limits metric.counts))
+
+awaited_flat : (metrics : List MetricFacts) → items_depth (items_of (flat_map awaited metrics)) ≤ 7
+awaited_flat [] = omega arith
+awaited_flat (metric ∷ metrics) = by (is_complete metric.phase) where
+  later : items_depth (items_of (flat_map awaited metrics)) ≤ 7
+  later = awaited_flat metrics
+
+  by : (complete : Bool) → items_depth (items_of ((if complete then [] else awaited_data metric ∷ []) ++ flat_map awaited metrics)) ≤ 7
+  by true = later
+  by false = max-le (three_deep _ 0 0 6 (count_small metric.limits.count 6) (zero_small 6) (zero_small 6)) later
+
+waits_small : (phase : Phase) (metrics : List MetricFacts) → depth (run_waits_data phase metrics) ≤ 8
+waits_small phase metrics = by (is_complete phase) where
+  by : (closed : Bool) → depth (if closed then null else array_of (flat_map awaited metrics)) ≤ 8
+  by true = omega arith
+  by false = above (awaited_flat metrics)
+
+run_flat : (run : RunReasons) → depth (run_reasons_data run) ≤ 9
+run_flat run =
+    let events = above (none_deep reason_data 7 reason_flat run.reasons) in
+    let metrics = above (none_deep (waiting_data run.closer) 7 (λ metric. let is = waiting_flat run.closer metric in omega arith) run.metrics) in
+    five_deep _ _ 0 0 _ 8 events metrics (zero_small 8) (zero_small 8) (waits_small run.phase run.metrics)
+
+more : {a : ℕ} → a ≤ 11 → a ≤ max_depth
+more less = omega arith
+
+pub reasons_flat : (runs : List RunReasons) → depth (reasons_data runs) ≤ max_depth
+reasons_flat runs = more (one_deep _ 10 (above (none_deep run_reasons_data 9 run_flat runs)))

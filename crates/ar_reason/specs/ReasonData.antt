@@ -25,7 +25,7 @@ use Rattle.ar_progress.specs.declared.steps.Change.{Change}
 use Rattle.ar_progress.specs.declared.waiting.Progress.{Progress}
 use Rattle.ar_progress.specs.declared.why.Why.{Why}
 use Rattle.ar_progress.specs.declared.why.Why.TheVariants as whys
-use Rattle.ar_exact.specs.Exact.{exact_data}
+use Rattle.ar_exact.specs.Exact.{exact_data, exact_of}
 use Rattle.ar_show.specs.PartText.{shown_part}
 use Rattle.ar_show.specs.Values.{shown_value}
 use Rattle.ar_reason.specs.Reason.{EvaluatedCondition, Given, Reason, RunReasons, gave_error, gave_misfit, gave_value}
@@ -41,8 +41,8 @@ shown_if_there said = None
 
 -- the value, where JSON has it exactly
 abbrev pub value_if_there : Outcome → Data
-value_if_there (valued text exact apart) = exact
-value_if_there (is_item text exact) = exact
+value_if_there (valued text exact apart) = exact_data exact
+value_if_there (is_item text exact) = exact_data exact
 value_if_there said = null
 
 abbrev pub failure_if_there : Outcome → Option Text
@@ -103,7 +103,7 @@ part_data line = object
 
 -- the whole condition's boolean, or the name of its failure
 abbrev pub answer_data : Outcome → Data
-answer_data (valued text exact apart) = exact
+answer_data (valued text exact apart) = exact_data exact
 answer_data (failed failure on) = string (failure_name failure)
 answer_data said = null
 
@@ -124,7 +124,7 @@ evaluated_data condition = evaluation_data condition.which condition.text condit
 
 -- the value, where JSON has it exactly
 abbrev pub given_value : Given → Data
-given_value (gave_value value) = exact_data value
+given_value (gave_value value) = exact_data (exact_of value)
 given_value given = null
 
 -- the value as lines show it
