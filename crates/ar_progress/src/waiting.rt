@@ -6,8 +6,8 @@ ghost use Rattle.ar_progress.specs.Waiting.{progress_of, progress_text, run_wait
 
 use crate::counts::measured;
 use ar_bundle::MetricPart;
-use ar_quote::push_name;
 use ar_limits::{Counts, Limits, Phase, RunState};
+use ar_quote::push_name;
 use std::alloc::{AllocError, Global};
 use std::fmt::Write;
 

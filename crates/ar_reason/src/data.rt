@@ -402,12 +402,7 @@ fn write_all_awaited(
 }
 
 /// Writes what a run waits for, or null where it is closed.
-fn put_run_waits(
-    json: &mut JsonText,
-    metrics: &[MetricPart],
-    limits: &[Limits],
-    state: &RunState,
-)
+fn put_run_waits(json: &mut JsonText, metrics: &[MetricPart], limits: &[Limits], state: &RunState)
     requires limits { length limits.now ≡ length metrics.now }
     requires metrics { length state.now.limits ≡ length metrics.now }
     ensures { AddsMember (codes "waitsFor") (run_waits_data state.now.phase

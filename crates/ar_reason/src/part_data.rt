@@ -143,17 +143,17 @@ fn put_apart(json: &mut JsonText, said: &Said)
         json.old.written json.new.written }
 {
     match said {
-        Said::Valued(Shown {
-            apart: Some(apart), ..
-        }) => {
+        Said::Valued(
+            Shown {
+                apart: Some(apart),
+                ..
+            },
+        ) => {
             json.put_key("differ");
             write_apart(json, apart)
         }
-        Said::Valued(_)
-        | Said::Item(_)
-        | Said::Failed(..)
-        | Said::Unneeded
-        | Said::Passed { .. } => json.put_null("differ"),
+        Said::Valued(_) | Said::Item(_) | Said::Failed(..) | Said::Unneeded | Said::Passed { .. } =>
+            json.put_null("differ"),
     }
 }
 
