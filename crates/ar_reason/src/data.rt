@@ -368,7 +368,7 @@ fn put_metrics(
     json.end_list()
 }
 
-/// Writes a metric that its run waits for, if the metric isn't complete.
+/// Writes a metric that its run waits for.
 fn write_awaited(json: &mut JsonText, metric: &MetricPart, limits: Limits, counts: Counts)
     ensures { (phase : Phase) → AddsValue (awaited_data (metric_facts metric.now limits phase counts))
         json.old.written json.new.written }
@@ -379,6 +379,21 @@ fn write_awaited(json: &mut JsonText, metric: &MetricPart, limits: Limits, count
     put_measured(json, progress.measured);
     json.put_text("metric", metric.name.as_str());
     json.end_object()
+}
+
+/// Writes a metric, unless it is complete.
+fn write_if_awaited(
+    json: &mut JsonText,
+    metric: &MetricPart,
+    limits: Limits,
+    phase: Phase,
+    counts: Counts,
+)
+    ensures { AddsValues (awaited (metric_facts metric.now limits phase counts)) json.old.written json.new.written }
+{
+    if !phase.is_complete() {
+        write_awaited(json, metric, limits, counts)
+    }
 }
 
 /// Writes the metrics that aren't complete.
@@ -395,9 +410,8 @@ fn write_all_awaited(
         json.old.written json.new.written }
 {
     for (number, metric) in metrics.iter().enumerate() {
-        if !state.metric_phase(number).is_complete() {
-            write_awaited(json, metric, limits[number], state.counts(number));
-        }
+        let (phase, counts) = (state.metric_phase(number), state.counts(number));
+        write_if_awaited(json, metric, limits[number], phase, counts);
     }
 }
 
