@@ -2,6 +2,7 @@ pub mod Changes
 pub mod Closes
 pub mod Completed
 pub mod Completers
+pub mod Counted
 pub mod Entries
 pub mod Exceeding
 pub mod Fronts

@@ -1,6 +1,6 @@
 //! Laws of the definitions. Each function does nothing: its contract is the law, which its proof shows.
 
-ghost use Rattle.ar_progress.specs.Laws.{ChangesAreOfFronts, ClosersAreFirstOver, CountsStay, LastCountsAreReported, LateAfterTheCloser, LateAfterTheCompleter, LateForAReason, SettledByTheClose};
+ghost use Rattle.ar_progress.specs.Laws.{ChangesAreOfFronts, ClosersAreFirstOver, CountsAreOfEvents, CountsStay, LastCountsAreReported, LateAfterTheCloser, LateAfterTheCompleter, LateForAReason, SettledByTheClose};
 
 /// What an event changes are the phase and the counts of its metric: before, those of the events before it, and after,
 /// those of these and it.
@@ -13,6 +13,11 @@ pub fn changes_are_of_fronts()
 pub fn counts_stay()
     ensures until_the_next { CountsStay }
     ensures reported { LastCountsAreReported }
+{}
+
+/// A metric has counted no more measurements than its run has events.
+pub fn counts_are_of_events()
+    ensures { CountsAreOfEvents }
 {}
 
 /// An event that closes its run without success is the first after which the count that the reason names exceeds its
