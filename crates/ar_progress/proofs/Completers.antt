@@ -47,14 +47,14 @@ completer_push bundle limits entries entry metric =
     ∙ map_or number_of (find (tested bundle limits metric) (with_earlier entries)) (entries, entry) (leaves_complete metric (change_after bundle limits entries entry)))
 
 -- where the event doesn't leave this metric complete
-unchanged : (bundle : Bundle) (limits : List Limits) (entries : List Entry) (entry : Entry) (metric : ℕ) (change : Option Change) → change_after bundle limits entries entry ≡ change → leaves_complete metric change ≡ false
+pub unchanged : (bundle : Bundle) (limits : List Limits) (entries : List Entry) (entry : Entry) (metric : ℕ) (change : Option Change) → change_after bundle limits entries entry ≡ change → leaves_complete metric change ≡ false
     → completer_of bundle limits (entries ++ entry ∷ []) metric ≡ completer_of bundle limits entries metric
 unchanged bundle limits entries entry metric change changes passes =
     completer_push bundle limits entries entry metric
     ∙ (ap (λ (does : Bool). option_or (completer_of bundle limits entries metric) (cond does (Some entry.number) None)) (ap (leaves_complete metric) changes ∙ passes)
     ∙ or_nothing (completer_of bundle limits entries metric))
 
-completed : (bundle : Bundle) (limits : List Limits) (entries : List Entry) (entry : Entry) (metric : ℕ) (change : Option Change) → change_after bundle limits entries entry ≡ change → leaves_complete metric change ≡ true
+pub completed : (bundle : Bundle) (limits : List Limits) (entries : List Entry) (entry : Entry) (metric : ℕ) (change : Option Change) → change_after bundle limits entries entry ≡ change → leaves_complete metric change ≡ true
     → completer_of bundle limits (entries ++ entry ∷ []) metric ≡ option_or (completer_of bundle limits entries metric) (Some entry.number)
 completed bundle limits entries entry metric change changes does =
     completer_push bundle limits entries entry metric

@@ -88,7 +88,7 @@ push_last : (entry : Entry) (does : Bool) → closes entry.effect ≡ does → c
 push_last entry true is = rw is refl
 push_last entry false is = rw is refl
 
-closer_push : (entries : List Entry) (entry : Entry) → closer_of (entries ++ entry ∷ []) ≡ closer_or (closer_of entries) entry
+pub closer_push : (entries : List Entry) (entry : Entry) → closer_of (entries ++ entry ∷ []) ≡ closer_or (closer_of entries) entry
 closer_push [] entry = push_last entry (closes entry.effect) refl
 closer_push (first ∷ entries) entry = push_closing first entries entry (closes first.effect) refl (closer_push entries entry)
 

@@ -1,8 +1,8 @@
 -- Laws of the definitions, each the contract of a function of `laws`. They are of a history of a run, cut into the
 -- entries before an entry, this one, and later ones.
-use Rattle.std.specs.Prelude.{ℕ, ◌≡◌, ◌≤◌, true, false, List, [], ◌∷◌, ◌++◌, Option, Some, IfSome, is_some, option_map, slice_get}
+use Rattle.std.specs.Prelude.{ℕ, ◌≡◌, ◌≤◌, ◌+◌, true, false, List, [], ◌∷◌, ◌++◌, Option, Some, IfSome, is_some, option_map, length, slice_get}
 use Rattle.std.specs.List.{list_any}
-use Rattle.ar_limits.specs.Metric.{HasPositiveCounts, decided_by, is_complete, phase_of_marks}
+use Rattle.ar_limits.specs.Metric.{HasPositiveCounts, counted, decided_by, is_complete, phase_of_marks}
 use Rattle.ar_limits.specs.Run.{closing_prefix, marks_of, metric_counts, metric_phases}
 use Rattle.ar_limits.specs.declared.counts.Counts.{Counts}
 use Rattle.ar_limits.specs.declared.event.Effect.TheVariants as effect
@@ -61,6 +61,12 @@ LastCountsAreReported = (bundle : Bundle) (run : RunPart) (earlier : List Entry)
     → list_any (is_entry_of bundle change.metric) later ≡ false
     → slice_get (run_facts bundle run (numbers_of (earlier ++ entry ∷ later))).metrics change.metric ≡ Some metric
     → metric.counts ≡ change.after.counts
+
+-- a metric has counted no more measurements than its run has events, so at most 100,000
+abbrev pub CountsAreOfEvents : Type 0
+CountsAreOfEvents = (limits : List Limits) (events : List Event) (metric : ℕ) (own : Limits) (counts : Counts)
+    → slice_get limits metric ≡ Some own → slice_get (metric_counts limits events) metric ≡ Some counts
+    → counted counts + counts.error ≤ length events
 
 -- ---- What closes a run
 

@@ -1,6 +1,6 @@
 //! Laws of the definitions. Each function does nothing: its contract is the law, which its proof shows.
 
-ghost use Rattle.ar_progress.specs.Laws.{ChangesAreOfFronts, ClosersAreFirstOver, CountsStay, LastCountsAreReported, SettledByTheClose};
+ghost use Rattle.ar_progress.specs.Laws.{ChangesAreOfFronts, ClosersAreFirstOver, CountsAreOfEvents, CountsStay, LastCountsAreReported, LateAfterTheCloser, LateAfterTheCompleter, LateForAReason, SettledByTheClose};
 
 /// What an event changes are the phase and the counts of its metric: before, those of the events before it, and after,
 /// those of these and it.
@@ -15,10 +15,31 @@ pub fn counts_stay()
     ensures reported { LastCountsAreReported }
 {}
 
+/// A metric has counted no more measurements than its run has events.
+pub fn counts_are_of_events()
+    ensures { CountsAreOfEvents }
+{}
+
 /// An event that closes its run without success is the first after which the count that the reason names exceeds its
 /// limit.
 pub fn closers_are_first_over()
     ensures { ClosersAreFirstOver }
+{}
+
+/// An event that is late by its run comes after the event that the reason names, which is the only one that closes the
+/// run.
+pub fn late_after_the_closer()
+    ensures { LateAfterTheCloser }
+{}
+
+/// An event that is late by its metric comes after the event that the reason names, which completed the metric.
+pub fn late_after_the_completer()
+    ensures { LateAfterTheCompleter }
+{}
+
+/// A late event is late by its run or by its metric.
+pub fn late_for_a_reason()
+    ensures { LateForAReason }
 {}
 
 /// A metric whose counts decide nothing in the end is one that its run's close made Successful: its own marks had not

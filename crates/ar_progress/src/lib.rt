@@ -10,13 +10,15 @@
 //! [`push_waiting`], [`run_waits_for`], [`push_settled`]).
 //!
 //! What is proved, for all inputs: each call returns what these define. Only a refused allocation can keep it from
-//! that.
+//! that. Reasons are true of their history (`specs/Laws`): after an event that closes its run by a limit the count
+//! exceeds that for the first time, and an event that is late comes after the one that closed the run or completed the
+//! metric.
 //!
 //! - [`chosen`]: which events are asked for; [`steps`]: what each did to its metric; [`why`]: what closed a run, or
 //!   made an event late; [`excess`]: counts that exceed their limits
 //! - `counts`: counts next to their limits; [`waiting`]: what a metric and a run wait for; [`settled`]: what a close
 //!   settled
-//! - [`laws`]: which metrics a close settles
+//! - [`laws`]: that changes and reasons are true, and which metrics a close settles
 #![tactic(auto)]
 
 pub mod chosen;
