@@ -19,7 +19,7 @@ use Rattle.ar_document.specs.Document.{FollowsJson, ReadsInput}
 use Rattle.ar_document.specs.Unmeasured.{IsNoDocument, KeepsUnmeasured, lacks_value, is_unmeasured_there, measurement_at, gave_no_value}
 use Rattle.ar_document.specs.declared.error.BundleError.{BundleError}
 use Rattle.ar_facts.specs.Facts.{event_facts, facts_of_metrics}
-use Rattle.ar_reason.specs.Reason.{Given, Reason, RunReasons, conditions_of, error_given, given_by, given_misfit, given_of, lacks_conditions, misfit_there, reason_if_there, reason_of, reason_with, reasons_from, reasons_of, run_reasons}
+use Rattle.ar_reason.specs.Reason.{Given, Reason, RunReasons, conditions_of, error_given, given_by, given_unfit, given_of, lacks_conditions, misfit_there, reason_if_there, reason_of, reason_with, reasons_from, reasons_of, run_reasons}
 use Rattle.ar_progress.specs.Steps.{chosen_steps, closer_of, is_chosen_run}
 use Rattle.ar_progress.specs.declared.chosen.Chosen.{Chosen}
 use Rattle.ar_progress.specs.declared.steps.Step.{Step}
@@ -27,7 +27,7 @@ use Rattle.ar_progress.specs.declared.steps.Step.{Step}
 -- a document is looked at only where there is no value
 given_alike : (unfit other : Option Misfit) (error also : Given) (sample : Sample) → (lacks_value sample ≡ true → (unfit ≡ other) × (error ≡ also)) → given_by unfit error sample ≡ given_by other also sample
 given_alike unfit other error also provider same = (same refl).1
-given_alike unfit other error also (misfit fault) same = ap given_misfit (same refl).0
+given_alike unfit other error also (misfit fault) same = ap given_unfit (same refl).0
 given_alike unfit other error also (measured found) same = refl
 
 module _ (bundle : Bundle) (document kept : Data) (keeps : KeepsUnmeasured bundle document kept) where

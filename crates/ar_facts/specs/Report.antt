@@ -12,19 +12,19 @@ use Rattle.ar_facts.specs.Names.{effect_text, phase_name, verdict_text}
 
 -- ---- how names are printed
 
-abbrev pub named : Naming → (name : Text) → Text
-named naming.Verbatim name = name
-named naming.Clear name = shown_name name
+abbrev pub printed_name : Naming → (name : Text) → Text
+printed_name naming.Verbatim name = name
+printed_name naming.Clear name = shown_name name
 
-abbrev pub named_metric : Naming → MetricFacts → MetricFacts
-named_metric naming metric = record metric { name = named naming metric.name }
+abbrev pub printed_metric : Naming → MetricFacts → MetricFacts
+printed_metric naming metric = record metric { name = printed_name naming metric.name }
 
-abbrev pub named_finding : Naming → FindingFacts → FindingFacts
-named_finding naming (judged metric verdict) = judged (named naming metric) verdict
-named_finding naming stopped = stopped
+abbrev pub printed_finding : Naming → FindingFacts → FindingFacts
+printed_finding naming (judged metric verdict) = judged (printed_name naming metric) verdict
+printed_finding naming stopped = stopped
 
-abbrev pub named_event : Naming → EventFacts → EventFacts
-named_event naming event = record event { finding = named_finding naming event.finding }
+abbrev pub printed_event : Naming → EventFacts → EventFacts
+printed_event naming event = record event { finding = printed_finding naming event.finding }
 
 -- ---- a metric's line
 

@@ -1,10 +1,11 @@
 -- What who reads the object of a report finds: members by their names, whatever their order. It is nothing where a
 -- member is missing, or isn't what it should be.
-use Rattle.std.specs.Prelude.{◌≡◌, refl, ℕ, ◌==◌, Bool, if◌then◌else◌, List, [], ◌∷◌, codes, find, Option, Some, None, option_map}
+use Rattle.std.specs.Prelude.{◌≡◌, refl, ℕ, ◌==◌, Bool, true, false, if◌then◌else◌, List, [], ◌∷◌, codes, find, Option, Some, None, Result, Ok, Err}
 use Rattle.std.specs.Str.{bytes_eq}
 use Rattle.serde_json.specs.Data.{Data, Items, item, no_items}
 use Rattle.serde_json.specs.Data as json
 use Rattle.serde_json.specs.Find.{as_str, get}
+use Rattle.ar_value.specs.Answer.{◌>>=◌, there_or}
 use Rattle.ar_value.specs.Fault.{fault_name}
 use Rattle.ar_value.specs.Terms.{Text}
 use Rattle.ar_value.specs.declared.fault.Fault.{Fault}
@@ -27,55 +28,58 @@ use Rattle.ar_facts.specs.Names.{phase_name}
 
 -- ---- values of JSON
 
--- what is found, and what follows from it
-infixl 10 ◌>>=◌
-abbrev pub ◌>>=◌ : {A B : Type 0} → Option A → (A → Option B) → Option B
-(Some found) >>= next = next found
-None >>= next = None
+pub data Unread : Type 0 where
+  unread : Unread
 
-abbrev pub count_in : Data → Option ℕ
-count_in (json.number (json.unsigned n)) = Some n
-count_in found = None
+abbrev pub Reading : Type 0 → Type 0
+Reading A = Result A Unread
 
-abbrev pub flag_in : Data → Option Bool
-flag_in (json.boolean holds) = Some holds
-flag_in found = None
+abbrev pub text_in : Data → Reading Text
+text_in found = there_or unread (as_str found)
+
+abbrev pub count_in : Data → Reading ℕ
+count_in (json.number (json.unsigned n)) = Ok n
+count_in found = Err unread
+
+abbrev pub flag_in : Data → Reading Bool
+flag_in (json.boolean holds) = Ok holds
+flag_in found = Err unread
 
 -- null has nothing
-abbrev pub unless_null : {A : Type 0} → (Data → Option A) → Data → Option (Option A)
-unless_null read json.null = Some None
-unless_null read found = option_map Some (read found)
+abbrev pub unless_null : {A : Type 0} → (Data → Reading A) → Data → Reading (Option A)
+unless_null read json.null = Ok None
+unless_null read found = read found >>= λ one. Ok (Some one)
 
-abbrev pub each_in : {A : Type 0} → (Data → Option A) → Items → Option (List A)
-each_in read no_items = Some []
-each_in read (item found others) = read found >>= λ first. each_in read others >>= λ rest. Some (first ∷ rest)
+abbrev pub each_in : {A : Type 0} → (Data → Reading A) → Items → Reading (List A)
+each_in read no_items = Ok []
+each_in read (item found others) = read found >>= λ first. each_in read others >>= λ rest. Ok (first ∷ rest)
 
-abbrev pub list_in : {A : Type 0} → (Data → Option A) → Data → Option (List A)
-list_in read (json.array items) = each_in read items
-list_in read found = None
+abbrev pub all_in : {A : Type 0} → (Data → Reading A) → Data → Reading (List A)
+all_in read (json.array items) = each_in read items
+all_in read found = Err unread
 
 -- a member of an object
-abbrev pub the : {A : Type 0} → (name : Text) → (Data → Option A) → Data → Option A
-the name read from = get name from >>= read
+abbrev pub the : {A : Type 0} → (name : Text) → (Data → Reading A) → Data → Reading A
+the name read from = there_or unread (get name from) >>= read
 
 -- what has a name, of those that may
-abbrev pub named_among : {A : Type 0} → (name_of : A → Text) → List A → (name : Text) → Option A
-named_among name_of all name = find (λ one. bytes_eq (name_of one) name) all
+abbrev pub named_among : {A : Type 0} → (name_of : A → Text) → List A → (name : Text) → Reading A
+named_among name_of all name = there_or unread (find (λ one. bytes_eq (name_of one) name) all)
 
 -- ---- metrics
 
-abbrev pub phase_in : Data → Option Phase
-phase_in found = as_str found >>= named_among phase_name
+abbrev pub phase_in : Data → Reading Phase
+phase_in found = text_in found >>= named_among phase_name
     (phases.Pending ∷ phases.Running ∷ phases.Successful ∷ phases.Failed ∷ phases.Error ∷ phases.Inconclusive ∷ [])
 
-abbrev pub counts_in : Data → Option Counts
+abbrev pub counts_in : Data → Reading Counts
 counts_in from = do
   successful ← the (codes "successful") count_in from
   failed ← the (codes "failed") count_in from
   inconclusive ← the (codes "inconclusive") count_in from
   error ← the (codes "error") count_in from
   succession ← the (codes "consecutiveError") count_in from
-  Some (record {
+  Ok (record {
     successful = successful;
     failed = failed;
     inconclusive = inconclusive;
@@ -83,13 +87,13 @@ counts_in from = do
     succession = succession;
   })
 
-abbrev pub limits_in : (dry : Bool) → Data → Option Limits
+abbrev pub limits_in : (dry : Bool) → Data → Reading Limits
 limits_in dry from = do
   failure ← the (codes "failureLimit") count_in from
   inconclusive ← the (codes "inconclusiveLimit") count_in from
   consecutive_error ← the (codes "consecutiveErrorLimit") count_in from
   count ← the (codes "count") (unless_null count_in) from
-  Some (record {
+  Ok (record {
     failure = failure;
     inconclusive = inconclusive;
     consecutive_error = consecutive_error;
@@ -97,86 +101,86 @@ limits_in dry from = do
     dry = dry;
   })
 
-abbrev pub metric_in : Data → Option MetricFacts
+abbrev pub metric_in : Data → Reading MetricFacts
 metric_in from = do
-  name ← the (codes "name") as_str from
+  name ← the (codes "name") text_in from
   dry ← the (codes "dryRun") flag_in from
   limits ← the (codes "limits") (limits_in dry) from
   phase ← the (codes "phase") phase_in from
   counts ← the (codes "counts") counts_in from
-  Some (record { name = name; limits = limits; phase = phase; counts = counts })
+  Ok (record { name = name; limits = limits; phase = phase; counts = counts })
 
 -- ---- events
 
-abbrev pub fault_in : Data → Option Fault
-fault_in found = as_str found >>= named_among fault_name
+abbrev pub fault_in : Data → Reading Fault
+fault_in found = text_in found >>= named_among fault_name
     (faults.IndexOutOfRange ∷ faults.NilOperand ∷ faults.Overflow ∷ faults.DivisionByZero ∷ [])
 
-abbrev pub misfit_in : Data → Option ShapeFault
-misfit_in found = as_str found >>= named_among shape_fault_name
+abbrev pub misfit_in : Data → Reading ShapeFault
+misfit_in found = text_in found >>= named_among shape_fault_name
     (misfits.WrongKind ∷ misfits.FloatNumber ∷ misfits.NotFinite ∷ misfits.BadDecimal ∷ misfits.OutOfRange
     ∷ misfits.ListTooLong ∷ misfits.MissingField ∷ misfits.OutOfMemory ∷ [])
 
 -- an error's cause, of an event
-abbrev pub cause_named : (name : Text) → (event : Data) → Option Cause
+abbrev pub cause_named : (name : Text) → (event : Data) → Reading Cause
 cause_named name event =
-    if bytes_eq name (codes "provider") then Some causes.Provider
-    else if bytes_eq name (codes "shape") then option_map causes.Shape (the (codes "fault") misfit_in event)
-    else if bytes_eq name (codes "success") then option_map causes.Success (the (codes "fault") fault_in event)
-    else if bytes_eq name (codes "failure") then option_map causes.Failure (the (codes "fault") fault_in event)
-    else None
+    if bytes_eq name (codes "provider") then Ok causes.Provider
+    else if bytes_eq name (codes "shape") then the (codes "fault") misfit_in event >>= λ one. Ok (causes.Shape one)
+    else if bytes_eq name (codes "success") then the (codes "fault") fault_in event >>= λ one. Ok (causes.Success one)
+    else if bytes_eq name (codes "failure") then the (codes "fault") fault_in event >>= λ one. Ok (causes.Failure one)
+    else Err unread
 
-abbrev pub cause_in : (event : Data) → Option Cause
-cause_in event = the (codes "cause") as_str event >>= λ name. cause_named name event
+abbrev pub cause_in : (event : Data) → Reading Cause
+cause_in event = the (codes "cause") text_in event >>= λ name. cause_named name event
 
-abbrev pub verdict_named : (name : Text) → (event : Data) → Option Verdict
+abbrev pub verdict_named : (name : Text) → (event : Data) → Reading Verdict
 verdict_named name event =
-    if bytes_eq name (codes "Successful") then Some verdicts.Successful
-    else if bytes_eq name (codes "Failed") then Some verdicts.Failed
-    else if bytes_eq name (codes "Inconclusive") then Some verdicts.Inconclusive
-    else if bytes_eq name (codes "Error") then option_map verdicts.Error (cause_in event)
-    else None
+    if bytes_eq name (codes "Successful") then Ok verdicts.Successful
+    else if bytes_eq name (codes "Failed") then Ok verdicts.Failed
+    else if bytes_eq name (codes "Inconclusive") then Ok verdicts.Inconclusive
+    else if bytes_eq name (codes "Error") then cause_in event >>= λ one. Ok (verdicts.Error one)
+    else Err unread
 
-abbrev pub verdict_in : (event : Data) → Option Verdict
-verdict_in event = the (codes "verdict") as_str event >>= λ name. verdict_named name event
+abbrev pub verdict_in : (event : Data) → Reading Verdict
+verdict_in event = the (codes "verdict") text_in event >>= λ name. verdict_named name event
 
-abbrev pub judged_in : (event : Data) → Option FindingFacts
-judged_in event = the (codes "metric") as_str event >>= λ metric. option_map (judged metric) (verdict_in event)
+abbrev pub judged_in : (event : Data) → Reading FindingFacts
+judged_in event = the (codes "metric") text_in event >>= λ metric. verdict_in event >>= λ verdict. Ok (judged metric verdict)
 
-abbrev pub finding_in : (event : Data) → Option FindingFacts
-finding_in event = the (codes "stop") flag_in event >>= λ stop. if stop then Some stopped else judged_in event
+abbrev pub finding_in : (event : Data) → Reading FindingFacts
+finding_in event = the (codes "stop") flag_in event >>= λ stop. if stop then Ok stopped else judged_in event
 
-abbrev pub effect_named : (name : Text) → (event : Data) → Option Effect
+abbrev pub effect_named : (name : Text) → (event : Data) → Reading Effect
 effect_named name event =
-    if bytes_eq name (codes "applied") then Some effects.Applied
-    else if bytes_eq name (codes "late") then Some effects.Late
-    else if bytes_eq name (codes "closed") then option_map effects.Closed (the (codes "phase") phase_in event)
-    else None
+    if bytes_eq name (codes "applied") then Ok effects.Applied
+    else if bytes_eq name (codes "late") then Ok effects.Late
+    else if bytes_eq name (codes "closed") then the (codes "phase") phase_in event >>= λ one. Ok (effects.Closed one)
+    else Err unread
 
-abbrev pub effect_in : (event : Data) → Option Effect
-effect_in event = the (codes "effect") as_str event >>= λ name. effect_named name event
+abbrev pub effect_in : (event : Data) → Reading Effect
+effect_in event = the (codes "effect") text_in event >>= λ name. effect_named name event
 
-abbrev pub event_in : Data → Option EventFacts
+abbrev pub event_in : Data → Reading EventFacts
 event_in event = do
   number ← the (codes "number") count_in event
   finding ← finding_in event
   effect ← effect_in event
-  Some (record { number = number; finding = finding; effect = effect })
+  Ok (record { number = number; finding = finding; effect = effect })
 
 -- ---- runs, and the report
 
-abbrev pub run_in : Data → Option RunFacts
+abbrev pub run_in : Data → Reading RunFacts
 run_in from = do
-  name ← the (codes "name") as_str from
+  name ← the (codes "name") text_in from
   phase ← the (codes "phase") phase_in from
-  metrics ← the (codes "metrics") (list_in metric_in) from
-  events ← the (codes "events") (list_in event_in) from
-  Some (record { name = name; phase = phase; metrics = metrics; events = events })
+  metrics ← the (codes "metrics") (all_in metric_in) from
+  events ← the (codes "events") (all_in event_in) from
+  Ok (record { name = name; phase = phase; metrics = metrics; events = events })
 
 -- the form of a report has version 1
-abbrev pub report_in : Data → Option (List RunFacts)
+abbrev pub report_in : Data → Reading (List RunFacts)
 report_in from = the (codes "version") count_in from >>= λ version.
-    if version == 1 then the (codes "runs") (list_in run_in) from else None
+    if version == 1 then the (codes "runs") (all_in run_in) from else Err unread
 
 -- ---- worked rows
 
@@ -186,9 +190,9 @@ unordered : counts_in (json.object
     (json.member (codes "error") (json.number (json.unsigned 3))
     (json.member (codes "consecutiveError") (json.number (json.unsigned 1))
     (json.member (codes "inconclusive") (json.number (json.unsigned 0)) json.no_members))))))
-    ≡ Some (record { successful = 7; failed = 2; inconclusive = 0; error = 3; succession = 1 })
+    ≡ Ok (record { successful = 7; failed = 2; inconclusive = 0; error = 3; succession = 1 })
 unordered = refl
 
-no_number : the (codes "failed") count_in (json.object (json.member (codes "failed") (json.string (codes "2")) json.no_members))
-    ≡ None
+no_number : the (codes "failed") count_in
+    (json.object (json.member (codes "failed") (json.string (codes "2")) json.no_members)) ≡ Err unread
 no_number = refl

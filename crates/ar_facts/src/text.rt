@@ -4,7 +4,7 @@ ghost use Rattle.std.specs.Prelude.{◌≡◌, ◌++◌, OnOk, Some, codes, deci
 ghost use Rattle.ar_bundle.specs.Bundle.{finding_at};
 ghost use Rattle.ar_facts.specs.Facts.{event_facts, finding_facts, metric_facts, name_at};
 ghost use Rattle.ar_facts.specs.Names.{effect_text};
-ghost use Rattle.ar_facts.specs.Report.{figure_text, counts_text, dry_text, errors_text, event_line, finding_text, metric_line, named, named_event, named_finding, named_metric, run_line};
+ghost use Rattle.ar_facts.specs.Report.{figure_text, counts_text, dry_text, errors_text, event_line, finding_text, metric_line, printed_name, printed_event, printed_finding, printed_metric, run_line};
 
 use crate::names::{phase_name, put_effect, put_verdict};
 use ar_bundle::{Bundle, Entry, Finding, MetricPart, RunPart, What};
@@ -23,7 +23,7 @@ pub enum Naming {
 }
 
 fn put_name(out: &mut String, naming: Naming, name: &str) -> Result<(), AllocError>
-    ensures { OnOk result (string_bytes out.new ≡ string_bytes out.old ++ named naming name.now) }
+    ensures { OnOk result (string_bytes out.new ≡ string_bytes out.old ++ printed_name naming name.now) }
 {
     match naming {
         Naming::Verbatim => out.push_str(name),
@@ -85,7 +85,7 @@ pub fn put_metric(
     counts: Counts,
 ) -> Result<(), AllocError>
     ensures { OnOk result (string_bytes out.new
-        ≡ string_bytes out.old ++ metric_line (named_metric naming (metric_facts metric.now own phase counts))) }
+        ≡ string_bytes out.old ++ metric_line (printed_metric naming (metric_facts metric.now own phase counts))) }
 {
     out.push_str("metric ")?;
     put_name(out, naming, metric.name.as_str())?;
@@ -115,7 +115,7 @@ fn put_finding(
     finding: Finding,
 ) -> Result<(), AllocError>
     ensures { OnOk result (string_bytes out.new
-        ≡ string_bytes out.old ++ finding_text (named_finding naming (finding_facts metrics.now what.now finding))) }
+        ≡ string_bytes out.old ++ finding_text (printed_finding naming (finding_facts metrics.now what.now finding))) }
 {
     match (what, finding) {
         (What::Measure(metric, _), Finding::Judged(verdict)) => {
@@ -137,7 +137,7 @@ pub fn put_event(
 ) -> Result<(), AllocError>
     requires { finding_at bundle.now entry.number ≡ Some entry.finding }
     ensures { OnOk result (string_bytes out.new ≡ string_bytes out.old
-        ++ event_line (named_event naming (event_facts bundle.now entry.number entry.effect))) }
+        ++ event_line (printed_event naming (event_facts bundle.now entry.number entry.effect))) }
 {
     let what = &bundle.entries()[entry.number as usize].what;
     put_event_number(out, entry.number)?;
@@ -171,7 +171,7 @@ pub fn put_run_line(
     phase: Phase,
 ) -> Result<(), AllocError>
     ensures { OnOk result
-        (string_bytes out.new ≡ string_bytes out.old ++ run_line (named naming run.now.name) phase) }
+        (string_bytes out.new ≡ string_bytes out.old ++ run_line (printed_name naming run.now.name) phase) }
 {
     out.push_str("run ")?;
     put_name(out, naming, run.name.as_str())?;

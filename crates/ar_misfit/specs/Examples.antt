@@ -52,7 +52,8 @@ too_long : option_map misfit_text (misfit (shapes.list shapes.bool 1) (two json.
 unfolding two misfit misfit_text digits
 too_long = refl
 
-name_that_is_no_word : option_map misfit_text (misfit (shapes.object (shapes.field (codes "p 95") shapes.bool shapes.no_fields))
+name_that_is_no_word : option_map misfit_text
+    (misfit (shapes.object (shapes.field (codes "p 95") shapes.bool shapes.no_fields))
     (json.object (json.member (codes "p 95") (json.number (json.unsigned 0)) json.no_members)))
     ≡ Some (codes "[\"p 95\"]: WrongKind: expected true or false, found 0")
 unfolding misfit misfit_text digits quoted chars lib.Utf8.encode

@@ -27,7 +27,7 @@ use Rattle.ar_progress.specs.declared.waiting.Progress.{Progress}
 use Rattle.ar_progress.specs.declared.why.Why.{Why}
 use Rattle.ar_progress.specs.declared.why.Why.TheVariants as whys
 use Rattle.ar_reason.specs.Reason.{EvaluatedCondition, Given, Reason, RunReasons, gave_error, gave_misfit, gave_nothing, gave_value}
-use Rattle.ar_reason.specs.ReasonData.{answer_data, apart_data, apart_if_there, awaited, awaited_data, change_data, evaluated_data, failure_if_there, gap_data, given_error, given_misfit, given_shown, given_value, operands_if_there, part_data, progress_data, reason_data, reasons_data, run_reasons_data, run_waits_data, settled_data, shown_if_there, value_if_there, waiting_data, why_data, why_members}
+use Rattle.ar_reason.specs.ReasonData.{condition_answer, apart_data, apart_if_there, awaited, awaited_data, change_data, evaluated_data, failure_if_there, gap_data, given_error, given_misfit, given_shown, given_value, operands_if_there, part_data, progress_data, reason_data, reasons_data, run_reasons_data, run_waits_data, settled_data, shown_if_there, value_if_there, waiting_data, why_data, why_members}
 
 text_small : (found : Option (List ℕ)) (levels : ℕ) → depth (text_or_null found) ≤ levels
 text_small found levels = let is = text_flat found in omega arith
@@ -38,7 +38,7 @@ count_small found levels = let is = count_flat found in omega arith
 zero_small : (levels : ℕ) → 0 ≤ levels
 zero_small levels = omega arith
 
--- objects of so many members
+-- objects of three members, and of more
 three_deep : (a b c levels : ℕ) → a ≤ levels → b ≤ levels → c ≤ levels → suc (max a (max b (max c 0))) ≤ suc levels
 three_deep a b c levels in_a in_b in_c = above (max-le in_a (max-le in_b (max-le in_c (zero_small levels))))
 
@@ -84,7 +84,7 @@ value_small (failed failure on) levels = zero_small levels
 value_small unneeded levels = zero_small levels
 value_small (passed items held) levels = zero_small levels
 
-answer_small : (said : Outcome) (levels : ℕ) → depth (answer_data said) ≤ levels
+answer_small : (said : Outcome) (levels : ℕ) → depth (condition_answer said) ≤ levels
 answer_small (valued text exact apart) levels = exact_small exact levels
 answer_small (is_item text exact) levels = zero_small levels
 answer_small (failed failure on) levels = zero_small levels

@@ -63,13 +63,13 @@ misfit_there (Some found) (Some metric) = misfit (shape_view metric.shape) found
 misfit_there found metric = None
 
 -- a value that was refused has a misfit
-abbrev pub given_misfit : Option Misfit → Given
-given_misfit (Some misfit) = gave_misfit misfit
-given_misfit None = gave_nothing
+abbrev pub given_unfit : Option Misfit → Given
+given_unfit (Some misfit) = gave_misfit misfit
+given_unfit None = gave_nothing
 
 abbrev pub given_by : (misfit_there : Option Misfit) → (error_there : Given) → Sample → Given
 given_by misfit_there error_there provider = error_there
-given_by misfit_there error_there (unfit fault) = given_misfit misfit_there
+given_by misfit_there error_there (unfit fault) = given_unfit misfit_there
 given_by misfit_there error_there (measured found) = gave_value found
 
 abbrev pub given_of : (document : Data) → Bundle → (number : EventNumber) → What → Given

@@ -102,15 +102,15 @@ part_data line = object
     (member (codes "value") (value_if_there line.said) no_members))))))))))
 
 -- the whole condition's boolean, or the name of its failure
-abbrev pub answer_data : Outcome → Data
-answer_data (valued text exact apart) = exact_data exact
-answer_data (failed failure on) = string (failure_name failure)
-answer_data said = null
+abbrev pub condition_answer : Outcome → Data
+condition_answer (valued text exact apart) = exact_data exact
+condition_answer (failed failure on) = string (failure_name failure)
+condition_answer said = null
 
 -- `leftOut`: how many parts come after the first 500
 abbrev pub evaluation_data : (which text : Text) → Explanation → (answer : Outcome) → Data
 evaluation_data which text parts answer = object
-    (member (codes "answer") (answer_data answer)
+    (member (codes "answer") (condition_answer answer)
     (member (codes "condition") (string which)
     (member (codes "leftOut") (count_data parts.left_out)
     (member (codes "on") (text_or_null (operands_if_there answer))
@@ -151,7 +151,8 @@ change_data change = object
     (member (codes "limits") (limits_data change.limits) no_members)))
 
 -- why an event closed its run, didn't, or came late: a kind with its numbers, null where the kind has none
-abbrev pub why_members : (count event : Option ℕ) → (kind : Text) → (limit phase : Option Text) → (value : Option ℕ) → Data
+abbrev pub why_members : (count event : Option ℕ) → (kind : Text) → (limit phase : Option Text) → (value : Option ℕ)
+    → Data
 why_members count event kind limit phase value = object
     (member (codes "count") (count_or_null count)
     (member (codes "event") (count_or_null event)

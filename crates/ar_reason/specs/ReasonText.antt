@@ -14,7 +14,7 @@ use Rattle.ar_explain.specs.Apart.{Apart}
 use Rattle.ar_explain.specs.Lines.{Explanation, Line, Outcome, failed, is_item, passed, passed_line, unneeded, valued}
 use Rattle.ar_facts.specs.Facts.{MetricFacts}
 use Rattle.ar_facts.specs.Names.{phase_name}
-use Rattle.ar_facts.specs.Report.{event_line, metric_line, named_event, named_metric, run_line}
+use Rattle.ar_facts.specs.Report.{event_line, metric_line, printed_event, printed_metric, run_line}
 use Rattle.ar_facts.specs.declared.text.Naming.TheVariants as naming
 use Rattle.ar_quote.specs.Shown.{shown_name}
 use Rattle.ar_show.specs.PartText.{shown_part}
@@ -131,7 +131,7 @@ outcome_lines reason = change_line reason.change ++ why_line reason.why
 
 abbrev pub reason_text : Reason → Text
 reason_text reason =
-    (event_line (named_event naming.Clear reason.event) ++ given_line reason.given)
+    (event_line (printed_event naming.Clear reason.event) ++ given_line reason.given)
     ++ (flat_map condition_text reason.conditions ++ (no_condition_line reason.no_condition ++ outcome_lines reason))
 
 -- ---- the lines of a run
@@ -149,12 +149,14 @@ line_if_there before (Some words) = before ++ (words ++ codes "\n")
 -- `closer`: the event that closed the run, if one did
 abbrev pub metric_lines : (closer : Option EventNumber) → MetricFacts → Text
 metric_lines closer metric =
-    metric_line (named_metric naming.Clear metric) ++ (waits_line metric.phase (waits_for metric.phase metric.limits metric.counts)
+    metric_line (printed_metric naming.Clear metric)
+    ++ (waits_line metric.phase (waits_for metric.phase metric.limits metric.counts)
     ++ line_if_there (codes "  ") (option_map settled_text (settled_by closer metric.limits metric.counts)))
 
 abbrev pub run_reasons_text : RunReasons → Text
 run_reasons_text run =
-    (run_line (shown_name run.name) run.phase ++ line_if_there (codes "  waits for: ") (run_waits_for run.phase run.metrics))
+    (run_line (shown_name run.name) run.phase
+    ++ line_if_there (codes "  waits for: ") (run_waits_for run.phase run.metrics))
     ++ (flat_map reason_text run.reasons ++ flat_map (metric_lines run.closer) run.metrics)
 
 abbrev pub reasons_text : List RunReasons → Text

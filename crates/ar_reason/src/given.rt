@@ -4,7 +4,7 @@ ghost use Rattle.std.specs.Prelude.{◌≡◌, IfOk, codes, option_and_then, opt
 ghost use Rattle.serde_json.specs.Find.{as_str};
 ghost use Rattle.serde_json.specs.View.{view};
 ghost use Rattle.ar_judge.specs.Verdict.{sample_view};
-ghost use Rattle.ar_reason.specs.Reason.{error_of, given_by, given_misfit, given_of, measured_member, misfit_there};
+ghost use Rattle.ar_reason.specs.Reason.{error_of, given_by, given_unfit, given_of, measured_member, misfit_there};
 ghost use Rattle.ar_reason.specs.Views.{given_view};
 
 use ar_bundle::{Bundle, MetricPart, What};
@@ -43,7 +43,7 @@ fn misfit_there<'d>(
     found: Option<&'d Json>,
     metric: Option<&'d MetricPart>,
 ) -> Result<Given<'d>, AllocError>
-    ensures { IfOk result (λ given. given_view given ≡ given_misfit (misfit_there
+    ensures { IfOk result (λ given. given_view given ≡ given_unfit (misfit_there
         (option_map (λ json. view json.now) found.entry) (option_map (λ metric. metric.now) metric.entry))) }
 {
     let (Some(found), Some(metric)) = (found, metric) else {

@@ -11,7 +11,8 @@ ghost use Rattle.ar_bundle.specs.Sound.{IsRun};
 ghost use Rattle.ar_judge.specs.Verdict.{sample_view};
 ghost use Rattle.ar_facts.specs.Facts.{facts_of_metrics, metric_facts};
 ghost use Rattle.ar_facts.specs.Report.{run_line};
-ghost use Rattle.ar_machine.specs.Operand.{value_of};
+ghost use Rattle.ar_value.specs.Value as values;
+ghost use Rattle.ar_value.specs.View.{value_view};
 ghost use Rattle.ar_misfit.specs.MisfitText.{misfit_text};
 ghost use Rattle.ar_misfit.specs.Views.{misfit_view};
 ghost use Rattle.ar_quote.specs.Shown.{shown_name};
@@ -40,6 +41,7 @@ use ar_progress::{
     push_waiting, push_why, run_waits_for, settled_by, traced, waits_for, why_of,
 };
 use ar_show::push_value;
+use ar_value::value::Value;
 use serde_json::Value as Json;
 use std::alloc::{AllocError, Global};
 
@@ -53,13 +55,21 @@ fn push_line(out: &mut String, name: &str, text: &str) -> Result<(), AllocError>
     out.push_str("\n")
 }
 
-/// A value, as it is shown.
-fn push_value_line(out: &mut String, name: &str, value: ValueRef<'_>) -> Result<(), AllocError>
-    ensures { OnOk result (string_bytes out.new
-        ≡ string_bytes out.old ++ (name.now ++ (shown_value (value_of value.entry) ++ codes "\n"))) }
+fn push_measured(out: &mut String, value: &Value) -> Result<(), AllocError>
+    ensures { OnOk result (string_bytes out.new ≡ string_bytes out.old
+        ++ (codes "  value: " ++ (shown_value (value_view value.now) ++ codes "\n"))) }
 {
-    out.push_str(name)?;
-    push_value(out, OperandRef::Borrowed(value))?;
+    out.push_str("  value: ")?;
+    push_value(out, OperandRef::Borrowed(value_ref(value)))?;
+    out.push_str("\n")
+}
+
+fn push_error(out: &mut String, text: &str) -> Result<(), AllocError>
+    ensures { OnOk result (string_bytes out.new ≡ string_bytes out.old
+        ++ (codes "  error: " ++ (shown_value (values.text text.now) ++ codes "\n"))) }
+{
+    out.push_str("  error: ")?;
+    push_value(out, OperandRef::Borrowed(ValueRef::Text(text)))?;
     out.push_str("\n")
 }
 
@@ -77,8 +87,8 @@ fn push_given(out: &mut String, given: &Given<'_>) -> Result<(), AllocError>
 {
     match given {
         Given::Nothing => Ok(()),
-        Given::Value(value) => push_value_line(out, "  value: ", value_ref(value)),
-        Given::Error(text) => push_value_line(out, "  error: ", ValueRef::Text(text)),
+        Given::Value(value) => push_measured(out, value),
+        Given::Error(text) => push_error(out, text),
         Given::Misfit(misfit) => push_misfit_line(out, misfit),
     }
 }
@@ -328,7 +338,8 @@ fn push_head(
 ) -> Result<(), AllocError>
     requires limits { length run.now.limits ≡ length metrics.now }
     requires metrics { length state.now.limits ≡ length metrics.now }
-    ensures { OnOk result (string_bytes out.new ≡ string_bytes out.old ++ (run_line (shown_name run.now.name) state.now.phase
+    ensures { OnOk result (string_bytes out.new ≡ string_bytes out.old
+        ++ (run_line (shown_name run.now.name) state.now.phase
         ++ line_if_there (codes "  waits for: ") (run_waits_for state.now.phase
         (facts_of_metrics metrics.now run.now.limits state.now.phases state.now.counts)))) }
 {

@@ -12,7 +12,7 @@ ghost use Rattle.ar_object.specs.Written.{AddsMember, AddsValue, AddsValues};
 ghost use Rattle.ar_tree.specs.Views.{typed_view};
 ghost use Rattle.ar_show.specs.PartText.{shown_part};
 ghost use Rattle.ar_reason.specs.Reason.{conditions_on, evaluated_if_there, evaluated_with, has_failed};
-ghost use Rattle.ar_reason.specs.ReasonData.{answer_data, apart_data, apart_if_there, converts, evaluated_data, evaluation_data, failure_if_there, gap_data, operands_if_there, part_data, part_name, shown_if_there, value_if_there, was_needed};
+ghost use Rattle.ar_reason.specs.ReasonData.{condition_answer, apart_data, apart_if_there, converts, evaluated_data, evaluation_data, failure_if_there, gap_data, operands_if_there, part_data, part_name, shown_if_there, value_if_there, was_needed};
 ghost use Rattle.ar_reason.specs.Private.Trees.{condition_tree, trees_of, judge_trees_view};
 
 use crate::evaluated::{JudgeTrees, NamedTree};
@@ -170,7 +170,7 @@ fn put_exact(json: &mut JsonText, said: &Said)
 
 /// Writes a condition's boolean, or the name of its failure.
 fn put_answer(json: &mut JsonText, answer: &Said)
-    ensures { AddsMember (codes "answer") (answer_data (said_view answer.now)) json.old.written json.new.written }
+    ensures { AddsMember (codes "answer") (condition_answer (said_view answer.now)) json.old.written json.new.written }
 {
     match answer {
         Said::Valued(shown) => shown.exact.put(json, "answer"),
