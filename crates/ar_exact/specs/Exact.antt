@@ -25,11 +25,11 @@ abbrev pub exact_whole : ℤ → Exact
 exact_whole integer = if is_exact integer then an_integer integer else a_text (signed_decimal integer)
 
 -- how many bytes a text may have
-abbrev pub most_text_bytes : ℕ
-most_text_bytes = 256
+abbrev pub most_exact_bytes : ℕ
+most_exact_bytes = 256
 
 abbrev pub exact_text : Text → Exact
-exact_text text = if nat_lt most_text_bytes (length text) then no_form else a_text text
+exact_text text = if nat_lt most_exact_bytes (length text) then no_form else a_text text
 
 -- a list and a record have no such form
 abbrev pub exact_of : Value → Exact

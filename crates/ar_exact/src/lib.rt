@@ -1,4 +1,4 @@
-//! Values as JSON has them, beside the text that people read.
+//! Values as JSON has them, for programs.
 //!
 //! JSON has booleans, null, short texts and the integers that each reader takes exactly. A decimal is a text with its
 //! digits, and so is a greater integer. A list, a record and a long text have no such form here: whoever wants these

@@ -13,6 +13,7 @@ use Rattle.ar_tree.specs.Meaning.{mean}
 use Rattle.ar_tree.specs.Typed.{Typed, Typeds}
 use Rattle.ar_tree.specs.Typed as typed
 use Rattle.ar_explain.specs.Lines.{Line, Seen, after_item, body_lines, each_item_lines, earlier_lines, gap_lines, is_empty, is_missing, is_shown, item_line, has_own_line, items_lines, operand_own_lines, all_lines, lines_on_item, none_seen, own_line, outcome_of, passed_line, unneeded_line, with_own}
+use Rattle.ar_explain.specs.Apart.{Apart, apart_on}
 use Rattle.ar_explain.specs.Operands.{failed_on}
 use Rattle.ar_explain.specs.Sources.{IsFrom, OneHas, Says, ShowsItem, says_item}
 use Rattle.ar_explain.specs.Trace.{TraceEntry, continues, each_item, if_value, in_child, items_trace, on_item, root_entry, trace}
@@ -122,16 +123,16 @@ module _ (result : Value) where
 
 -- ---- own lines
 
-shows_no_item : (meaning : Meaning) (on : Option Text) → says_item (outcome_of meaning on) ≡ false
-shows_no_item (Ok value) on = refl
-shows_no_item (Err failure) on = refl
+shows_no_item : (meaning : Meaning) (on : Option Text) (apart : Option Apart) → says_item (outcome_of meaning on apart) ≡ false
+shows_no_item (Ok value) on apart = refl
+shows_no_item (Err failure) on apart = refl
 
 own_from : (earlier : List TraceEntry) (result : Value) (here : Option Value) (tree : Typed)
-    → AllByRecursion (IsFrom result (earlier ++ root_entry result here tree ∷ [])) (own_line tree (mean result here tree) (failed_on result here tree) ∷ [])
+    → AllByRecursion (IsFrom result (earlier ++ root_entry result here tree ∷ [])) (own_line tree (mean result here tree) (failed_on result here tree) (apart_on result here tree) ∷ [])
 own_from earlier result here tree = (
   record {
     of_meaning = λ says. one_after (Says result) earlier (root_entry result here tree ∷ []) _ (inl (record { of_part = refl; on_items = refl; of_meaning = refl }));
-    of_item = λ says. absurd (true≢false (sym says ∙ shows_no_item (mean result here tree) (failed_on result here tree)));
+    of_item = λ says. absurd (true≢false (sym says ∙ shows_no_item (mean result here tree) (failed_on result here tree) (apart_on result here tree)));
   },
   tt,
 )
@@ -146,10 +147,10 @@ unless_missing : (result : Value) (entries : List TraceEntry) (said : List Line)
 unless_missing result entries said true all = tt
 unless_missing result entries said false all = all
 
-own_of_trace : (result : Value) (here : Option Value) (tree : Typed) → AllByRecursion (IsFrom result (trace result here tree)) (own_line tree (mean result here tree) (failed_on result here tree) ∷ [])
+own_of_trace : (result : Value) (here : Option Value) (tree : Typed) → AllByRecursion (IsFrom result (trace result here tree)) (own_line tree (mean result here tree) (failed_on result here tree) (apart_on result here tree) ∷ [])
 own_of_trace result here tree =
     let last = root_last result here tree in
-    subst (λ entries. AllByRecursion (IsFrom result entries) (own_line tree (mean result here tree) (failed_on result here tree) ∷ [])) (sym last.1) (own_from last.0 result here tree)
+    subst (λ entries. AllByRecursion (IsFrom result entries) (own_line tree (mean result here tree) (failed_on result here tree) (apart_on result here tree) ∷ [])) (sym last.1) (own_from last.0 result here tree)
 
 of_part : (result : Value) (here : Option Value) (tree : Typed) → AllByRecursion (IsFrom result (trace result here tree)) (earlier_lines result here tree)
     → AllByRecursion (IsFrom result (trace result here tree)) (with_own result here tree (earlier_lines result here tree))
@@ -158,7 +159,7 @@ of_part result here tree all =
     (own_where result (trace result here tree) _ (has_own_line tree (mean result here tree)) (own_of_trace result here tree))
 
 of_operand : (result : Value) (here : Option Value) (operator : UnaryOperator) (tree : Typed) → AllByRecursion (IsFrom result (trace result here tree)) (earlier_lines result here tree)
-    → AllByRecursion (IsFrom result (trace result here tree)) (earlier_lines result here tree ++ operand_own_lines operator tree (mean result here tree) (failed_on result here tree))
+    → AllByRecursion (IsFrom result (trace result here tree)) (earlier_lines result here tree ++ operand_own_lines operator tree (mean result here tree) (failed_on result here tree) (apart_on result here tree))
 of_operand result here operator tree all =
     all_of_two (IsFrom result (trace result here tree)) (earlier_lines result here tree) _ all
     (unless_missing result (trace result here tree) _ (is_missing operator (mean result here tree))

@@ -1,12 +1,13 @@
 -- What is said of an evaluation to a person, in its order: the values and failures of parts, where they are news, and
 -- which parts weren't needed. Where a failure arises its line says on which operands.
-use Rattle.std.specs.Prelude.{ℕ, suc, pos, ◌+◌, ◌-◌, ◌^◌, ◌==◌, nat_lt, min, ◌≡◌, refl, Bool, true, false, not, ◌&&◌, ◌||◌, if◌then◌else◌, List, [], ◌∷◌, ◌++◌, codes, drop, length, map, take, Option, Some, None, Result, Ok, Err}
+use Rattle.std.specs.Prelude.{ℕ, suc, pos, ◌+◌, ◌-◌, ◌^◌, ◌==◌, nat_lt, min, ◌≡◌, refl, Bool, true, false, not, ◌&&◌, ◌||◌, if◌then◌else◌, List, [], ◌∷◌, ◌++◌, codes, drop, length, map, replicate, take, Option, Some, None, Result, Ok, Err}
 use Rattle.std.specs.Fmt.{digits}
+use Rattle.std.specs.Str.{chars}
 use Rattle.ar_value.specs.Answer.{◌>>=◌}
 use Rattle.ar_value.specs.Predicates.{gathers}
 use Rattle.ar_value.specs.Operators.{Failure, Meaning, boolean, faulted, is_nil, items_in, scalar_item}
 use Rattle.ar_value.specs.Terms.{Text}
-use Rattle.ar_value.specs.Value.{Value, Items, bool, whole, list, nil, no_items, item, items_of, object, field, no_fields}
+use Rattle.ar_value.specs.Value.{Value, Items, bool, whole, list, nil, no_items, item, items_of, object, field, no_fields, text}
 use Rattle.ar_value.specs.declared.fault.Fault.TheVariants.{DivisionByZero, IndexOutOfRange, NilOperand}
 use Rattle.ar_value.specs.declared.operator.BinaryOperator.TheVariants as binary
 use Rattle.ar_value.specs.declared.operator.Arithmetic.TheVariants.{Divide}
@@ -25,14 +26,16 @@ use Rattle.ar_tree.specs.declared.tree.Literal.TheVariants as literals
 use Rattle.ar_tree.specs.Meaning.{mean}
 use Rattle.ar_tree.specs.Typed.{Typed, Typeds}
 use Rattle.ar_tree.specs.Typed as typed
-use Rattle.ar_show.specs.Values.{shown_value}
+use Rattle.ar_quote.specs.Shown.{quoted}
+use Rattle.ar_show.specs.Values.{shown_text, shown_value}
+use Rattle.ar_explain.specs.Apart.{Apart, apart_of, apart_on}
 use Rattle.ar_explain.specs.Operands.{failed_on, one_operand, two_operands}
 use Rattle.ar_explain.specs.Trace.{continues, if_value}
 
 -- what is said of a part
 pub data Outcome : Type 0 where
-  -- it has a value, which is shown so
-  valued : (text : List ℕ) → Outcome
+  -- it has a value, which is shown so; where its operands are texts that differ and are shown alike, they are apart so
+  valued : (text : List ℕ) → (apart : Option Apart) → Outcome
   -- it fails, on these operands where the failure arises in it
   failed : Failure → (on : Option Text) → Outcome
   -- it wasn't needed
@@ -48,13 +51,13 @@ pub record Line : Type 0 where
   pub part : Typed
   pub said : Outcome
 
-abbrev pub outcome_of : Meaning → (on : Option Text) → Outcome
-outcome_of (Ok value) on = valued (shown_value value)
-outcome_of (Err failure) on = failed failure on
+abbrev pub outcome_of : Meaning → (on : Option Text) → (apart : Option Apart) → Outcome
+outcome_of (Ok value) on apart = valued (shown_value value) apart
+outcome_of (Err failure) on apart = failed failure on
 
 -- a part's own line
-abbrev pub own_line : Typed → Meaning → (on : Option Text) → Line
-own_line tree meaning on = record { items = []; part = tree; said = outcome_of meaning on }
+abbrev pub own_line : Typed → Meaning → (on : Option Text) → (apart : Option Apart) → Line
+own_line tree meaning on apart = record { items = []; part = tree; said = outcome_of meaning on apart }
 
 abbrev pub unneeded_line : Typed → Line
 unneeded_line tree = record { items = []; part = tree; said = unneeded }
@@ -102,8 +105,8 @@ abbrev pub has_own_line : Typed → Meaning → Bool
 has_own_line tree (Ok value) = says_more tree
 has_own_line tree (Err failure) = true
 
-abbrev pub own_lines : Typed → Meaning → (on : Option Text) → List Line
-own_lines tree meaning on = if has_own_line tree meaning then own_line tree meaning on ∷ [] else []
+abbrev pub own_lines : Typed → Meaning → (on : Option Text) → (apart : Option Apart) → List Line
+own_lines tree meaning on apart = if has_own_line tree meaning then own_line tree meaning on apart ∷ [] else []
 
 -- whether an operator's failure says of its operand that it is nil
 abbrev pub is_missing : UnaryOperator → Meaning → Bool
@@ -112,13 +115,14 @@ is_missing unary.Need (Err failure) = false
 is_missing operator meaning = false
 
 -- the own lines of an operator's operand: none where the operator's failure says that it is nil
-abbrev pub operand_own_lines : UnaryOperator → Typed → Meaning → (on : Option Text) → List Line
-operand_own_lines operator tree meaning on =
-    if is_missing operator meaning then [] else own_lines tree meaning on
+abbrev pub operand_own_lines : UnaryOperator → Typed → Meaning → (on : Option Text) → (apart : Option Apart) → List Line
+operand_own_lines operator tree meaning on apart =
+    if is_missing operator meaning then [] else own_lines tree meaning on apart
 
 -- the lines of a part: those of its own parts, then its own
 abbrev pub with_own : Value → Option Value → Typed → List Line → List Line
-with_own result here tree earlier = earlier ++ own_lines tree (mean result here tree) (failed_on result here tree)
+with_own result here tree earlier =
+    earlier ++ own_lines tree (mean result here tree) (failed_on result here tree) (apart_on result here tree)
 
 -- ---- items of predicates
 
@@ -205,6 +209,7 @@ abbrev mutual
   earlier_lines result here (typed.unary operator operand) =
       earlier_lines result here operand
       ++ operand_own_lines operator operand (mean result here operand) (failed_on result here operand)
+      (apart_on result here operand)
   earlier_lines result here (typed.binary operator left right) =
       with_own result here left (earlier_lines result here left)
       ++ if_value (mean result here left) (λ value. with_own result here right (earlier_lines result here right))
@@ -249,7 +254,8 @@ body_lines result body value =
 -- the root's own line is the last, and always there
 abbrev pub all_lines : Value → Option Value → Typed → List Line
 all_lines result here tree =
-    earlier_lines result here tree ++ own_line tree (mean result here tree) (failed_on result here tree) ∷ []
+    earlier_lines result here tree
+    ++ own_line tree (mean result here tree) (failed_on result here tree) (apart_on result here tree) ∷ []
 
 -- ---- what is kept of the lines
 
@@ -302,7 +308,7 @@ abbrev one_over_result : Typed
 one_over_result = typed.binary (binary.Wholes Divide) (the_literal 1) typed.result
 
 abbrev the_value : Value → Outcome
-the_value value = valued (shown_value value)
+the_value value = valued (shown_value value) None
 
 abbrev fails_on_zero : Outcome
 fails_on_zero = failed (faulted DivisionByZero) (Some (codes "operands 1 and 0"))
@@ -401,6 +407,19 @@ field_is_nil = refl
 field_is_there : map row_of (all_lines (with_rate (whole (pos 7))) None (is_below needed_rate 8))
     ≡ ([], the_rate, the_value (whole (pos 7))) ∷ ([], is_below needed_rate 8, the_value (bool true)) ∷ []
 field_is_there = refl
+
+-- `result == "aa..ab"` on other text: they are shown alike
+abbrev long_text : Text → Text
+long_text rest = replicate 66 97 ++ rest
+
+abbrev is_long_text : Typed
+is_long_text =
+    typed.binary (binary.Equal families.Text) typed.result (typed.literal (literals.Text (long_text (codes "b"))))
+
+texts_shown_alike : map row_of (all_lines (text (long_text (codes "c"))) None is_long_text)
+    ≡ ([], is_long_text, valued (codes "false") (Some (apart_of (long_text (codes "c")) (long_text (codes "b"))))) ∷ []
+unfolding shown_value shown_text quoted digits chars lib.Utf8.encode
+texts_shown_alike = refl
 
 -- `result[0] < 8` on an empty list
 abbrev the_first : Typed

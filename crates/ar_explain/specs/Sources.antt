@@ -7,17 +7,19 @@ use Rattle.ar_value.specs.declared.operator.Predicate.{Predicate}
 use Rattle.ar_tree.specs.Meaning.{mean}
 use Rattle.ar_tree.specs.Typed.{Typed}
 use Rattle.ar_tree.specs.Typed as typed
+use Rattle.ar_explain.specs.Apart.{apart_on}
 use Rattle.ar_explain.specs.Lines.{Line, Outcome, body_lines, earlier_lines, failed, is_item, lines_on_item, outcome_of, passed, passed_line, unneeded, valued, with_own}
 use Rattle.ar_explain.specs.Operands.{failed_on}
 use Rattle.ar_explain.specs.Parts.{same_path}
 use Rattle.ar_show.specs.Values.{shown_value}
 use Rattle.ar_explain.specs.Trace.{TraceEntry, trace, with_root}
 
--- a line says what an entry has, and where a failure arises, on which operands
+-- a line says what an entry has: where a failure arises, on which operands, and how operands are apart
 pub record Says (result : Value) (entry : TraceEntry) (line : Line) : Type 0 where
   pub of_part : line.part ≡ entry.part
   pub on_items : line.items ≡ entry.items
-  pub of_meaning : line.said ≡ outcome_of entry.meaning (failed_on result entry.here entry.part)
+  pub of_meaning : line.said
+      ≡ outcome_of entry.meaning (failed_on result entry.here entry.part) (apart_on result entry.here entry.part)
 
 -- a line says on which item an entry's part is evaluated
 pub record ShowsItem (entry : TraceEntry) (line : Line) : Type 0 where
@@ -34,7 +36,7 @@ OneHas Has (entry ∷ entries) line = Has entry line ⊎ OneHas Has entries line
 
 -- whether a value or a failure is said
 abbrev pub says_meaning : Outcome → Bool
-says_meaning (valued text) = true
+says_meaning (valued text apart) = true
 says_meaning (failed failure on) = true
 says_meaning unneeded = false
 says_meaning (is_item text) = false
@@ -42,7 +44,7 @@ says_meaning (passed items held) = false
 
 -- whether an item is shown
 abbrev pub says_item : Outcome → Bool
-says_item (valued text) = false
+says_item (valued text apart) = false
 says_item (failed failure on) = false
 says_item unneeded = false
 says_item (is_item text) = true

@@ -8,6 +8,7 @@ ghost use Rattle.ar_explain.specs.Private.Places.{place_view, said_by, with_line
 ghost use Rattle.ar_show.specs.Values.{shown_value};
 ghost use Rattle.ar_explain.specs.Views.{explanation_view, line_view, said_view};
 
+use crate::apart::{Apart, Texts, texts_apart};
 use crate::applied::operand_ref;
 use crate::place::Place;
 use crate::seen::Seen;
@@ -22,11 +23,19 @@ use std::collections::VecDeque;
 /// How many of the first lines are kept, and how many of the last ones.
 const MOST_AT_EACH_END: usize = 500;
 
+/// A value as it is shown.
+#[derive(Drop)]
+pub struct Shown {
+    pub text: String,
+    /// Where the operands of the part are texts that differ and are shown alike.
+    pub apart: Option<Apart>,
+}
+
 /// What is said of a part.
 #[derive(Drop)]
 pub enum Said {
-    /// It has a value, which is shown so.
-    Valued(String),
+    /// It has a value.
+    Valued(Shown),
     /// It fails, on these operands where the failure arises in it.
     Failed(Failure, Option<String>),
     /// It wasn't needed.
@@ -67,7 +76,8 @@ pub struct Evaluation<'t> {
 /// What is to be said of a part, before it has a text.
 #[derive(Clone, Copy)]
 pub(crate) enum Remark<'s, 'v> {
-    Value(&'s Operand<'v>),
+    /// With the operands that it is made of, if they are texts.
+    Value(&'s Operand<'v>, Option<Texts<'v>>),
     /// With the operands on which it arises in the part, if it does.
     Failure(Failure, Option<&'s str>),
     Unneeded,
@@ -98,7 +108,10 @@ pub(crate) fn said_of(alloc: Global, remark: Remark<'_, '_>) -> Result<Said, All
     ensures { IfOk result (λ said. said_view said ≡ said_by remark.entry) }
 {
     match remark {
-        Remark::Value(operand) => Ok(Said::Valued(text_of(alloc, operand_ref(operand))?)),
+        Remark::Value(operand, texts) => Ok(Said::Valued(Shown {
+            text: text_of(alloc, operand_ref(operand))?,
+            apart: texts_apart(alloc, texts)?,
+        })),
         Remark::Failure(failure, on) => Ok(Said::Failed(failure, owned(alloc, on)?)),
         Remark::Unneeded => Ok(Said::Unneeded),
         Remark::Item(value) => Ok(Said::Item(text_of(alloc, OperandRef::Borrowed(value))?)),

@@ -6,6 +6,7 @@ ghost use Rattle.ar_value.specs.Value.{Items, Value, item, list};
 ghost use Rattle.ar_value.specs.declared.operator.Predicate.{Predicate};
 ghost use Rattle.ar_tree.specs.Meaning.{mean};
 ghost use Rattle.ar_tree.specs.Typed.{Typed};
+ghost use Rattle.ar_explain.specs.Apart.{apart_on};
 ghost use Rattle.ar_explain.specs.Lines.{Line, all_lines, own_line};
 ghost use Rattle.ar_explain.specs.Operands.{failed_on};
 ghost use Rattle.ar_explain.specs.Parts.{Fails, IsEntryOf, is_evaluated, with_part};
@@ -59,7 +60,8 @@ pub fn lines_are_of_entries()
 pub fn root_line_is_last()
     ensures { (result : Value) (here : Option Value) (tree : Typed)
         → (earlier : List Line) × (all_lines result here tree
-        ≡ earlier ++ own_line tree (mean result here tree) (failed_on result here tree) ∷ []) }
+        ≡ earlier
+        ++ own_line tree (mean result here tree) (failed_on result here tree) (apart_on result here tree) ∷ []) }
 {}
 
 /// The last item that a predicate looks at has its line and those of the body on it, whatever other items are left out

@@ -34,8 +34,11 @@ pub data Unread : Type 0 where
 abbrev pub Reading : Type 0 → Type 0
 Reading A = Result A Unread
 
-abbrev pub text_in : Data → Reading Text
-text_in found = there_or unread (as_str found)
+abbrev pub mapped : {A B : Type 0} → (A → B) → Reading A → Reading B
+mapped make reading = reading >>= λ found. Ok (make found)
+
+abbrev pub string_in : Data → Reading Text
+string_in found = there_or unread (as_str found)
 
 abbrev pub count_in : Data → Reading ℕ
 count_in (json.number (json.unsigned n)) = Ok n
@@ -48,7 +51,7 @@ flag_in found = Err unread
 -- null has nothing
 abbrev pub unless_null : {A : Type 0} → (Data → Reading A) → Data → Reading (Option A)
 unless_null read json.null = Ok None
-unless_null read found = read found >>= λ one. Ok (Some one)
+unless_null read found = mapped Some (read found)
 
 abbrev pub each_in : {A : Type 0} → (Data → Reading A) → Items → Reading (List A)
 each_in read no_items = Ok []
@@ -69,7 +72,7 @@ named_among name_of all name = there_or unread (find (λ one. bytes_eq (name_of 
 -- ---- metrics
 
 abbrev pub phase_in : Data → Reading Phase
-phase_in found = text_in found >>= named_among phase_name
+phase_in found = string_in found >>= named_among phase_name
     (phases.Pending ∷ phases.Running ∷ phases.Successful ∷ phases.Failed ∷ phases.Error ∷ phases.Inconclusive ∷ [])
 
 abbrev pub counts_in : Data → Reading Counts
@@ -103,7 +106,7 @@ limits_in dry from = do
 
 abbrev pub metric_in : Data → Reading MetricFacts
 metric_in from = do
-  name ← the (codes "name") text_in from
+  name ← the (codes "name") string_in from
   dry ← the (codes "dryRun") flag_in from
   limits ← the (codes "limits") (limits_in dry) from
   phase ← the (codes "phase") phase_in from
@@ -113,11 +116,11 @@ metric_in from = do
 -- ---- events
 
 abbrev pub fault_in : Data → Reading Fault
-fault_in found = text_in found >>= named_among fault_name
+fault_in found = string_in found >>= named_among fault_name
     (faults.IndexOutOfRange ∷ faults.NilOperand ∷ faults.Overflow ∷ faults.DivisionByZero ∷ [])
 
 abbrev pub misfit_in : Data → Reading ShapeFault
-misfit_in found = text_in found >>= named_among shape_fault_name
+misfit_in found = string_in found >>= named_among shape_fault_name
     (misfits.WrongKind ∷ misfits.FloatNumber ∷ misfits.NotFinite ∷ misfits.BadDecimal ∷ misfits.OutOfRange
     ∷ misfits.ListTooLong ∷ misfits.MissingField ∷ misfits.OutOfMemory ∷ [])
 
@@ -125,27 +128,27 @@ misfit_in found = text_in found >>= named_among shape_fault_name
 abbrev pub cause_named : (name : Text) → (event : Data) → Reading Cause
 cause_named name event =
     if bytes_eq name (codes "provider") then Ok causes.Provider
-    else if bytes_eq name (codes "shape") then the (codes "fault") misfit_in event >>= λ one. Ok (causes.Shape one)
-    else if bytes_eq name (codes "success") then the (codes "fault") fault_in event >>= λ one. Ok (causes.Success one)
-    else if bytes_eq name (codes "failure") then the (codes "fault") fault_in event >>= λ one. Ok (causes.Failure one)
+    else if bytes_eq name (codes "shape") then mapped causes.Shape (the (codes "fault") misfit_in event)
+    else if bytes_eq name (codes "success") then mapped causes.Success (the (codes "fault") fault_in event)
+    else if bytes_eq name (codes "failure") then mapped causes.Failure (the (codes "fault") fault_in event)
     else Err unread
 
 abbrev pub cause_in : (event : Data) → Reading Cause
-cause_in event = the (codes "cause") text_in event >>= λ name. cause_named name event
+cause_in event = the (codes "cause") string_in event >>= λ name. cause_named name event
 
 abbrev pub verdict_named : (name : Text) → (event : Data) → Reading Verdict
 verdict_named name event =
     if bytes_eq name (codes "Successful") then Ok verdicts.Successful
     else if bytes_eq name (codes "Failed") then Ok verdicts.Failed
     else if bytes_eq name (codes "Inconclusive") then Ok verdicts.Inconclusive
-    else if bytes_eq name (codes "Error") then cause_in event >>= λ one. Ok (verdicts.Error one)
+    else if bytes_eq name (codes "Error") then mapped verdicts.Error (cause_in event)
     else Err unread
 
 abbrev pub verdict_in : (event : Data) → Reading Verdict
-verdict_in event = the (codes "verdict") text_in event >>= λ name. verdict_named name event
+verdict_in event = the (codes "verdict") string_in event >>= λ name. verdict_named name event
 
 abbrev pub judged_in : (event : Data) → Reading FindingFacts
-judged_in event = the (codes "metric") text_in event >>= λ metric. verdict_in event >>= λ verdict. Ok (judged metric verdict)
+judged_in event = the (codes "metric") string_in event >>= λ metric. mapped (judged metric) (verdict_in event)
 
 abbrev pub finding_in : (event : Data) → Reading FindingFacts
 finding_in event = the (codes "stop") flag_in event >>= λ stop. if stop then Ok stopped else judged_in event
@@ -154,11 +157,11 @@ abbrev pub effect_named : (name : Text) → (event : Data) → Reading Effect
 effect_named name event =
     if bytes_eq name (codes "applied") then Ok effects.Applied
     else if bytes_eq name (codes "late") then Ok effects.Late
-    else if bytes_eq name (codes "closed") then the (codes "phase") phase_in event >>= λ one. Ok (effects.Closed one)
+    else if bytes_eq name (codes "closed") then mapped effects.Closed (the (codes "phase") phase_in event)
     else Err unread
 
 abbrev pub effect_in : (event : Data) → Reading Effect
-effect_in event = the (codes "effect") text_in event >>= λ name. effect_named name event
+effect_in event = the (codes "effect") string_in event >>= λ name. effect_named name event
 
 abbrev pub event_in : Data → Reading EventFacts
 event_in event = do
@@ -171,7 +174,7 @@ event_in event = do
 
 abbrev pub run_in : Data → Reading RunFacts
 run_in from = do
-  name ← the (codes "name") text_in from
+  name ← the (codes "name") string_in from
   phase ← the (codes "phase") phase_in from
   metrics ← the (codes "metrics") (all_in metric_in) from
   events ← the (codes "events") (all_in event_in) from
