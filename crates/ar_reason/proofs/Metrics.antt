@@ -1,5 +1,5 @@
 -- The metrics of a run, one after another.
-use Rattle.std.proofs.Common.{◌≡◌, ◌<◌, ◌≤◌, ℕ, ◌+◌, List, ◌++◌, drop, flat_map, length, map, Option, Some, sym, ◌∙◌, ap, subst}
+use Rattle.std.proofs.Common.{◌≡◌, ◌<◌, ◌≤◌, ℕ, ◌+◌, List, ◌++◌, drop, flat_map, length, map, Option, Some, sym, ap, subst}
 use Rattle.std.specs.Prelude.{slice_get, slice_index_or}
 use Rattle.serde_json.specs.Data.{Data}
 use Rattle.ar_limits.specs.declared.counts.Counts.{Counts}

@@ -1,9 +1,9 @@
 -- No object of reasons is deep.
-use Rattle.std.proofs.Common.{◌≡◌, ◌≤◌, ◌++◌, ℕ, ℤ, pos, negsuc, suc, max, Bool, true, false, if◌then◌else◌, List, [], ◌∷◌, length, nat_lt, Option, Some, None, refl, arith}
-use Rattle.std.specs.Prelude.{codes, flat_map, map}
+use Rattle.std.proofs.Common.{◌≡◌, ◌≤◌, ◌++◌, ℕ, ℤ, pos, negsuc, suc, max, Bool, true, false, if◌then◌else◌, List, [], ◌∷◌, Option, Some, None, refl, arith}
+use Rattle.std.specs.Prelude.{codes, flat_map}
 use Rattle.std.specs.Option.{option_map_or}
 use Rattle.std.proofs.Math.Nat.{max-le}
-use Rattle.serde_json.specs.Data.{depth, items_depth, null, string}
+use Rattle.serde_json.specs.Data.{Data, depth, items_depth, null}
 use Rattle.serde_json.specs.Read.{max_depth}
 use Rattle.serde_json.specs.View.{items_of}
 use Rattle.ar_exact.specs.Exact.{Exact, a_boolean, a_text, an_integer, exact_data, exact_of, no_form}
@@ -13,14 +13,16 @@ use Rattle.ar_facts.proofs.Objects.{finding_flat, metric_flat}
 use Rattle.ar_object.proofs.Values.{above, count_flat, none_deep, one_deep, text_flat}
 use Rattle.ar_object.specs.Object.{array_of, count_data, count_or_null, integer_data, text_or_null}
 use Rattle.ar_facts.specs.Facts.{MetricFacts}
+use Rattle.ar_facts.specs.Names.{phase_name}
 use Rattle.ar_facts.specs.ReportData.{event_data, metric_data}
 use Rattle.ar_limits.specs.Metric.{is_complete}
 use Rattle.ar_limits.specs.declared.phase.Phase.{Phase}
-use Rattle.ar_misfit.specs.Misfit.{Misfit, Step, index, named}
-use Rattle.ar_misfit.specs.MisfitData.{misfit_data, step_data}
+use Rattle.ar_misfit.specs.Misfit.{Step, index, named}
+use Rattle.ar_misfit.specs.MisfitData.{step_data}
 use Rattle.ar_misfit.specs.MisfitText.{advice}
+use Rattle.ar_progress.specs.Excess.{limit_name}
 use Rattle.ar_progress.specs.Settled.{settled_by}
-use Rattle.ar_progress.specs.Waiting.{waits_for}
+use Rattle.ar_progress.specs.Waiting.{progress_of, waits_for}
 use Rattle.ar_progress.specs.declared.settled.Settled.{Settled}
 use Rattle.ar_progress.specs.declared.steps.Change.{Change}
 use Rattle.ar_progress.specs.declared.waiting.Progress.{Progress}
@@ -154,12 +156,13 @@ members_small count event value kind limit phase =
 
 why_small : (why : Option Why) → depth (option_map_or why_data why null) ≤ 6
 why_small None = omega arith
-why_small (Some whys.Stopped) = members_small _ _ _ _ _ _
-why_small (Some (whys.Exceeded phase excess)) = members_small _ _ _ _ _ _
-why_small (Some whys.AllComplete) = members_small _ _ _ _ _ _
-why_small (Some (whys.Dry phase)) = members_small _ _ _ _ _ _
-why_small (Some (whys.AfterClose number)) = members_small _ _ _ _ _ _
-why_small (Some (whys.MetricWas phase since)) = members_small _ _ _ _ _ _
+why_small (Some whys.Stopped) = members_small None None None (codes "stop") None None
+why_small (Some (whys.Exceeded phase excess)) =
+    members_small (Some excess.count) None (Some excess.value) (codes "limit") (Some (limit_name excess.limit)) (Some (phase_name phase))
+why_small (Some whys.AllComplete) = members_small None None None (codes "complete") None None
+why_small (Some (whys.Dry phase)) = members_small None None None (codes "dry") None (Some (phase_name phase))
+why_small (Some (whys.AfterClose number)) = members_small None (Some number) None (codes "runClosed") None None
+why_small (Some (whys.MetricWas phase since)) = members_small None since None (codes "metricComplete") None (Some (phase_name phase))
 
 reason_flat : (reason : Reason) → depth (reason_data reason) ≤ 7
 reason_flat reason =
@@ -182,15 +185,15 @@ waiting_flat : (closer : Option ℕ) (metric : MetricFacts) → depth (waiting_d
 waiting_flat closer metric =
     three_deep _ _ _ 2 (metric_small metric) (settled_small (settled_by closer metric.limits metric.counts)) (progress_small (waits_for metric.phase metric.limits metric.counts))
 
+one_awaited : (metric : MetricFacts) (later : List Data) → items_depth (items_of later) ≤ 7 → items_depth (items_of (awaited metric ++ later)) ≤ 7
+one_awaited metric later small = by (is_complete metric.phase) where
+  by : (complete : Bool) → items_depth (items_of ((if complete then [] else awaited_data metric.name (progress_of metric.limits metric.counts) ∷ []) ++ later)) ≤ 7
+  by true = small
+  by false = max-le (three_deep _ 0 0 6 (count_small metric.limits.count 6) (zero_small 6) (zero_small 6)) small
+
 awaited_flat : (metrics : List MetricFacts) → items_depth (items_of (flat_map awaited metrics)) ≤ 7
 awaited_flat [] = omega arith
-awaited_flat (metric ∷ metrics) = by (is_complete metric.phase) where
-  later : items_depth (items_of (flat_map awaited metrics)) ≤ 7
-  later = awaited_flat metrics
-
-  by : (complete : Bool) → items_depth (items_of ((if complete then [] else awaited_data metric ∷ []) ++ flat_map awaited metrics)) ≤ 7
-  by true = later
-  by false = max-le (three_deep _ 0 0 6 (count_small metric.limits.count 6) (zero_small 6) (zero_small 6)) later
+awaited_flat (metric ∷ metrics) = one_awaited metric (flat_map awaited metrics) (awaited_flat metrics)
 
 waits_small : (phase : Phase) (metrics : List MetricFacts) → depth (run_waits_data phase metrics) ≤ 8
 waits_small phase metrics = by (is_complete phase) where

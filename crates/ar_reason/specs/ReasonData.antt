@@ -1,10 +1,10 @@
 -- Reasons as JSON (RFC 8259): one object. Its members are in the byte order of their names.
-use Rattle.std.specs.Prelude.{ℕ, ◌-◌, ◌^◌, nat_le, min, Bool, true, false, if◌then◌else◌, List, [], ◌∷◌, ◌++◌, codes, decimal, flat_map, map, Option, Some, None, option_map}
+use Rattle.std.specs.Prelude.{ℕ, ◌-◌, ◌^◌, min, Bool, true, false, if◌then◌else◌, List, [], ◌∷◌, ◌++◌, codes, decimal, flat_map, map, Option, Some, None}
 use Rattle.std.specs.Option.{option_map_or}
 use Rattle.serde_json.specs.Data.{Data, boolean, member, no_members, null, object, string}
 use Rattle.ar_value.specs.Terms.{Text}
 use Rattle.ar_bundle.specs.Event.{EventNumber}
-use Rattle.ar_limits.specs.Metric.{counted, is_complete}
+use Rattle.ar_limits.specs.Metric.{is_complete}
 use Rattle.ar_limits.specs.declared.phase.Phase.{Phase}
 use Rattle.ar_tree.specs.Typed.{Typed}
 use Rattle.ar_tree.specs.Typed as typed
@@ -221,14 +221,16 @@ waiting_data closer metric = object
     no_members)))
 
 -- a metric that a run waits for
-abbrev pub awaited_data : MetricFacts → Data
-awaited_data metric = object
-    (member (codes "count") (count_or_null metric.limits.count)
-    (member (codes "measured") (measured_data (counted metric.counts))
-    (member (codes "metric") (string metric.name) no_members)))
+abbrev pub awaited_data : (name : Text) → Progress → Data
+awaited_data name progress = object
+    (member (codes "count") (count_or_null progress.count)
+    (member (codes "measured") (measured_data progress.measured)
+    (member (codes "metric") (string name) no_members)))
 
 abbrev pub awaited : MetricFacts → List Data
-awaited metric = if is_complete metric.phase then [] else awaited_data metric ∷ []
+awaited metric =
+    if is_complete metric.phase then []
+    else awaited_data metric.name (progress_of metric.limits metric.counts) ∷ []
 
 -- nothing where the run is closed
 abbrev pub run_waits_data : Phase → List MetricFacts → Data

@@ -369,19 +369,18 @@ fn put_metrics(
 }
 
 /// Writes a metric that its run waits for.
-fn write_awaited(json: &mut JsonText, metric: &MetricPart, limits: Limits, counts: Counts)
-    ensures { (phase : Phase) → AddsValue (awaited_data (metric_facts metric.now limits phase counts))
-        json.old.written json.new.written }
+fn write_awaited(json: &mut JsonText, name: &str, progress: Progress)
+    ensures { AddsValue (awaited_data name.now progress) json.old.written json.new.written }
 {
-    let progress = progress_of(limits, counts);
     json.begin_object();
     json.put_count_if_there("count", progress.count);
     put_measured(json, progress.measured);
-    json.put_text("metric", metric.name.as_str());
+    json.put_text("metric", name);
     json.end_object()
 }
 
 /// Writes a metric, unless it is complete.
+#[tactic(auto, using(ar_object::proofs::Texts::no_values))]
 fn write_if_awaited(
     json: &mut JsonText,
     metric: &MetricPart,
@@ -392,7 +391,7 @@ fn write_if_awaited(
     ensures { AddsValues (awaited (metric_facts metric.now limits phase counts)) json.old.written json.new.written }
 {
     if !phase.is_complete() {
-        write_awaited(json, metric, limits, counts)
+        write_awaited(json, metric.name.as_str(), progress_of(limits, counts))
     }
 }
 
@@ -415,6 +414,18 @@ fn write_all_awaited(
     }
 }
 
+fn put_awaited(json: &mut JsonText, metrics: &[MetricPart], limits: &[Limits], state: &RunState)
+    requires limits { length limits.now ≡ length metrics.now }
+    requires metrics { length state.now.limits ≡ length metrics.now }
+    ensures { AddsMember (codes "waitsFor") (array_of (flat_map awaited
+        (facts_of_metrics metrics.now limits.now state.now.phases state.now.counts)))
+        json.old.written json.new.written }
+{
+    json.begin_list("waitsFor");
+    write_all_awaited(json, metrics, limits, state);
+    json.end_list()
+}
+
 /// Writes what a run waits for, or null where it is closed.
 fn put_run_waits(json: &mut JsonText, metrics: &[MetricPart], limits: &[Limits], state: &RunState)
     requires limits { length limits.now ≡ length metrics.now }
@@ -424,11 +435,10 @@ fn put_run_waits(json: &mut JsonText, metrics: &[MetricPart], limits: &[Limits],
         json.old.written json.new.written }
 {
     if state.phase().is_complete() {
-        return json.put_null("waitsFor");
+        json.put_null("waitsFor")
+    } else {
+        put_awaited(json, metrics, limits, state)
     }
-    json.begin_list("waitsFor");
-    write_all_awaited(json, metrics, limits, state);
-    json.end_list()
 }
 
 // ---- runs

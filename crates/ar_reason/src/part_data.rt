@@ -142,16 +142,11 @@ fn put_apart(json: &mut JsonText, said: &Said)
         json.old.written json.new.written }
 {
     match said {
-        Said::Valued(
-            Shown {
-                apart: Some(apart),
-                ..
-            },
-        ) => {
+        Said::Valued(_, Some(apart)) => {
             json.put_key("differ");
             write_apart(json, apart)
         }
-        Said::Valued(..)
+        Said::Valued(_, None)
         | Said::Item(_)
         | Said::Failed(..)
         | Said::Unneeded
