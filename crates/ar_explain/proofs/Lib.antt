@@ -5,6 +5,10 @@ pub mod Failures
 pub mod LeftOut
 pub mod Needed
 pub mod Sources
+pub mod Order
+pub mod Unneeded
+pub mod ItemLines
+pub mod Children
 pub mod Keeping
 pub mod Differences
 pub mod Walks

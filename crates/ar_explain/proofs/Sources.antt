@@ -52,10 +52,10 @@ shows_on_item number entry line shows =
     record { of_part = shows.of_part; on_items = ap (λ items. number ∷ items) shows.on_items; value = shows.value; is_here = shows.is_here; of_value = shows.of_value }
 
 module _ (result : Value) where
-  says_in_child : (number : ℕ) (entry : TraceEntry) (line : Line) → Says result entry line → Says result (record entry { path = number ∷ entry.path }) line
+  pub says_in_child : (number : ℕ) (entry : TraceEntry) (line : Line) → Says result entry line → Says result (record entry { path = number ∷ entry.path }) line
   says_in_child number entry line says = record { of_part = says.of_part; on_items = says.on_items; of_meaning = says.of_meaning }
 
-  says_on_item : (number : ℕ) (entry : TraceEntry) (line : Line) → Says result entry line
+  pub says_on_item : (number : ℕ) (entry : TraceEntry) (line : Line) → Says result entry line
       → Says result (record entry { items = number ∷ entry.items }) (record line { items = number ∷ line.items })
   says_on_item number entry line says = record { of_part = says.of_part; on_items = ap (λ items. number ∷ items) says.on_items; of_meaning = says.of_meaning }
 
@@ -123,7 +123,7 @@ module _ (result : Value) where
 
 -- ---- own lines
 
-shows_no_item : (meaning : Meaning) (on : Option Text) (apart : Option Apart) → says_item (outcome_of meaning on apart) ≡ false
+pub shows_no_item : (meaning : Meaning) (on : Option Text) (apart : Option Apart) → says_item (outcome_of meaning on apart) ≡ false
 shows_no_item (Ok value) on apart = refl
 shows_no_item (Err failure) on apart = refl
 

@@ -1,5 +1,5 @@
 -- Parts of conditions by how the whole leads to them, and what a trace says of them.
-use Rattle.std.specs.Prelude.{◌≡◌, refl, ℕ, zero, suc, pos, Bool, List, [], ◌∷◌, Option, Some, None, option_and_then, Result, Ok, Err}
+use Rattle.std.specs.Prelude.{◌≡◌, refl, ℕ, zero, suc, pos, Bool, ◌&&◌, List, [], ◌∷◌, Option, Some, None, option_and_then, Result, Ok, Err}
 use Rattle.std.specs.List.{list_any}
 use Rattle.std.specs.Str.{bytes_eq}
 use Rattle.ar_value.specs.Answer.{◌>>=◌, there_or}
@@ -99,6 +99,11 @@ same_path path other = bytes_eq path other
 -- whether the part to which a path leads is evaluated, if only on some item
 abbrev pub is_evaluated : List ℕ → List TraceEntry → Bool
 is_evaluated path entries = list_any (λ (entry : TraceEntry). same_path entry.path path) entries
+
+-- whether it is evaluated on the items of predicates with these numbers, the outermost first
+abbrev pub is_evaluated_on : (path items : List ℕ) → List TraceEntry → Bool
+is_evaluated_on path items entries =
+    list_any (λ (entry : TraceEntry). same_path entry.path path && same_path entry.items items) entries
 
 -- a tree that fails wherever it is
 abbrev pub Fails : Value → Failure → Typed → Type 0

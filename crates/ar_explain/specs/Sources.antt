@@ -1,5 +1,5 @@
 -- From which entry of a trace each line comes.
-use Rattle.std.specs.Prelude.{ℕ, ◌+◌, ◌≡◌, ◌⊎◌, Bool, true, false, List, [], ◌∷◌, ◌++◌, filter, flat_map, length, map, Option, Some, Result, Ok, Err}
+use Rattle.std.specs.Prelude.{⊤, ℕ, ◌+◌, ◌==◌, ◌≡◌, ◌⊎◌, Bool, true, false, List, [], ◌∷◌, ◌++◌, filter, flat_map, length, map, Option, Some, Result, Ok, Err}
 use Rattle.ar_value.specs.Answer.{◌>>=◌}
 use Rattle.ar_value.specs.Operators.{Failure, boolean}
 use Rattle.ar_value.specs.Value.{Value}
@@ -8,9 +8,9 @@ use Rattle.ar_tree.specs.Meaning.{mean}
 use Rattle.ar_tree.specs.Typed.{Typed}
 use Rattle.ar_tree.specs.Typed as typed
 use Rattle.ar_explain.specs.Apart.{apart_on}
-use Rattle.ar_explain.specs.Lines.{Line, Outcome, body_lines, earlier_lines, failed, is_item, lines_on_item, outcome_of, passed, passed_line, unneeded, valued, with_own, shown_of}
+use Rattle.ar_explain.specs.Lines.{Line, Outcome, body_lines, earlier_lines, failed, is_item, lines_on_item, outcome_of, passed, passed_line, shown_of, unneeded, unneeded_line, valued, with_own}
 use Rattle.ar_explain.specs.Operands.{failed_on}
-use Rattle.ar_explain.specs.Parts.{same_path}
+use Rattle.ar_explain.specs.Parts.{here_at, is_evaluated_on, part_at, same_path}
 use Rattle.ar_explain.specs.Trace.{TraceEntry, trace, with_root}
 
 -- a line says what an entry has: where a failure arises, on which operands, and how operands are apart
@@ -53,6 +53,69 @@ says_item (passed items held) = false
 pub record IsFrom (result : Value) (entries : List TraceEntry) (line : Line) : Type 0 where
   pub of_meaning : says_meaning line.said ≡ true → OneHas (Says result) entries line
   pub of_item : says_item line.said ≡ true → OneHas ShowsItem entries line
+
+-- ---- the items that are shown
+
+-- a line shows the item to which its numbers lead, and its part is the body that a predicate evaluates on it
+pub record IsOfBody (result : Value) (here : Option Value) (tree : Typed) (line : Line) : Type 0 where
+  -- the path to the predicate
+  pub around : List ℕ
+  pub predicate : Predicate
+  pub many : Typed
+  pub of_predicate : part_at around tree ≡ Some (typed.predicate predicate many line.part)
+  pub value : Value
+  pub of_item : here_at result here tree (around ++ 1 ∷ []) line.items ≡ Ok (Some value)
+  pub of_value : line.said ≡ is_item (shown_value value)
+
+abbrev pub IsOfBodyIfItem : Value → Option Value → Typed → Line → Type 0
+IsOfBodyIfItem result here tree line = says_item line.said ≡ true → IsOfBody result here tree line
+
+-- ---- the order of lines
+
+-- these lines say, in their order, what some of these entries have
+abbrev pub SayInOrder : Value → List TraceEntry → List Line → Type 0
+SayInOrder result [] [] = ⊤
+SayInOrder result [] (line ∷ lines) = ⊥
+SayInOrder result (entry ∷ entries) [] = ⊤
+SayInOrder result (entry ∷ entries) (line ∷ lines) =
+    Says result entry line × SayInOrder result entries lines ⊎ SayInOrder result entries (line ∷ lines)
+
+-- the lines that say values and failures
+abbrev pub lines_of_meanings : List Line → List Line
+lines_of_meanings lines = filter (λ (line : Line). says_meaning line.said) lines
+
+-- ---- parts that aren't needed
+
+-- a part that isn't evaluated on some items, though the part around it is
+pub record IsLeftOut (tree : Typed) (entries : List TraceEntry) (items : List ℕ) (part : Typed) : Type 0 where
+  -- the path to the part around it, and which of the children of that it is
+  pub around : List ℕ
+  pub number : ℕ
+  pub is_part : part_at (around ++ number ∷ []) tree ≡ Some part
+  pub around_is_evaluated : is_evaluated_on around items entries ≡ true
+  pub isnt_evaluated : is_evaluated_on (around ++ number ∷ []) items entries ≡ false
+
+-- whether it is said that a part isn't needed
+abbrev pub says_unneeded : Outcome → Bool
+says_unneeded (valued text apart) = false
+says_unneeded (failed failure on) = false
+says_unneeded unneeded = true
+says_unneeded (is_item text) = false
+says_unneeded (passed items held) = false
+
+abbrev pub IsLeftOutIfUnneeded : Typed → List TraceEntry → Line → Type 0
+IsLeftOutIfUnneeded tree entries line =
+    says_unneeded line.said ≡ true → IsLeftOut tree entries line.items line.part
+
+-- one of these lines says of a part that it isn't needed
+abbrev pub SayUnneeded : (part : Typed) → List Line → Type 0
+SayUnneeded part [] = ⊥
+SayUnneeded part (line ∷ lines) = line ≡ unneeded_line part ⊎ SayUnneeded part lines
+
+-- whether the child with a number is a body, which is evaluated on items
+abbrev pub is_body : Typed → (number : ℕ) → Bool
+is_body (typed.predicate predicate many body) number = number == 1
+is_body tree number = false
 
 -- ---- the item that a predicate looks at last
 

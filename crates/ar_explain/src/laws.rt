@@ -1,16 +1,16 @@
 //! Laws of traces. A law is the contract of a function that does nothing.
 
-ghost use Rattle.std.specs.Prelude.{◌≡◌, ◌++◌, ◌∷◌, [], All, Err, List, Ok, Option, false, true, ℕ};
+ghost use Rattle.std.specs.Prelude.{◌≡◌, ◌++◌, ◌∷◌, [], All, Err, List, Ok, Option, Some, false, true, ℕ};
 ghost use Rattle.ar_value.specs.Operators.{Failure};
 ghost use Rattle.ar_value.specs.Value.{Items, Value, item, list};
 ghost use Rattle.ar_value.specs.declared.operator.Predicate.{Predicate};
 ghost use Rattle.ar_tree.specs.Meaning.{mean};
 ghost use Rattle.ar_tree.specs.Typed.{Typed};
 ghost use Rattle.ar_explain.specs.Apart.{apart_on};
-ghost use Rattle.ar_explain.specs.Lines.{Line, all_lines, own_line};
+ghost use Rattle.ar_explain.specs.Lines.{Line, all_lines, earlier_lines, own_line};
 ghost use Rattle.ar_explain.specs.Operands.{failed_on};
-ghost use Rattle.ar_explain.specs.Parts.{Fails, IsEntryOf, is_evaluated, with_part};
-ghost use Rattle.ar_explain.specs.Sources.{IsFrom, LooksLastAt, SaysAllItems};
+ghost use Rattle.ar_explain.specs.Parts.{Fails, IsEntryOf, child, is_evaluated, with_part};
+ghost use Rattle.ar_explain.specs.Sources.{IsFrom, IsLeftOutIfUnneeded, IsOfBodyIfItem, LooksLastAt, SayInOrder, SayUnneeded, SaysAllItems, is_body, lines_of_meanings};
 ghost use Rattle.ar_explain.specs.Trace.{TraceEntry, root_entry, trace};
 
 /// Each entry is of a part of the tree, and has its meaning.
@@ -54,6 +54,34 @@ pub fn parts_evaluated_are_needed()
 pub fn lines_are_of_entries()
     ensures { (result : Value) (here : Option Value) (tree : Typed)
         → All (IsFrom result (trace result here tree)) (all_lines result here tree) }
+{}
+
+/// Each line that shows an item has the body of a predicate as its part, and shows the item to which its numbers lead.
+pub fn items_shown_are_of_bodies()
+    ensures { (result : Value) (here : Option Value) (tree : Typed)
+        → All (IsOfBodyIfItem result here tree) (all_lines result here tree) }
+{}
+
+/// The lines that say values and failures are in the order of the trace's entries: each is of one after that of the
+/// line before.
+pub fn lines_are_in_order()
+    ensures { (result : Value) (here : Option Value) (tree : Typed)
+        → SayInOrder result (trace result here tree) (lines_of_meanings (all_lines result here tree)) }
+{}
+
+/// A part of which a line says that it isn't needed has no entry on the line's items, and the part around it has one.
+pub fn unneeded_parts_have_no_entry()
+    ensures { (result : Value) (here : Option Value) (tree : Typed)
+        → All (IsLeftOutIfUnneeded tree (trace result here tree)) (all_lines result here tree) }
+{}
+
+/// Of a part that has a value, each child without an entry has a line that says it isn't needed. That isn't said of the
+/// body of a predicate, which is evaluated on items.
+pub fn children_without_an_entry_are_unneeded()
+    ensures { (result : Value) (here : Option Value) (tree part : Typed) (value : Value) (number : ℕ)
+        → mean result here tree ≡ Ok value → child tree number ≡ Some part → is_body tree number ≡ false
+        → is_evaluated (number ∷ []) (trace result here tree) ≡ false
+        → SayUnneeded part (earlier_lines result here tree) }
 {}
 
 /// The last line is the root's own, with its meaning.

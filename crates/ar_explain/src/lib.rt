@@ -14,13 +14,13 @@
 //! The definitions are `specs/Trace` (the trace of a typed tree), `specs/Parts` (parts by paths, and what an entry
 //! has), `specs/Operands` (on which operands a part fails), `specs/Apart` (where texts differ), `specs/Lines` (what is
 //! said) and `specs/Sources` (which entry a line is of); `specs/Views` says what explanations in memory say. The laws
-//! say which parts a trace has, and what its entries and the lines with values and failures say; in which order, on
-//! which items, and of which parts it is said that they weren't needed, the definitions say alone. `specs/Private`
-//! follows the code.
+//! say which parts a trace has, what its entries and the lines with values and failures say, that these lines are in
+//! its order, and that just parts without an entry weren't needed. `specs/Private` follows the code.
 //!
 //! - [`laws`]: that entries are of parts and have their meanings, the root's is the last, a failure is the condition's,
-//!   and just what isn't needed is left out; that lines say what entries have, the root's is the last, and each item
-//!   is shown or counted
+//!   and just what isn't needed is left out; that lines say what entries have, in their order, the root's is the last,
+//!   they say of just those children that aren't evaluated that they aren't needed, items that are shown are those of
+//!   predicates, and each item is shown or counted
 //! - [`explanation`]: lines, and those that are kept, with the texts of values by `ar_show`
 //! - `walk`: the walk over a condition; `place`: where a part is evaluated; `news`: which parts have lines of their
 //!   own; `looked`: items that predicates look at; `seen`: how many of those aren't shown; `applied`: what operators
