@@ -14,12 +14,13 @@
 //! it from that.
 //!
 //! - `given`: what a provider gave; `evaluated`: the trees of conditions; `parts`: the lines of their parts
-//! - `lines`: the text; `data`: the object
+//! - `lines`: the text; `data`: the object; [`laws`]: the verdict is by the conditions that are shown
 #![tactic(auto)]
 
 mod data;
 mod evaluated;
 mod given;
+pub mod laws;
 mod lines;
 mod parts;
 
