@@ -3,7 +3,10 @@
 import re
 
 ESCAPED = {'"': '\\"', '\\': '\\\\', '\n': '\\n', '\r': '\\r', '\t': '\\t'}
-SPECIAL = re.compile('["\\\\\x00-\x1f\x7f-\x9f\u061c\u200b-\u200f\u2028-\u202e\u2060-\u2069\ufeff]')
+SPECIAL = re.compile(
+    '["\\\\\x00-\x1f\x7f-\x9f\xad\u061c\u115f\u1160\u180e\u200b-\u200f\u2028-\u202e\u2060-\u2069\u3164\ufeff\uffa0'
+    '\U000e0000-\U000e007f]'
+)
 SHOWN = 64
 
 CLOSE_TO_SPEC = {
@@ -27,9 +30,15 @@ OF_KIND = {
 }
 
 
+def code_escape(character):
+    """A character by its units of UTF-16."""
+    units = character.encode('utf-16-be')
+    return ''.join(f'\\u{units[at : at + 2].hex()}' for at in range(0, len(units), 2))
+
+
 def quoted_name(name):
     """A name as refusals and warnings show it: a JSON string, of at most SHOWN characters."""
-    shown = SPECIAL.sub(lambda found: ESCAPED.get(found[0]) or f'\\u{ord(found[0]):04x}', name[:SHOWN])
+    shown = SPECIAL.sub(lambda found: ESCAPED.get(found[0]) or code_escape(found[0]), name[:SHOWN])
     return f'"{shown}"' + ('..' if len(name) > SHOWN else '')
 
 

@@ -11,7 +11,7 @@ use Rattle.ar_value.specs.declared.operator.Predicate.{Predicate}
 use Rattle.ar_tree.specs.Meaning.{mean}
 use Rattle.ar_tree.specs.Typed.{Typed, Typeds}
 use Rattle.ar_tree.specs.Typed as typed
-use Rattle.ar_explain.specs.Lines.{Line, Seen, after_item, each_item_lines, earlier_lines, gap_lines, is_early, is_empty, is_last, is_shown, lines_on_item, none_seen, passed_line, with_own}
+use Rattle.ar_explain.specs.Lines.{Line, Seen, after_item, body_lines, each_item_lines, earlier_lines, gap_lines, is_early, is_empty, is_last, is_shown, lines_on_item, none_seen, passed_line, with_own}
 use Rattle.ar_explain.specs.Parts.{is_evaluated, same_path}
 use Rattle.ar_explain.specs.Sources.{SaysAllItems, Stretch, is_held, items_of_body, lines_of_stretches, shown, skipped, stretch_values}
 use Rattle.ar_explain.specs.Trace.{TraceEntry, continues, each_item, if_value, in_child, items_trace, on_item, root_entry, trace}
@@ -352,7 +352,7 @@ pub says_all : (result : Value) (here : Option Value) (predicate : Predicate) (m
 says_all result here predicate many body =
     let holds : Value → Result Bool Failure = λ value. mean result (Some value) body >>= boolean in
     let entries : Value → List TraceEntry = λ value. in_child 1 (trace result (Some value) body) in
-    let said : Value → List Line = λ value. with_own result (Some value) body (earlier_lines result (Some value) body) in
+    let said : Value → List Line = body_lines result body in
     let covered = covers_value predicate body holds entries said (λ number value. one_found result body number value) (mean result here many >>= items_in) in
     let of_list = in_child 0 (trace result here many) in
     let of_items = if_value (mean result here many >>= items_in) (each_item predicate holds entries 0) in

@@ -51,10 +51,10 @@ take-all : (xs : List Line) (n : ℕ) → length xs ≤ n → take n xs ≡ xs
 take-all xs n within =
     sym (append-nil (take n xs)) ∙ ap (λ ys. take n xs ++ ys) (sym (drop_of_length-le xs within)) ∙ take-append-drop n xs
 
-lt_of : (m n : ℕ) → nat_lt n m ≡ true → n < m
+pub lt_of : (m n : ℕ) → nat_lt n m ≡ true → n < m
 lt_of m n e = grind (arith, nat_tests)
 
-le_of : (m n : ℕ) → nat_lt n m ≡ false → m ≤ n
+pub le_of : (m n : ℕ) → nat_lt n m ≡ false → m ≤ n
 le_of m n e = grind (arith, nat_tests)
 
 true_of : (n m : ℕ) → n < m → nat_lt n m ≡ true

@@ -9,8 +9,7 @@ use Rattle.ar_value.specs.declared.operator.Predicate.{Predicate}
 use Rattle.ar_tree.specs.Meaning.{mean}
 use Rattle.ar_tree.specs.Typed.{Typed}
 use Rattle.ar_tree.specs.Typed as typed
-use Rattle.ar_explain.specs.Lines.{Line, Seen, after_item, each_item_lines, earlier_lines, gap_lines, is_early, is_empty, is_last, is_shown, item_lines, lines_on_item, none_seen, own_lines, with_own}
-use Rattle.ar_explain.specs.Operands.{failed_on}
+use Rattle.ar_explain.specs.Lines.{Line, Seen, after_item, body_lines, each_item_lines, earlier_lines, gap_lines, is_early, is_empty, is_last, is_shown, item_lines, lines_on_item, none_seen, with_own}
 use Rattle.ar_explain.specs.Sources.{LooksLastAt, body_entry}
 use Rattle.ar_explain.specs.Trace.{TraceEntry, continues, each_item, if_value, in_child, on_item, root_entry, trace, with_root}
 use Rattle.ar_explain.proofs.Roots.{root_last}
@@ -26,16 +25,16 @@ pub last_shown : (predicate : Predicate) (seen : Seen) (at_end : Bool) (holds : 
 last_shown predicate seen at_end (Ok holds) last = ap (λ b. is_early predicate seen holds || b) last ∙ or_true (is_early predicate seen holds)
 last_shown predicate seen at_end (Err failure) last = refl
 
--- the bodies' entries end with their own, and so do their lines, where they have one
-module _ (predicate : Predicate) (body : Typed) (holds : Value → Result Bool Failure) (entries : Value → List TraceEntry) (said : Value → List Line) (own : Value → TraceEntry) (line : Value → List Line)
-    (entries_are : (value : Value) → (earlier : List TraceEntry) × (entries value ≡ earlier ++ own value ∷ [])) (said_is : (value : Value) → (before : List Line) × (said value ≡ before ++ line value)) where
+-- the bodies' entries end with their own
+module _ (predicate : Predicate) (body : Typed) (holds : Value → Result Bool Failure) (entries : Value → List TraceEntry) (said : Value → List Line) (own : Value → TraceEntry)
+    (entries_are : (value : Value) → (earlier : List TraceEntry) × (entries value ≡ earlier ++ own value ∷ [])) where
   record Last (items : Items) (seen : Seen) (from : ℕ) : Type 0 where
     number : ℕ
     value : Value
     earlier : List TraceEntry
     are : each_item predicate holds entries from items ≡ earlier ++ on_one number (own value) ∷ []
     before : List Line
-    lines_are : each_item_lines predicate body holds said seen from items ≡ before ++ lines_on_item number (line value)
+    lines_are : each_item_lines predicate body holds said seen from items ≡ before ++ lines_on_item number (said value)
 
   abbrev entries_after : ℕ → Items → Bool → List TraceEntry
   entries_after from items it = if continues predicate it then each_item predicate holds entries (suc from) items else []
@@ -55,12 +54,9 @@ module _ (predicate : Predicate) (body : Typed) (holds : Value → Result Bool F
     earlier = on_item from (entries_are first).0;
     are = ap (λ later. on_item from (entries first) ++ later) no_entries ∙ append-nil (on_item from (entries first)) ∙ ap (on_item from) (entries_are first).1
         ∙ map-append (on_one from) (entries_are first).0 (own first ∷ []);
-    before = gap_lines body seen ++ lines_on_item from (said_is first).0;
+    before = gap_lines body seen;
     lines_are = ap (λ later. own_lines_of seen from first items ++ later) no_lines ∙ append-nil (own_lines_of seen from first items)
-        ∙ ap (λ b. if b then gap_lines body seen ++ lines_on_item from (said first) else []) (last_shown predicate seen (is_empty items) (holds first) last)
-        ∙ ap (λ lines. gap_lines body seen ++ lines)
-        (ap (lines_on_item from) (said_is first).1 ∙ map-append (λ (line : Line). record line { items = from ∷ line.items }) (said_is first).0 (line first))
-        ∙ sym (append_assoc (gap_lines body seen) (lines_on_item from (said_is first).0) (lines_on_item from (line first)));
+        ∙ ap (λ b. if b then gap_lines body seen ++ lines_on_item from (said first) else []) (last_shown predicate seen (is_empty items) (holds first) last);
   }
 
   -- an item after which come others
@@ -77,7 +73,7 @@ module _ (predicate : Predicate) (body : Typed) (holds : Value → Result Bool F
     lines_are = ap (λ m. own_lines_of seen from first items ++ if_value m (lines_after seen from items)) is
         ∙ ap (λ b. own_lines_of seen from first items ++ (if b then each_item_lines predicate body holds said (after_item predicate seen it) (suc from) items else [])) on
         ∙ ap (λ later. own_lines_of seen from first items ++ later) last.lines_are
-        ∙ sym (append_assoc (own_lines_of seen from first items) last.before (lines_on_item last.number (line last.value)));
+        ∙ sym (append_assoc (own_lines_of seen from first items) last.before (lines_on_item last.number (said last.value)));
   }
 
   fails_here : (seen : Seen) (from : ℕ) (first : Value) (items : Items) (failure : Failure) → holds first ≡ Err failure → Last (item first items) seen from
@@ -141,9 +137,8 @@ pub looks_last : (result : Value) (here : Option Value) (predicate : Predicate) 
 looks_last result here predicate many body first others is =
     let holds : Value → Result Bool Failure = λ value. mean result (Some value) body >>= boolean in
     let entries : Value → List TraceEntry = λ value. in_child 1 (trace result (Some value) body) in
-    let said : Value → List Line = λ value. with_own result (Some value) body (earlier_lines result (Some value) body) in
-    let last = last_item predicate body holds entries said (λ value. record (root_entry result (Some value) body) { path = 1 ∷ [] }) (λ value. own_lines body (mean result (Some value) body) (failed_on result (Some value) body))
-    (body_ends result body) (λ value. (earlier_lines result (Some value) body, refl)) first others none_seen 0 in
+    let said : Value → List Line = body_lines result body in
+    let last = last_item predicate body holds entries said (λ value. record (root_entry result (Some value) body) { path = 1 ∷ [] }) (body_ends result body) first others none_seen 0 in
     let list_entries = in_child 0 (trace result here many) in
     let list_lines = with_own result here many (earlier_lines result here many) in (
       last.number,
@@ -153,7 +148,7 @@ looks_last result here predicate many body first others is =
         has_entry = ap (with_root result here (typed.predicate predicate many body))
             (joined list_entries (mean result here many) (item first others) (each_item predicate holds entries 0) last.earlier (body_entry result body last.number last.value ∷ []) is last.are);
         before = list_lines ++ last.before;
-        has_line = joined list_lines (mean result here many) (item first others) (each_item_lines predicate body holds said none_seen 0) last.before
-            (lines_on_item last.number (own_lines body (mean result (Some last.value) body) (failed_on result (Some last.value) body))) is last.lines_are;
+        has_lines = joined list_lines (mean result here many) (item first others) (each_item_lines predicate body holds said none_seen 0) last.before
+            (lines_on_item last.number (said last.value)) is last.lines_are;
       },
     )

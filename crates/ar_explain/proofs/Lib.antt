@@ -6,6 +6,7 @@ pub mod LeftOut
 pub mod Needed
 pub mod Sources
 pub mod Keeping
+pub mod Differences
 pub mod Walks
 pub mod Loops
 pub mod LastItems

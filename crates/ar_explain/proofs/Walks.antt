@@ -1,25 +1,31 @@
 -- What functions of the walk give and say, one after another.
-use Rattle.std.proofs.Common.{◌≡◌, ℕ, Bool, true, false, List, [], ◌++◌, Option, None, Result, Ok, Err, refl, ap, sym, ◌∙◌, subst, true≢false}
+use Rattle.std.proofs.Common.{◌≡◌, ℕ, Bool, true, false, List, [], ◌∷◌, ◌++◌, Option, None, Some, Result, Ok, Err, refl, ap, sym, ◌∙◌, subst, true≢false}
 use Rattle.std.specs.Prelude.{◌||◌, IfOk, not, if◌then◌else◌}
 use Rattle.std.specs.declared.alloc.AllocError.{AllocError}
 use Rattle.std.proofs.lemmas.List.{append-nil}
 use Rattle.ar_value.specs.Answer.{◌>>=◌}
-use Rattle.ar_value.specs.Operators.{Failure, Meaning, field_in}
+use Rattle.ar_value.specs.Operators.{Failure, Meaning, field_in, unary_meaning}
 use Rattle.ar_value.specs.Terms.{Text}
 use Rattle.ar_value.specs.Value.{Value}
 use Rattle.ar_value.specs.declared.operator.Predicate.{Predicate}
+use Rattle.ar_value.specs.declared.operator.UnaryOperator.{UnaryOperator}
 use Rattle.ar_tree.specs.Meaning.{mean}
 use Rattle.ar_tree.specs.Typed.{Typed}
-use Rattle.ar_operand.specs.Operand.{Meets, failure_of}
+use Rattle.ar_tree.specs.Typed as typed
+use Rattle.ar_operand.specs.Operand.{Meets, failure_of, operand_view}
+use Rattle.ar_operand.specs.declared.operand.Operand.{Operand}
 use Rattle.ar_operand.specs.declared.operand.Failure.{Failure as FailureCode}
-use Rattle.ar_explain.specs.Lines.{Explanation, Line, Outcome, Seen, earlier_lines, explained, gap_lines, is_shown, item_lines, lines_on_item, own_lines, outcome_of}
-use Rattle.ar_explain.specs.Operands.{failed_on, on_value}
-use Rattle.ar_explain.specs.Private.Failed.{MeetsOn, came, came_on, on_of}
+use Rattle.ar_explain.specs.Apart.{Apart, apart_on}
+use Rattle.ar_explain.specs.Lines.{Explanation, Line, Outcome, Seen, earlier_lines, explained, gap_lines, is_shown, item_line, item_lines, lines_on_item, operand_own_lines, own_lines, outcome_of}
+use Rattle.ar_explain.specs.Operands.{failed_on, on_value, one_operand}
+use Rattle.ar_explain.specs.Private.Failed.{ComesTo, MeetsOn, came, came_apart, came_on, found_view, on_of}
+use Rattle.ar_explain.specs.Private.Apart.{texts_apart}
 use Rattle.ar_explain.specs.Private.Keeping.{with_lines}
-use Rattle.ar_explain.specs.Private.Places.{Explains, ExplainsOn, Place, as_meant, at_item, earlier_at, failed_at, holds_meant, holds_on, lines_at, lines_on, meant, with_lines_at}
+use Rattle.ar_explain.specs.Private.Places.{Explains, ExplainsFound, ExplainsOn, Place, apart_at, as_meant, at_item, earlier_at, failed_at, holds_meant, holds_on, lines_at, lines_on, meant, with_lines_at}
 use Rattle.ar_explain.specs.Trace.{if_value}
 use Rattle.ar_explain.specs.Views.{explanation_view}
 use Rattle.ar_explain.specs.declared.explanation.Explanation.{Explanation as ExplanationCode}
+use Rattle.ar_explain.specs.declared.applied.Found.{Found as FoundCode}
 use Rattle.ar_explain.specs.declared.failed.Failed.{Failed as FailedCode}
 use Rattle.ar_explain.proofs.Keeping.{all_explained, explanation, with_item, with_more, with_silence}
 
@@ -93,13 +99,14 @@ also_on view place old mid new (Ok met) meaning on first later one is = (is.0, m
 also_on view place old mid new (Err error) meaning on first later one is = tt
 
 -- after a left operand
-pub after_left : {X Y : Type 0} (view : X → Y) (place : Place) (old mid new : ExplanationCode) (result : Result (Result X FailedCode) AllocError)
-    (m : Meaning) (x : Value) (next : Value → Result Y Failure) (on : Value → Option Text) (first : List Line) (later : Value → List Line)
-    → m ≡ Ok x → explanation_view mid ≡ with_lines_at place old first → ExplainsOn view place mid new result (next x) (on x) (later x)
-    → ExplainsOn view place old new result (m >>= next) (on_value m on) (first ++ if_value m later)
-after_left view place old mid new result m x next on first later value one is =
-    subst (λ m. ExplainsOn view place old new result (m >>= next) (on_value m on) (first ++ if_value m later)) (sym value)
-    (also_on view place old mid new result (next x) (on x) (first) (later x) one is)
+pub after_left : (place : Place) (old mid new : ExplanationCode) (result : Result (Result FoundCode FailedCode) AllocError)
+    (m : Meaning) (x : Value) (next : Value → Meaning) (on : Value → Option Text) (apart : Value → Option Apart) (first : List Line) (later : Value → List Line)
+    → m ≡ Ok x → explanation_view mid ≡ with_lines_at place old first → ExplainsFound place mid new result (next x) (on x) (apart x) (later x)
+    → ExplainsFound place old new result (m >>= next) (on_value m on) (on_value m apart) (first ++ if_value m later)
+after_left place old mid new (Ok met) m x next on apart first later value one is =
+    subst (λ m. ExplainsFound place old new (Ok met) (m >>= next) (on_value m on) (on_value m apart) (first ++ if_value m later)) (sym value)
+    (is.0, more place old mid new first (later x) one is.1)
+after_left place old mid new (Err error) m x next on apart first later value one is = tt
 
 -- after the list of a predicate
 pub after_list : {A Y X : Type 0} (view : X → Y) (place : Place) (old mid new : ExplanationCode) (result : Result (Result X FailedCode) AllocError)
@@ -112,31 +119,83 @@ after_list view place old mid new result m x taken next on first later value one
 
 -- ---- a part's own line
 
--- a part's own line is as what came of it
-own_as_came : {X : Type 0} (view : X → Value) (met : Result X FailedCode) (meaning : Meaning) (on : Option Text) (tree : Typed) → MeetsOn view met meaning on
-    → own_lines tree (came view met) (came_on met) ≡ own_lines tree meaning on
-own_as_came view (Ok x) meaning on tree is = ap (λ m. own_lines tree m on) (sym is)
-own_as_came view (Err failed) meaning on tree is = ap (λ m. own_lines tree m (on_of failed)) (sym is.0) ∙ ap (λ on. own_lines tree meaning on) is.1
+-- what is said of what came is said of what is meant
+module _ {A : Type 0} (said : Meaning → Option Text → Option Apart → A) (of_value : (value : Value) (on : Option Text) (apart : Option Apart) → said (Ok value) None apart ≡ said (Ok value) on apart)
+    (of_failure : (failure : Failure) (on : Option Text) (apart : Option Apart) → said (Err failure) on None ≡ said (Err failure) on apart) where
+  said_of_came : (met : Result FoundCode FailedCode) (meaning : Meaning) (on : Option Text) (apart : Option Apart) → ComesTo met meaning on apart
+      → said (came found_view met) (came_on met) (came_apart met) ≡ said meaning on apart
+  said_of_came (Ok found) meaning on apart is =
+      of_value (found_view found) on (texts_apart found.texts) ∙ ap (λ m. said m on (texts_apart found.texts)) (sym is.0) ∙ ap (λ apart. said meaning on apart) is.1
+  said_of_came (Err failed) meaning on apart is =
+      of_failure (failure_of failed.failure) (on_of failed) apart ∙ ap (λ m. said m (on_of failed) apart) (sym is.0.0) ∙ ap (λ on. said meaning on apart) is.0.1
 
-pub own_after : {X : Type 0} (view : X → Value) (place : Place) (old mid new : ExplanationCode) (met : Result X FailedCode) (meaning : Meaning) (on : Option Text) (tree : Typed) (earlier : List Line)
-    → MeetsOn view met meaning on → explanation_view mid ≡ with_lines_at place old earlier → explanation_view new ≡ with_lines_at place mid (own_lines tree (came view met) (came_on met))
-    → explanation_view new ≡ with_lines_at place old (earlier ++ own_lines tree meaning on)
-own_after view place old mid new met meaning on tree earlier is one two =
-    more place old mid new earlier (own_lines tree meaning on) one
-    (two ∙ ap (λ lines. with_lines_at place mid lines) (own_as_came view met meaning on tree is))
+said_after : (said : Meaning → Option Text → Option Apart → List Line) (of_value : (value : Value) (on : Option Text) (apart : Option Apart) → said (Ok value) None apart ≡ said (Ok value) on apart)
+    (of_failure : (failure : Failure) (on : Option Text) (apart : Option Apart) → said (Err failure) on None ≡ said (Err failure) on apart)
+    (place : Place) (old mid new : ExplanationCode) (met : Result FoundCode FailedCode) (meaning : Meaning) (on : Option Text) (apart : Option Apart) (earlier : List Line)
+    → ComesTo met meaning on apart → explanation_view mid ≡ with_lines_at place old earlier → explanation_view new ≡ with_lines_at place mid (said (came found_view met) (came_on met) (came_apart met))
+    → explanation_view new ≡ with_lines_at place old (earlier ++ said meaning on apart)
+said_after said of_value of_failure place old mid new met meaning on apart earlier is one two =
+    more place old mid new earlier (said meaning on apart) one
+    (two ∙ ap (λ lines. with_lines_at place mid lines) (said_of_came said of_value of_failure met meaning on apart is))
+
+pub own_after : (place : Place) (old mid new : ExplanationCode) (met : Result FoundCode FailedCode) (meaning : Meaning) (on : Option Text) (apart : Option Apart) (tree : Typed) (earlier : List Line)
+    → ComesTo met meaning on apart → explanation_view mid ≡ with_lines_at place old earlier
+    → explanation_view new ≡ with_lines_at place mid (own_lines tree (came found_view met) (came_on met) (came_apart met))
+    → explanation_view new ≡ with_lines_at place old (earlier ++ own_lines tree meaning on apart)
+own_after place old mid new met meaning on apart tree earlier is one two =
+    said_after (own_lines tree) (λ value on apart. refl) (λ failure on apart. refl) place old mid new met meaning on apart earlier is one two
+
+-- ---- operands of unary operators
+
+of_value : (operator : UnaryOperator) (tree : Typed) (value : Value) (on : Option Text) (apart : Option Apart)
+    → operand_own_lines operator tree (Ok value) None apart ≡ operand_own_lines operator tree (Ok value) on apart
+of_value operator tree value on apart = refl
+
+of_failure : (operator : UnaryOperator) (tree : Typed) (failure : Failure) (on : Option Text) (apart : Option Apart)
+    → operand_own_lines operator tree (Err failure) on None ≡ operand_own_lines operator tree (Err failure) on apart
+of_failure operator tree failure on apart = refl
+
+module _ (place : Place) (old mid new : ExplanationCode) (met : Result FoundCode FailedCode) (operator : UnaryOperator) (tree : Typed)
+    (is : ComesTo met (meant place tree) (failed_at place tree) (apart_at place tree)) (one : explanation_view mid ≡ with_lines_at place old (earlier_at place tree))
+    (two : explanation_view new ≡ with_lines_at place mid (operand_own_lines operator tree (came found_view met) (came_on met) (came_apart met))) where
+  operand_said : explanation_view new ≡ with_lines_at place old (earlier_at place (typed.unary operator tree))
+  operand_said =
+      said_after (operand_own_lines operator tree) (of_value operator tree) (of_failure operator tree) place old mid new met (meant place tree) (failed_at place tree) (apart_at place tree)
+      (earlier_at place tree) is one two
+
+  pub after_operand : (found : FoundCode) (result : Result (Result Operand FailedCode) AllocError) → met ≡ Ok found
+      → IfOk result (λ met. MeetsOn operand_view met (unary_meaning operator (found_view found)) (Some (one_operand (found_view found))))
+      → ExplainsOn operand_view place old new result (meant place (typed.unary operator tree)) (failed_at place (typed.unary operator tree)) (earlier_at place (typed.unary operator tree))
+  after_operand found (Ok applied) met_is meets = (
+    subst (λ m. MeetsOn operand_view applied (m >>= unary_meaning operator) (on_value m (λ value. Some (one_operand value))))
+        (sym (value_came found_view met found (meant place tree) (failed_at place tree) met_is is.0)) meets,
+    operand_said,
+  )
+  after_operand found (Err error) met_is meets = tt
+
+  pub after_failure : (failed inside : FailedCode) → met ≡ Err failed → inside.failure ≡ failed.failure → on_of inside ≡ None
+      → ExplainsOn operand_view place old new (Ok (Err inside)) (meant place (typed.unary operator tree)) (failed_at place (typed.unary operator tree)) (earlier_at place (typed.unary operator tree))
+  after_failure failed inside met_is same none =
+      let fails = (failure_came found_view met failed (meant place tree) (failed_at place tree) met_is is.0).0 in (
+        (
+          ap (λ m. m >>= unary_meaning operator) fails ∙ ap (λ failure. Err (failure_of failure)) (sym same),
+          none ∙ ap (λ m. on_value m (λ value. Some (one_operand value))) (sym fails),
+        ),
+        operand_said,
+      )
 
 -- ---- branches
 
 -- ---- items of predicates
 
 pub held_on : (place inner : Place) (number : ℕ) (value : Value) (silent : Bool) (old new : ExplanationCode) (result : Result (Result Bool FailureCode) AllocError) (body : Typed)
-    → inner ≡ at_item number value silent place → Explains (λ (it : Bool). it) inner old new result (holds_meant inner body) (lines_at inner body)
+    → inner ≡ at_item number value silent place → Explains (λ (it : Bool). it) inner old new result (holds_meant inner body) (item_line body value ∷ lines_at inner body)
     → IfOk result (λ holds. Meets (λ (it : Bool). it) holds (holds_on place body value)
     × (explanation_view new ≡ with_lines silent place.items (explanation_view old) (lines_on_item number (lines_on place body value))))
 held_on place inner number value silent old new (Err error) body is said = tt
 held_on place inner number value silent old new (Ok met) body is said =
     let at : Explains (λ (it : Bool). it) (at_item number value silent place) old new (Ok met) (holds_on place body value) (lines_on place body value) =
-    subst (λ (inner : Place). Explains (λ (it : Bool). it) inner old new (Ok met) (holds_meant inner body) (lines_at inner body)) is said in
+    subst (λ (inner : Place). Explains (λ (it : Bool). it) inner old new (Ok met) (holds_meant inner body) (item_line body value ∷ lines_at inner body)) is said in
     (at.0, at.1 ∙ with_item silent place.items number (explanation_view old) (lines_on place body value))
 
 -- nothing is said of an item that isn't shown, and nothing at all in silence
@@ -205,13 +264,9 @@ parts_explained place value tree none new is empty are =
     ∙ ap (λ e. with_lines false [] e (earlier_lines value None tree)) empty
     ∙ all_explained (earlier_lines value None tree)
 
-said_as_came : {X : Type 0} (view : X → Value) (met : Result X FailedCode) (meaning : Meaning) (on : Option Text) → MeetsOn view met meaning on
-    → outcome_of (came view met) (came_on met) ≡ outcome_of meaning on
-said_as_came view (Ok x) meaning on is = ap (λ m. outcome_of m on) (sym is)
-said_as_came view (Err failed) meaning on is = ap (λ m. outcome_of m (on_of failed)) (sym is.0) ∙ ap (λ on. outcome_of meaning on) is.1
-
-pub answer_said : {X : Type 0} (view : X → Value) (place : Place) (value : Value) (tree : Typed) (met : Result X FailedCode) (said : Outcome)
-    → place ≡ outside value → MeetsOn view met (meant place tree) (failed_at place tree) → said ≡ outcome_of (came view met) (came_on met)
-    → said ≡ outcome_of (mean value None tree) (failed_on value None tree)
-answer_said view place value tree met said is meets says =
-    says ∙ said_as_came view met (meant place tree) (failed_at place tree) meets ∙ ap (λ place. outcome_of (meant place tree) (failed_at place tree)) is
+pub answer_said : (place : Place) (value : Value) (tree : Typed) (met : Result FoundCode FailedCode) (said : Outcome)
+    → place ≡ outside value → ComesTo met (meant place tree) (failed_at place tree) (apart_at place tree) → said ≡ outcome_of (came found_view met) (came_on met) (came_apart met)
+    → said ≡ outcome_of (mean value None tree) (failed_on value None tree) (apart_on value None tree)
+answer_said place value tree met said is meets says =
+    says ∙ said_of_came outcome_of (λ value on apart. refl) (λ failure on apart. refl) met (meant place tree) (failed_at place tree) (apart_at place tree) meets
+    ∙ ap (λ place. outcome_of (meant place tree) (failed_at place tree) (apart_at place tree)) is

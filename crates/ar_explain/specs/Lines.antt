@@ -1,12 +1,13 @@
 -- What is said of an evaluation to a person, in its order: the values and failures of parts, where they are news, and
 -- which parts weren't needed. Where a failure arises its line says on which operands.
-use Rattle.std.specs.Prelude.{ℕ, suc, pos, ◌+◌, ◌-◌, ◌^◌, ◌==◌, nat_lt, min, ◌≡◌, refl, Bool, true, false, not, ◌&&◌, ◌||◌, if◌then◌else◌, List, [], ◌∷◌, ◌++◌, codes, drop, length, map, take, Option, Some, None, Result, Ok, Err}
+use Rattle.std.specs.Prelude.{ℕ, suc, pos, ◌+◌, ◌-◌, ◌^◌, ◌==◌, nat_lt, min, ◌≡◌, refl, Bool, true, false, not, ◌&&◌, ◌||◌, if◌then◌else◌, List, [], ◌∷◌, ◌++◌, codes, drop, length, map, replicate, take, Option, Some, None, Result, Ok, Err}
 use Rattle.std.specs.Fmt.{digits}
+use Rattle.std.specs.Str.{chars}
 use Rattle.ar_value.specs.Answer.{◌>>=◌}
 use Rattle.ar_value.specs.Predicates.{gathers}
-use Rattle.ar_value.specs.Operators.{Failure, Meaning, boolean, faulted, items_in, scalar_item}
+use Rattle.ar_value.specs.Operators.{Failure, Meaning, boolean, faulted, is_nil, items_in, scalar_item}
 use Rattle.ar_value.specs.Terms.{Text}
-use Rattle.ar_value.specs.Value.{Value, Items, bool, whole, list, nil, no_items, item, items_of}
+use Rattle.ar_value.specs.Value.{Value, Items, bool, whole, list, nil, no_items, item, items_of, object, field, no_fields, text}
 use Rattle.ar_value.specs.declared.fault.Fault.TheVariants.{DivisionByZero, IndexOutOfRange, NilOperand}
 use Rattle.ar_value.specs.declared.operator.BinaryOperator.TheVariants as binary
 use Rattle.ar_value.specs.declared.operator.Arithmetic.TheVariants.{Divide}
@@ -25,18 +26,22 @@ use Rattle.ar_tree.specs.declared.tree.Literal.TheVariants as literals
 use Rattle.ar_tree.specs.Meaning.{mean}
 use Rattle.ar_tree.specs.Typed.{Typed, Typeds}
 use Rattle.ar_tree.specs.Typed as typed
-use Rattle.ar_show.specs.Values.{shown_value}
+use Rattle.ar_quote.specs.Shown.{quoted}
+use Rattle.ar_show.specs.Values.{shown_text, shown_value}
+use Rattle.ar_explain.specs.Apart.{Apart, apart_of, apart_on}
 use Rattle.ar_explain.specs.Operands.{failed_on, one_operand, two_operands}
 use Rattle.ar_explain.specs.Trace.{continues, if_value}
 
 -- what is said of a part
 pub data Outcome : Type 0 where
-  -- it has a value, which is shown so
-  valued : (text : List ℕ) → Outcome
+  -- it has a value, which is shown so; where its operands are texts that differ and are shown alike, they are apart so
+  valued : (text : List ℕ) → (apart : Option Apart) → Outcome
   -- it fails, on these operands where the failure arises in it
   failed : Failure → (on : Option Text) → Outcome
   -- it wasn't needed
   unneeded : Outcome
+  -- it is a predicate's body, evaluated on an item that is shown so
+  is_item : (text : List ℕ) → Outcome
   -- it is a predicate's body, evaluated on this many items that aren't shown, of `held` of which it holds
   passed : (items held : ℕ) → Outcome
 
@@ -46,16 +51,20 @@ pub record Line : Type 0 where
   pub part : Typed
   pub said : Outcome
 
-abbrev pub outcome_of : Meaning → (on : Option Text) → Outcome
-outcome_of (Ok value) on = valued (shown_value value)
-outcome_of (Err failure) on = failed failure on
+abbrev pub outcome_of : Meaning → (on : Option Text) → (apart : Option Apart) → Outcome
+outcome_of (Ok value) on apart = valued (shown_value value) apart
+outcome_of (Err failure) on apart = failed failure on
 
 -- a part's own line
-abbrev pub own_line : Typed → Meaning → (on : Option Text) → Line
-own_line tree meaning on = record { items = []; part = tree; said = outcome_of meaning on }
+abbrev pub own_line : Typed → Meaning → (on : Option Text) → (apart : Option Apart) → Line
+own_line tree meaning on apart = record { items = []; part = tree; said = outcome_of meaning on apart }
 
 abbrev pub unneeded_line : Typed → Line
 unneeded_line tree = record { items = []; part = tree; said = unneeded }
+
+-- that a predicate's body is evaluated on an item
+abbrev pub item_line : (body : Typed) → Value → Line
+item_line body value = record { items = []; part = body; said = is_item (shown_value value) }
 
 -- that items aren't shown
 abbrev pub passed_line : Typed → (items held : ℕ) → Line
@@ -80,7 +89,7 @@ changes_value (unary.Negate of) of_literal = not of_literal
 -- whether the value of a part says more than the condition's text and the lines of the part's own parts
 abbrev pub says_more : Typed → Bool
 says_more typed.result = false
-says_more typed.item = true
+says_more typed.item = false
 says_more (typed.literal literal) = false
 says_more (typed.field owner name) = true
 says_more (typed.unary operator operand) = changes_value operator (is_literal operand)
@@ -96,12 +105,24 @@ abbrev pub has_own_line : Typed → Meaning → Bool
 has_own_line tree (Ok value) = says_more tree
 has_own_line tree (Err failure) = true
 
-abbrev pub own_lines : Typed → Meaning → (on : Option Text) → List Line
-own_lines tree meaning on = if has_own_line tree meaning then own_line tree meaning on ∷ [] else []
+abbrev pub own_lines : Typed → Meaning → (on : Option Text) → (apart : Option Apart) → List Line
+own_lines tree meaning on apart = if has_own_line tree meaning then own_line tree meaning on apart ∷ [] else []
+
+-- whether an operator's failure says of its operand that it is nil
+abbrev pub is_missing : UnaryOperator → Meaning → Bool
+is_missing unary.Need (Ok value) = is_nil value
+is_missing unary.Need (Err failure) = false
+is_missing operator meaning = false
+
+-- the own lines of an operator's operand: none where the operator's failure says that it is nil
+abbrev pub operand_own_lines : UnaryOperator → Typed → Meaning → (on : Option Text) → (apart : Option Apart) → List Line
+operand_own_lines operator tree meaning on apart =
+    if is_missing operator meaning then [] else own_lines tree meaning on apart
 
 -- the lines of a part: those of its own parts, then its own
 abbrev pub with_own : Value → Option Value → Typed → List Line → List Line
-with_own result here tree earlier = earlier ++ own_lines tree (mean result here tree) (failed_on result here tree)
+with_own result here tree earlier =
+    earlier ++ own_lines tree (mean result here tree) (failed_on result here tree) (apart_on result here tree)
 
 -- ---- items of predicates
 
@@ -186,7 +207,9 @@ abbrev mutual
   earlier_lines result here (typed.literal literal) = []
   earlier_lines result here (typed.field owner name) = with_own result here owner (earlier_lines result here owner)
   earlier_lines result here (typed.unary operator operand) =
-      with_own result here operand (earlier_lines result here operand)
+      earlier_lines result here operand
+      ++ operand_own_lines operator operand (mean result here operand) (failed_on result here operand)
+      (apart_on result here operand)
   earlier_lines result here (typed.binary operator left right) =
       with_own result here left (earlier_lines result here left)
       ++ if_value (mean result here left) (λ value. with_own result here right (earlier_lines result here right))
@@ -213,7 +236,8 @@ abbrev mutual
       with_own result here many (earlier_lines result here many)
       ++ if_value (mean result here many >>= items_in)
       (each_item_lines predicate body (λ value. mean result (Some value) body >>= boolean)
-      (λ value. with_own result (Some value) body (earlier_lines result (Some value) body)) none_seen 0)
+      (λ value. item_line body value ∷ with_own result (Some value) body (earlier_lines result (Some value) body))
+      none_seen 0)
 
   -- the items of a list literal
   pub items_lines : Value → Option Value → Typeds → List Line
@@ -222,10 +246,16 @@ abbrev mutual
       with_own result here first (earlier_lines result here first)
       ++ if_value (mean result here first >>= scalar_item) (λ value. items_lines result here others)
 
+-- the lines of a predicate's body on an item: the item's, then those of the body
+abbrev pub body_lines : Value → (body : Typed) → Value → List Line
+body_lines result body value =
+    item_line body value ∷ with_own result (Some value) body (earlier_lines result (Some value) body)
+
 -- the root's own line is the last, and always there
 abbrev pub all_lines : Value → Option Value → Typed → List Line
 all_lines result here tree =
-    earlier_lines result here tree ++ own_line tree (mean result here tree) (failed_on result here tree) ∷ []
+    earlier_lines result here tree
+    ++ own_line tree (mean result here tree) (failed_on result here tree) (apart_on result here tree) ∷ []
 
 -- ---- what is kept of the lines
 
@@ -278,7 +308,7 @@ abbrev one_over_result : Typed
 one_over_result = typed.binary (binary.Wholes Divide) (the_literal 1) typed.result
 
 abbrev the_value : Value → Outcome
-the_value value = valued (shown_value value)
+the_value value = valued (shown_value value) None
 
 abbrev fails_on_zero : Outcome
 fails_on_zero = failed (faulted DivisionByZero) (Some (codes "operands 1 and 0"))
@@ -357,6 +387,40 @@ value_is_nil : map row_of (all_lines nil None (is_below needed 8))
 unfolding one_operand shown_value
 value_is_nil = refl
 
+-- `result.rate < 8` where the rate is nil: one line says so
+abbrev the_rate : Typed
+the_rate = typed.field typed.result (codes "rate")
+
+abbrev needed_rate : Typed
+needed_rate = typed.unary unary.Need the_rate
+
+abbrev with_rate : Value → Value
+with_rate value = object (field (codes "rate") value no_fields)
+
+field_is_nil : map row_of (all_lines (with_rate nil) None (is_below needed_rate 8))
+    ≡ ([], needed_rate, failed (faulted NilOperand) (Some (codes "operand nil")))
+    ∷ ([], is_below needed_rate 8, failed (faulted NilOperand) None) ∷ []
+unfolding one_operand shown_value
+field_is_nil = refl
+
+-- on any other value the field has its line
+field_is_there : map row_of (all_lines (with_rate (whole (pos 7))) None (is_below needed_rate 8))
+    ≡ ([], the_rate, the_value (whole (pos 7))) ∷ ([], is_below needed_rate 8, the_value (bool true)) ∷ []
+field_is_there = refl
+
+-- `result == "aa..ab"` on other text: they are shown alike
+abbrev long_text : Text → Text
+long_text rest = replicate 66 97 ++ rest
+
+abbrev is_long_text : Typed
+is_long_text =
+    typed.binary (binary.Equal families.Text) typed.result (typed.literal (literals.Text (long_text (codes "b"))))
+
+texts_shown_alike : map row_of (all_lines (text (long_text (codes "c"))) None is_long_text)
+    ≡ ([], is_long_text, valued (codes "false") (Some (apart_of (long_text (codes "c")) (long_text (codes "b"))))) ∷ []
+unfolding shown_value shown_text quoted digits chars lib.Utf8.encode
+texts_shown_alike = refl
+
 -- `result[0] < 8` on an empty list
 abbrev the_first : Typed
 the_first = typed.binary binary.Index typed.result (the_literal 0)
@@ -382,9 +446,12 @@ abbrev the_items : Value
 the_items =
     list (items_of (whole (pos 9) ∷ whole (pos 8) ∷ whole (pos 9) ∷ whole (pos 8) ∷ whole (pos 1) ∷ whole (pos 2) ∷ []))
 
+abbrev the_item : Value → Outcome
+the_item value = is_item (shown_value value)
+
 abbrev of_item : ℕ → ℕ → Bool → List (List ℕ × Typed × Outcome)
 of_item number value holds =
-    (number ∷ [], typed.item, the_value (whole (pos value)))
+    (number ∷ [], is_below typed.item 8, the_item (whole (pos value)))
     ∷ (number ∷ [], is_below typed.item 8, the_value (bool holds)) ∷ []
 
 abbrev of_gap : Typed → (items held : ℕ) → List (List ℕ × Typed × Outcome)
@@ -427,7 +494,7 @@ is_quotient =
 abbrev fails_on_item : List (List ℕ × Typed × Outcome)
 fails_on_item =
     ([], is_quotient, passed 3 0)
-    ∷ (3 ∷ [], typed.item, the_value (whole (pos 0)))
+    ∷ (3 ∷ [], is_quotient, the_item (whole (pos 0)))
     ∷ (3 ∷ [], typed.binary (binary.Wholes Divide) (the_literal 1) typed.item, fails_on_zero)
     ∷ (3 ∷ [], is_quotient, failed (faulted DivisionByZero) None)
     ∷ ([], typed.predicate predicates.Count typed.result is_quotient, failed (faulted DivisionByZero) None) ∷ []
@@ -437,6 +504,26 @@ fourth_item_fails : map row_of (all_lines (list (items_of (whole (pos 1) ∷ who
     ≡ fails_on_item
 unfolding two_operands shown_value digits
 fourth_item_fails = refl
+
+-- `any(result, # < 8 and # < 8)` on 1: the item has one line
+abbrev twice_below : Typed
+twice_below = typed.both (is_below typed.item 8) (is_below typed.item 8)
+
+abbrev the_one : Value
+the_one = list (items_of (whole (pos 1) ∷ []))
+
+item_has_one_line : map row_of (all_lines the_one None (typed.predicate predicates.Any typed.result twice_below))
+    ≡ (0 ∷ [], twice_below, the_item (whole (pos 1)))
+    ∷ (0 ∷ [], is_below typed.item 8, the_value (bool true)) ∷ (0 ∷ [], is_below typed.item 8, the_value (bool true))
+    ∷ (0 ∷ [], twice_below, the_value (bool true))
+    ∷ ([], typed.predicate predicates.Any typed.result twice_below, the_value (bool true)) ∷ []
+item_has_one_line = refl
+
+-- `any(result, true)` on 1: also where the body has no `#`
+body_without_an_item : map row_of (all_lines the_one None (typed.predicate predicates.Any typed.result the_true))
+    ≡ (0 ∷ [], the_true, the_item (whole (pos 1)))
+    ∷ ([], typed.predicate predicates.Any typed.result the_true, the_value (bool true)) ∷ []
+body_without_an_item = refl
 
 -- `any(result, any(#, # < 8))` on [9] and [9, 1]: the number of the outer item comes first
 abbrev any_below : Typed → Typed
@@ -451,12 +538,12 @@ said_on line = (line.items, line.said)
 
 second_of_the_second_decides : map said_on
     (all_lines two_lists None (typed.predicate predicates.Any typed.result (any_below typed.item)))
-    ≡ (0 ∷ [], the_value (list (items_of (whole (pos 9) ∷ []))))
-    ∷ (0 ∷ 0 ∷ [], the_value (whole (pos 9))) ∷ (0 ∷ 0 ∷ [], the_value (bool false))
+    ≡ (0 ∷ [], the_item (list (items_of (whole (pos 9) ∷ []))))
+    ∷ (0 ∷ 0 ∷ [], the_item (whole (pos 9))) ∷ (0 ∷ 0 ∷ [], the_value (bool false))
     ∷ (0 ∷ [], the_value (bool false))
-    ∷ (1 ∷ [], the_value (list (items_of (whole (pos 9) ∷ whole (pos 1) ∷ []))))
-    ∷ (1 ∷ 0 ∷ [], the_value (whole (pos 9))) ∷ (1 ∷ 0 ∷ [], the_value (bool false))
-    ∷ (1 ∷ 1 ∷ [], the_value (whole (pos 1))) ∷ (1 ∷ 1 ∷ [], the_value (bool true))
+    ∷ (1 ∷ [], the_item (list (items_of (whole (pos 9) ∷ whole (pos 1) ∷ []))))
+    ∷ (1 ∷ 0 ∷ [], the_item (whole (pos 9))) ∷ (1 ∷ 0 ∷ [], the_value (bool false))
+    ∷ (1 ∷ 1 ∷ [], the_item (whole (pos 1))) ∷ (1 ∷ 1 ∷ [], the_value (bool true))
     ∷ (1 ∷ [], the_value (bool true))
     ∷ ([], the_value (bool true)) ∷ []
 second_of_the_second_decides = refl

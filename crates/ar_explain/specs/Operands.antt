@@ -28,7 +28,7 @@ two_operands operator left right = codes "operands " ++ (shown_value left ++ (co
 -- ---- parts that fail
 
 -- nothing where a part inside fails
-abbrev pub on_value : Meaning → (Value → Option Text) → Option Text
+abbrev pub on_value : {A : Type 0} → Meaning → (Value → Option A) → Option A
 on_value (Ok value) on = on value
 on_value (Err failure) on = None
 

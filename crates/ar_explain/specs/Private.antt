@@ -1,4 +1,5 @@
 -- Definitions of private contracts, which follow the code: a reader need not believe them.
+pub mod Apart
 pub mod Keeping
 pub mod Failed
 pub mod Places

@@ -7,32 +7,53 @@ use Rattle.ar_value.specs.declared.operator.Predicate.{Predicate}
 use Rattle.ar_tree.specs.Meaning.{mean}
 use Rattle.ar_tree.specs.Typed.{Typed}
 use Rattle.ar_tree.specs.Typed as typed
-use Rattle.ar_explain.specs.Lines.{Line, Outcome, earlier_lines, failed, lines_on_item, own_lines, outcome_of, passed, passed_line, unneeded, valued, with_own}
+use Rattle.ar_explain.specs.Apart.{apart_on}
+use Rattle.ar_explain.specs.Lines.{Line, Outcome, body_lines, earlier_lines, failed, is_item, lines_on_item, outcome_of, passed, passed_line, unneeded, valued, with_own}
 use Rattle.ar_explain.specs.Operands.{failed_on}
 use Rattle.ar_explain.specs.Parts.{same_path}
+use Rattle.ar_show.specs.Values.{shown_value}
 use Rattle.ar_explain.specs.Trace.{TraceEntry, trace, with_root}
 
--- a line says what an entry has, and where a failure arises, on which operands
+-- a line says what an entry has: where a failure arises, on which operands, and how operands are apart
 pub record Says (result : Value) (entry : TraceEntry) (line : Line) : Type 0 where
   pub of_part : line.part ≡ entry.part
   pub on_items : line.items ≡ entry.items
-  pub of_meaning : line.said ≡ outcome_of entry.meaning (failed_on result entry.here entry.part)
+  pub of_meaning : line.said
+      ≡ outcome_of entry.meaning (failed_on result entry.here entry.part) (apart_on result entry.here entry.part)
 
--- what one of these entries has
-abbrev pub SaysOne : Value → List TraceEntry → Line → Type 0
-SaysOne result [] line = ⊥
-SaysOne result (entry ∷ entries) line = Says result entry line ⊎ SaysOne result entries line
+-- a line says on which item an entry's part is evaluated
+pub record ShowsItem (entry : TraceEntry) (line : Line) : Type 0 where
+  pub of_part : line.part ≡ entry.part
+  pub on_items : line.items ≡ entry.items
+  pub value : Value
+  pub is_here : entry.here ≡ Some value
+  pub of_value : line.said ≡ is_item (shown_value value)
+
+-- one of these entries has what a line says
+abbrev pub OneHas : (TraceEntry → Line → Type 0) → List TraceEntry → Line → Type 0
+OneHas Has [] line = ⊥
+OneHas Has (entry ∷ entries) line = Has entry line ⊎ OneHas Has entries line
 
 -- whether a value or a failure is said
 abbrev pub says_meaning : Outcome → Bool
-says_meaning (valued text) = true
+says_meaning (valued text apart) = true
 says_meaning (failed failure on) = true
 says_meaning unneeded = false
+says_meaning (is_item text) = false
 says_meaning (passed items held) = false
 
--- where a value or a failure is said, it is that of an entry
-abbrev pub IsFrom : (result : Value) → List TraceEntry → Line → Type 0
-IsFrom result entries line = says_meaning line.said ≡ true → SaysOne result entries line
+-- whether an item is shown
+abbrev pub says_item : Outcome → Bool
+says_item (valued text apart) = false
+says_item (failed failure on) = false
+says_item unneeded = false
+says_item (is_item text) = true
+says_item (passed items held) = false
+
+-- where a value or a failure is said, it is that of an entry, and so is an item that is shown
+pub record IsFrom (result : Value) (entries : List TraceEntry) (line : Line) : Type 0 where
+  pub of_meaning : says_meaning line.said ≡ true → OneHas (Says result) entries line
+  pub of_item : says_item line.said ≡ true → OneHas ShowsItem entries line
 
 -- ---- the item that a predicate looks at last
 
@@ -46,7 +67,7 @@ body_entry result body number value = record {
   meaning = mean result (Some value) body;
 }
 
--- The body's entry on the last item comes right before the predicate's own, and so does its line, where it has one.
+-- The body's entry on the last item comes right before the predicate's own, and so do the lines on that item.
 pub record LooksLastAt (result : Value) (here : Option Value) (predicate : Predicate) (many body : Typed) (number : ℕ)
     (value : Value) : Type 0 where
   pub earlier : List TraceEntry
@@ -54,9 +75,8 @@ pub record LooksLastAt (result : Value) (here : Option Value) (predicate : Predi
       ≡ with_root result here (typed.predicate predicate many body)
       (earlier ++ body_entry result body number value ∷ [])
   pub before : List Line
-  pub has_line : earlier_lines result here (typed.predicate predicate many body)
-      ≡ before ++ lines_on_item number
-      (own_lines body (mean result (Some value) body) (failed_on result (Some value) body))
+  pub has_lines : earlier_lines result here (typed.predicate predicate many body)
+      ≡ before ++ lines_on_item number (body_lines result body value)
 
 -- ---- the items that a predicate looks at
 
@@ -103,4 +123,4 @@ pub record SaysAllItems (result : Value) (here : Option Value) (predicate : Pred
   pub have_lines : earlier_lines result here (typed.predicate predicate many body)
       ≡ with_own result here many (earlier_lines result here many)
       ++ lines_of_stretches body (λ value. is_held (mean result (Some value) body >>= boolean))
-      (λ value. with_own result (Some value) body (earlier_lines result (Some value) body)) 0 stretches
+      (body_lines result body) 0 stretches

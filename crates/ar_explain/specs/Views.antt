@@ -1,17 +1,24 @@
 -- What explanations in memory say.
 use Rattle.std.specs.Prelude.{map, option_map, string_bytes}
 use Rattle.ar_tree.specs.Views.{typed_view}
+use Rattle.ar_explain.specs.Apart.{Apart}
+use Rattle.ar_explain.specs.declared.apart.Apart.{Apart as ApartCode}
 use Rattle.ar_operand.specs.Failures.{failure_of}
-use Rattle.ar_explain.specs.Lines.{Explanation, Line, Outcome, failed, passed, unneeded, valued}
+use Rattle.ar_explain.specs.Lines.{Explanation, Line, Outcome, failed, is_item, passed, unneeded, valued}
 use Rattle.ar_explain.specs.declared.explanation.Explanation.{Explanation as ExplanationCode}
 use Rattle.ar_explain.specs.declared.explanation.Line.{Line as LineCode}
 use Rattle.ar_explain.specs.declared.explanation.Said.{Said as SaidCode}
 use Rattle.ar_explain.specs.declared.explanation.Said.TheVariants as said
 
+abbrev pub apart_view : ApartCode → Apart
+apart_view apart =
+    record { byte = apart.byte; left = string_bytes apart.left; right = string_bytes apart.right }
+
 abbrev pub said_view : SaidCode → Outcome
-said_view (said.Valued text) = valued (string_bytes text)
+said_view (said.Valued shown) = valued (string_bytes shown.text) (option_map apart_view shown.apart)
 said_view (said.Failed failure on) = failed (failure_of failure) (option_map string_bytes on)
 said_view said.Unneeded = unneeded
+said_view (said.Item text) = is_item (string_bytes text)
 said_view (said.Passed items held) = passed items held
 
 abbrev pub line_view : LineCode → Line

@@ -9,8 +9,11 @@ ghost use Rattle.ar_value.specs.Terms.{Text};
 ghost use Rattle.ar_machine.specs.Operand.{operand_value, value_of};
 ghost use Rattle.ar_operand.specs.Operand.{Meets, operand_view};
 ghost use Rattle.ar_explain.specs.Operands.{one_operand, two_operands, refused_or};
-ghost use Rattle.ar_explain.specs.Private.Failed.{MeetsOn};
+ghost use Rattle.ar_explain.specs.Apart.{operands_apart};
+ghost use Rattle.ar_explain.specs.Private.Apart.{texts_apart};
+ghost use Rattle.ar_explain.specs.Private.Failed.{ComesTo, MeetsOn, found_view};
 
+use crate::apart::{Texts, texts_of};
 use crate::failed::{Failed, one_text, two_text};
 use ar_machine::operand::OperandRef;
 use ar_machine::operand::borrowed::ValueRef;
@@ -28,6 +31,40 @@ pub(crate) fn operand_ref<'s, 'v>(operand: &'s Operand<'v>) -> OperandRef<'s, 'v
     }
 }
 
+/// The value of a part.
+#[derive(Drop)]
+pub(crate) struct Found<'v> {
+    pub operand: Operand<'v>,
+    /// The operands that it is made of, if they are texts.
+    pub texts: Option<Texts<'v>>,
+}
+
+impl<'v> Found<'v> {
+    pub(crate) fn value(value: ValueRef<'v>) -> Found<'v>
+        ensures value { found_view result ≡ value_of value.entry }
+        ensures texts { texts_apart result.texts ≡ None }
+    {
+        Found {
+            operand: Operand::Value(value),
+            texts: None,
+        }
+    }
+}
+
+/// What came of a part whose operands aren't two texts.
+pub(crate) fn without_texts<'v>(met: Result<Operand<'v>, Failed>) -> Result<Found<'v>, Failed>
+    ensures { (meaning : Meaning) (on : Option Text) → MeetsOn operand_view met.entry meaning on
+        → ComesTo result meaning on None }
+{
+    match met {
+        Ok(operand) => Ok(Found {
+            operand,
+            texts: None,
+        }),
+        Err(failed) => Err(failed),
+    }
+}
+
 /// What came of a part inside, as what came of the part around it.
 pub(crate) fn inherited<'v>(met: Result<Operand<'v>, Failure>) -> Result<Operand<'v>, Failed>
     ensures { (meaning : Meaning) → Meets operand_view met.entry meaning → MeetsOn operand_view result meaning None }
@@ -39,12 +76,12 @@ pub(crate) fn inherited<'v>(met: Result<Operand<'v>, Failure>) -> Result<Operand
 }
 
 /// What came of a part, as what comes of it for the parts around it.
-pub(crate) fn plain<'v>(met: Result<Operand<'v>, Failed>) -> Result<Operand<'v>, Failure>
-    ensures { (meaning : Meaning) (on : Option Text) → MeetsOn operand_view met.entry meaning on
+pub(crate) fn plain<'v>(met: Result<Found<'v>, Failed>) -> Result<Operand<'v>, Failure>
+    ensures { (meaning : Meaning) (on : Option Text) → MeetsOn found_view met.entry meaning on
         → Meets operand_view result meaning }
 {
     match met {
-        Ok(operand) => Ok(operand),
+        Ok(found) => Ok(found.operand),
         Err(failed) => Err(failed.failure),
     }
 }
@@ -128,24 +165,30 @@ fn unary_on_list<'v>(
     }
 }
 
+#[tactic(auto, using(crate::proofs::Differences::list_isnt_alike))]
 pub(crate) fn binary_on<'v>(
     alloc: Global,
     operator: BinaryOperator,
     left: Operand<'v>,
     right: Operand<'v>,
-) -> Result<Result<Operand<'v>, Failed>, AllocError>
-    ensures { IfOk result (λ met. MeetsOn operand_view met
+) -> Result<Result<Found<'v>, Failed>, AllocError>
+    ensures { IfOk result (λ met. ComesTo met
         (binary_meaning operator (operand_view left.entry) (operand_view right.entry))
-        (Some (two_operands operator (operand_view left.entry) (operand_view right.entry)))) }
+        (Some (two_operands operator (operand_view left.entry) (operand_view right.entry)))
+        (operands_apart (operand_view left.entry) (operand_view right.entry))) }
 {
     match left {
         Operand::Value(first) => match right {
             Operand::Value(second) => binary_on_values(alloc, operator, first, second),
             Operand::Made(items) => {
-                binary_on_lists(alloc, operator, Operand::Value(first), Operand::Made(items))
+                let right = Operand::Made(items);
+                Ok(without_texts(binary_on_lists(alloc, operator, Operand::Value(first), right)?))
             }
         },
-        Operand::Made(items) => binary_on_lists(alloc, operator, Operand::Made(items), right),
+        Operand::Made(items) => {
+            let left = Operand::Made(items);
+            Ok(without_texts(binary_on_lists(alloc, operator, left, right)?))
+        }
     }
 }
 
@@ -154,15 +197,19 @@ fn binary_on_values<'v>(
     operator: BinaryOperator,
     left: ValueRef<'v>,
     right: ValueRef<'v>,
-) -> Result<Result<Operand<'v>, Failed>, AllocError>
-    ensures { IfOk result (λ met. MeetsOn operand_view met
+) -> Result<Result<Found<'v>, Failed>, AllocError>
+    ensures { IfOk result (λ met. ComesTo met
         (binary_meaning operator (value_of left.entry) (value_of right.entry))
-        (Some (two_operands operator (value_of left.entry) (value_of right.entry)))) }
+        (Some (two_operands operator (value_of left.entry) (value_of right.entry)))
+        (operands_apart (value_of left.entry) (value_of right.entry))) }
 {
     let mut first = Operand::Value(left);
     let mut second = Operand::Value(right);
     match apply_binary(operator, &mut first, &mut second) {
-        Ok(found) => Ok(Ok(found)),
+        Ok(operand) => Ok(Ok(Found {
+            operand,
+            texts: texts_of(left, right),
+        })),
         Err(failure) => {
             let text = two_text(
                 alloc,

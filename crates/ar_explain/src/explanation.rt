@@ -2,15 +2,18 @@
 
 ghost use Rattle.std.specs.Prelude.{◌≡◌, ◌+◌, ◌-◌, ◌^◌, ◌++◌, [], ◌∷◌, IfOk, OnOk, drop, map, min, option_map, string_bytes};
 ghost use Rattle.ar_tree.specs.Views.{typed_view};
-ghost use Rattle.ar_operand.specs.Operand.{operand_view};
+ghost use Rattle.ar_machine.specs.Operand.{operand_value};
 ghost use Rattle.ar_explain.specs.Private.Keeping.{with_last, with_line};
 ghost use Rattle.ar_explain.specs.Private.Places.{place_view, said_by, with_lines_at};
 ghost use Rattle.ar_show.specs.Values.{shown_value};
 ghost use Rattle.ar_explain.specs.Views.{explanation_view, line_view, said_view};
 
+use crate::apart::{Apart, Texts, texts_apart};
 use crate::applied::operand_ref;
 use crate::place::Place;
 use crate::seen::Seen;
+use ar_machine::operand::OperandRef;
+use ar_machine::operand::borrowed::ValueRef;
 use ar_operand::operand::{Failure, Operand};
 use ar_show::push_value;
 use ar_tree::Typed;
@@ -20,15 +23,25 @@ use std::collections::VecDeque;
 /// How many of the first lines are kept, and how many of the last ones.
 const MOST_AT_EACH_END: usize = 500;
 
+/// A value as it is shown.
+#[derive(Drop)]
+pub struct Shown {
+    pub text: String,
+    /// Where the operands of the part are texts that differ and are shown alike.
+    pub apart: Option<Apart>,
+}
+
 /// What is said of a part.
 #[derive(Drop)]
 pub enum Said {
-    /// It has a value, which is shown so.
-    Valued(String),
+    /// It has a value.
+    Valued(Shown),
     /// It fails, on these operands where the failure arises in it.
     Failed(Failure, Option<String>),
     /// It wasn't needed.
     Unneeded,
+    /// It is a predicate's body, evaluated on an item that is shown so.
+    Item(String),
     /// It is a predicate's body, evaluated on items that aren't shown, of `held` of which it holds.
     Passed { items: usize, held: usize },
 }
@@ -63,19 +76,22 @@ pub struct Evaluation<'t> {
 /// What is to be said of a part, before it has a text.
 #[derive(Clone, Copy)]
 pub(crate) enum Remark<'s, 'v> {
-    Value(&'s Operand<'v>),
+    /// With the operands that it is made of, if they are texts.
+    Value(&'s Operand<'v>, Option<Texts<'v>>),
     /// With the operands on which it arises in the part, if it does.
     Failure(Failure, Option<&'s str>),
     Unneeded,
+    /// Of an item that is shown.
+    Item(ValueRef<'v>),
     /// Of items that aren't shown.
     Passed(Seen),
 }
 
-fn text_of(alloc: Global, operand: &Operand<'_>) -> Result<String, AllocError>
-    ensures { IfOk result (λ text. string_bytes text ≡ shown_value (operand_view operand.now)) }
+fn text_of(alloc: Global, value: OperandRef<'_, '_>) -> Result<String, AllocError>
+    ensures { IfOk result (λ text. string_bytes text ≡ shown_value (operand_value value.entry)) }
 {
     let mut text = String::new(alloc);
-    push_value(&mut text, operand_ref(operand))?;
+    push_value(&mut text, value)?;
     Ok(text)
 }
 
@@ -92,9 +108,13 @@ pub(crate) fn said_of(alloc: Global, remark: Remark<'_, '_>) -> Result<Said, All
     ensures { IfOk result (λ said. said_view said ≡ said_by remark.entry) }
 {
     match remark {
-        Remark::Value(operand) => Ok(Said::Valued(text_of(alloc, operand)?)),
+        Remark::Value(operand, texts) => Ok(Said::Valued(Shown {
+            text: text_of(alloc, operand_ref(operand))?,
+            apart: texts_apart(alloc, texts)?,
+        })),
         Remark::Failure(failure, on) => Ok(Said::Failed(failure, owned(alloc, on)?)),
         Remark::Unneeded => Ok(Said::Unneeded),
+        Remark::Item(value) => Ok(Said::Item(text_of(alloc, OperandRef::Borrowed(value))?)),
         Remark::Passed(seen) => Ok(Said::Passed {
             items: seen.items,
             held: seen.held,

@@ -6,6 +6,7 @@ ghost use Rattle.ar_value.specs.Value.{Items, Value, item, list};
 ghost use Rattle.ar_value.specs.declared.operator.Predicate.{Predicate};
 ghost use Rattle.ar_tree.specs.Meaning.{mean};
 ghost use Rattle.ar_tree.specs.Typed.{Typed};
+ghost use Rattle.ar_explain.specs.Apart.{apart_on};
 ghost use Rattle.ar_explain.specs.Lines.{Line, all_lines, own_line};
 ghost use Rattle.ar_explain.specs.Operands.{failed_on};
 ghost use Rattle.ar_explain.specs.Parts.{Fails, IsEntryOf, is_evaluated, with_part};
@@ -48,7 +49,8 @@ pub fn parts_evaluated_are_needed()
 {}
 
 /// Each line that says a value or a failure is of an entry of the trace: it has the entry's part and items, and says
-/// its meaning, and where a failure arises, on which operands.
+/// its meaning, and where a failure arises, on which operands. So is each line that shows an item: the entry's part is
+/// evaluated on it.
 pub fn lines_are_of_entries()
     ensures { (result : Value) (here : Option Value) (tree : Typed)
         → All (IsFrom result (trace result here tree)) (all_lines result here tree) }
@@ -58,11 +60,12 @@ pub fn lines_are_of_entries()
 pub fn root_line_is_last()
     ensures { (result : Value) (here : Option Value) (tree : Typed)
         → (earlier : List Line) × (all_lines result here tree
-        ≡ earlier ++ own_line tree (mean result here tree) (failed_on result here tree) ∷ []) }
+        ≡ earlier
+        ++ own_line tree (mean result here tree) (failed_on result here tree) (apart_on result here tree) ∷ []) }
 {}
 
-/// The last item that a predicate looks at has the line of its body, if the body has one, whatever other items are
-/// left out of the lines.
+/// The last item that a predicate looks at has its line and those of the body on it, whatever other items are left out
+/// of the lines.
 pub fn last_items_have_lines()
     ensures { (result : Value) (here : Option Value) (predicate : Predicate) (many body : Typed) (first : Value)
         (others : Items) → mean result here many ≡ Ok (list (item first others))

@@ -4,15 +4,17 @@ ghost use Rattle.std.specs.Prelude.{◌≡◌, ◌∷◌, [], Ok, OnOk};
 ghost use Rattle.ar_value.specs.Value.{bool};
 ghost use Rattle.ar_tree.specs.Views.{typed_view};
 ghost use Rattle.ar_operand.specs.Operand.{operand_view};
-ghost use Rattle.ar_explain.specs.Lines.{changes_value, gap_lines, is_literal, own_lines, outcome_of, says_more, unneeded_line};
-ghost use Rattle.ar_explain.specs.Private.Failed.{came, came_on};
+ghost use Rattle.ar_explain.specs.Lines.{changes_value, gap_lines, is_literal, is_missing, operand_own_lines, own_lines, outcome_of, says_more, unneeded_line};
+ghost use Rattle.ar_explain.specs.Private.Failed.{came, came_apart, came_on, found_view};
 ghost use Rattle.ar_explain.specs.Private.Places.{Explains, place_view, said_by, seen_view, with_lines_at};
 ghost use Rattle.ar_explain.specs.Views.{explanation_view};
 
+use crate::applied::Found;
 use crate::explanation::{Explanation, Remark};
 use crate::failed::Failed;
 use crate::place::Place;
 use crate::seen::Seen;
+use ar_machine::operand::borrowed::ValueRef;
 use ar_operand::operand::{Failure, Operand};
 use ar_tree::Typed;
 use ar_value::operator::UnaryOperator;
@@ -39,10 +41,9 @@ fn says_more(tree: &Typed) -> bool
     ensures { result ≡ says_more (typed_view tree.now) }
 {
     match tree {
-        Typed::Result | Typed::Literal(_) | Typed::List { .. } => false,
+        Typed::Result | Typed::Item | Typed::Literal(_) | Typed::List { .. } => false,
         Typed::Unary { operator, operand } => changes_value(*operator, is_literal(operand)),
-        Typed::Item
-        | Typed::Field { .. }
+        Typed::Field { .. }
         | Typed::Binary { .. }
         | Typed::And { .. }
         | Typed::Or { .. }
@@ -52,11 +53,11 @@ fn says_more(tree: &Typed) -> bool
 }
 
 /// What came of a part.
-pub(crate) fn remark_on<'s, 'v>(met: &'s Result<Operand<'v>, Failed>) -> Remark<'s, 'v>
-    ensures { said_by result ≡ outcome_of (came operand_view met.now) (came_on met.now) }
+pub(crate) fn remark_on<'s, 'v>(met: &'s Result<Found<'v>, Failed>) -> Remark<'s, 'v>
+    ensures { said_by result ≡ outcome_of (came found_view met.now) (came_on met.now) (came_apart met.now) }
 {
     match met {
-        Ok(operand) => Remark::Value(operand),
+        Ok(found) => Remark::Value(&found.operand, found.texts),
         Err(failed) => Remark::Failure(failed.failure, failed.text()),
     }
 }
@@ -65,17 +66,49 @@ pub(crate) fn remark_on<'s, 'v>(met: &'s Result<Operand<'v>, Failed>) -> Remark<
 pub(crate) fn say_own<'t>(
     alloc: Global,
     tree: &'t Typed,
-    met: &Result<Operand<'_>, Failed>,
+    met: &Result<Found<'_>, Failed>,
     place: &Place<'_>,
     out: &mut Explanation<'t>,
 ) -> Result<(), AllocError>
     ensures { OnOk result (explanation_view out.new ≡ with_lines_at (place_view place.now) out.old
-        (own_lines (typed_view tree.now) (came operand_view met.now) (came_on met.now))) }
+        (own_lines (typed_view tree.now) (came found_view met.now) (came_on met.now) (came_apart met.now))) }
 {
     if met.is_ok() && !says_more(tree) {
         return Ok(());
     }
     out.say(alloc, place, tree, remark_on(met))
+}
+
+/// Whether an operator's failure says of its operand that it is nil.
+fn is_missing(operator: UnaryOperator, met: &Result<Found<'_>, Failed>) -> bool
+    ensures { result ≡ is_missing operator (came found_view met.now) }
+{
+    match met {
+        Ok(found) => {
+            matches!(operator, UnaryOperator::Need)
+                && matches!(found.operand, Operand::Value(ValueRef::Nil))
+        }
+        Err(_) => false,
+    }
+}
+
+/// Says what came of the operand of an operator, where it is news and the operator's failure doesn't say it.
+pub(crate) fn say_operand<'t>(
+    alloc: Global,
+    operator: UnaryOperator,
+    tree: &'t Typed,
+    met: &Result<Found<'_>, Failed>,
+    place: &Place<'_>,
+    out: &mut Explanation<'t>,
+) -> Result<(), AllocError>
+    ensures { OnOk result (explanation_view out.new ≡ with_lines_at (place_view place.now) out.old
+        (operand_own_lines operator (typed_view tree.now) (came found_view met.now) (came_on met.now)
+        (came_apart met.now))) }
+{
+    if is_missing(operator, met) {
+        return Ok(());
+    }
+    say_own(alloc, tree, met, place, out)
 }
 
 /// Says of a part that it isn't needed, since a boolean is the answer without it.

@@ -12,17 +12,20 @@ ghost use Rattle.ar_tree.specs.Typed as typed;
 ghost use Rattle.ar_tree.specs.Views.{typed_view};
 ghost use Rattle.ar_operand.specs.Operand.{Meets, operand_view};
 ghost use Rattle.ar_explain.specs.Lines.{each_item_lines, earlier_lines, explained, item_lines, lines_on_item, none_seen, outcome_of, unneeded_line};
+ghost use Rattle.ar_explain.specs.Apart.{apart_on};
 ghost use Rattle.ar_explain.specs.Operands.{failed_on};
 ghost use Rattle.ar_explain.specs.Private.Failed.{MeetsOn};
 ghost use Rattle.ar_explain.specs.Private.Keeping.{with_lines};
-ghost use Rattle.ar_explain.specs.Private.Places.{Explains, ExplainsOn, earlier_at, failed_at, holds_meant, holds_on, items_failed_at, items_lines_at, lines_at, lines_on, list_meant, meant, operated, operated_on, over_failed_on, over_lines, over_meant, place_view, scalar_failed_at, scalar_meant, seen_view, typeds_view};
+ghost use Rattle.ar_explain.specs.Private.Places.{Explains, ExplainsFound, ExplainsOn, apart_at, earlier_at, failed_at, holds_meant, holds_on, items_failed_at, items_lines_at, lines_at, lines_on, list_meant, meant, operated, operated_apart, operated_on, over_failed_on, over_lines, over_meant, place_view, scalar_failed_at, scalar_meant, seen_view, typeds_view};
 ghost use Rattle.ar_explain.specs.Views.{explanation_view, said_view};
 
-use crate::applied::{binary_on, field_on, inherited, operand_ref, plain, scalar_on, unary_on};
+use crate::applied::{
+    Found, binary_on, field_on, inherited, operand_ref, plain, scalar_on, unary_on, without_texts,
+};
 use crate::explanation::{Evaluation, Explanation, Remark, said_of};
 use crate::failed::Failed;
 use crate::looked::{Looked, is_enough};
-use crate::news::{remark_on, say_gap, say_own, unneeded};
+use crate::news::{remark_on, say_gap, say_operand, say_own, unneeded};
 use crate::place::Place;
 use crate::seen::Seen;
 use ar_machine::operand::borrowed::{ValueRef, value_ref};
@@ -82,35 +85,45 @@ fn parts<'t: 'v, 'v>(
     tree: &'t Typed,
     place: &Place<'v>,
     out: &mut Explanation<'t>,
-) -> Result<Result<Operand<'v>, Failed>, AllocError>
-    ensures { ExplainsOn operand_view (place_view place.now) out.old out.new result
+) -> Result<Result<Found<'v>, Failed>, AllocError>
+    ensures { ExplainsFound (place_view place.now) out.old out.new result
         (meant (place_view place.now) (typed_view tree.now)) (failed_at (place_view place.now) (typed_view tree.now))
+        (apart_at (place_view place.now) (typed_view tree.now))
         (earlier_at (place_view place.now) (typed_view tree.now)) }
 {
     match tree {
-        Typed::Result => Ok(Ok(Operand::Value(value_ref(place.value)))),
-        Typed::Item => Ok(item_at(place)),
-        Typed::Literal(literal) => Ok(Ok(Operand::Value(literal_ref(literal)))),
-        Typed::Field { owner, name } => field(alloc, owner, name, place, out),
-        Typed::Unary { operator, operand } => unary(alloc, operand, *operator, place, out),
+        Typed::Result => Ok(Ok(Found::value(value_ref(place.value)))),
+        Typed::Item => Ok(without_texts(item_at(place))),
+        Typed::Literal(literal) => Ok(Ok(Found::value(literal_ref(literal)))),
+        Typed::Field { owner, name } => Ok(without_texts(field(alloc, owner, name, place, out)?)),
+        Typed::Unary { operator, operand } => {
+            Ok(without_texts(unary(alloc, operand, *operator, place, out)?))
+        }
         Typed::Binary {
             operator,
             left,
             right,
         } => binary(alloc, left, right, *operator, place, out),
-        Typed::And { left, right } => Ok(inherited(both(alloc, left, right, place, out)?)),
-        Typed::Or { left, right } => Ok(inherited(either(alloc, left, right, place, out)?)),
+        Typed::And { left, right } => Ok(without_texts(inherited(both(
+            alloc, left, right, place, out,
+        )?))),
+        Typed::Or { left, right } => Ok(without_texts(inherited(either(
+            alloc, left, right, place, out,
+        )?))),
         Typed::Choice {
             condition,
             then_branch,
             else_branch,
-        } => Ok(inherited(choice(alloc, condition, then_branch, else_branch, place, out)?)),
-        Typed::List { items, .. } => listed(alloc, &items.items, place, out),
+        } => {
+            let met = choice(alloc, condition, then_branch, else_branch, place, out)?;
+            Ok(without_texts(inherited(met)))
+        }
+        Typed::List { items, .. } => Ok(without_texts(listed(alloc, &items.items, place, out)?)),
         Typed::Predicate {
             predicate,
             list,
             body,
-        } => over(alloc, list, body, *predicate, place, out),
+        } => Ok(without_texts(over(alloc, list, body, *predicate, place, out)?)),
     }
 }
 
@@ -144,11 +157,13 @@ fn unary<'t: 'v, 'v>(
     ensures { ExplainsOn operand_view (place_view place.now) out.old out.new result
         (meant (place_view place.now) (typed.unary operator (typed_view operand.now)))
         (failed_at (place_view place.now) (typed.unary operator (typed_view operand.now)))
-        (lines_at (place_view place.now) (typed_view operand.now)) }
+        (earlier_at (place_view place.now) (typed.unary operator (typed_view operand.now))) }
 {
-    match walk(alloc, operand, place, out)? {
-        Ok(operand) => unary_on(alloc, operator, operand),
-        Err(failure) => Ok(Err(Failed::inside(failure))),
+    let met = parts(alloc, operand, place, out)?;
+    say_operand(alloc, operator, operand, &met, place, out)?;
+    match met {
+        Ok(found) => unary_on(alloc, operator, found.operand),
+        Err(failed) => Ok(Err(Failed::inside(failed.failure))),
     }
 }
 
@@ -160,10 +175,11 @@ fn binary<'t: 'v, 'v>(
     operator: BinaryOperator,
     place: &Place<'v>,
     out: &mut Explanation<'t>,
-) -> Result<Result<Operand<'v>, Failed>, AllocError>
-    ensures { ExplainsOn operand_view (place_view place.now) out.old out.new result
+) -> Result<Result<Found<'v>, Failed>, AllocError>
+    ensures { ExplainsFound (place_view place.now) out.old out.new result
         (meant (place_view place.now) (typed.binary operator (typed_view left.now) (typed_view right.now)))
         (failed_at (place_view place.now) (typed.binary operator (typed_view left.now) (typed_view right.now)))
+        (apart_at (place_view place.now) (typed.binary operator (typed_view left.now) (typed_view right.now)))
         (earlier_at (place_view place.now) (typed.binary operator (typed_view left.now) (typed_view right.now))) }
 {
     match walk(alloc, left, place, out)? {
@@ -181,10 +197,11 @@ fn binary_after<'t: 'v, 'v>(
     operator: BinaryOperator,
     place: &Place<'v>,
     out: &mut Explanation<'t>,
-) -> Result<Result<Operand<'v>, Failed>, AllocError>
-    ensures { ExplainsOn operand_view (place_view place.now) out.old out.new result
+) -> Result<Result<Found<'v>, Failed>, AllocError>
+    ensures { ExplainsFound (place_view place.now) out.old out.new result
         (operated operator (operand_view left.entry) (place_view place.now) (typed_view right.now))
         (operated_on operator (operand_view left.entry) (place_view place.now) (typed_view right.now))
+        (operated_apart (operand_view left.entry) (place_view place.now) (typed_view right.now))
         (lines_at (place_view place.now) (typed_view right.now)) }
 {
     match walk(alloc, right, place, out)? {
@@ -478,7 +495,7 @@ fn look<'t: 'v, 'v>(
     holds_at(alloc, body, looked, place, false, out)
 }
 
-/// Whether a body holds of an item; nothing is said of it where it is silent.
+/// Whether a body holds of an item. Unless it is silent, the item is shown, and then what came of the body's parts.
 #[cycle(walk)]
 fn holds_at<'t: 'v, 'v>(
     alloc: Global,
@@ -495,6 +512,7 @@ fn holds_at<'t: 'v, 'v>(
         (lines_on (place_view place.now) (typed_view body.now) (value_of looked.entry.item))))) }
 {
     let inner = place.on_item(alloc, looked.number, looked.item, silent)?;
+    out.say(alloc, &inner, body, Remark::Item(looked.item))?;
     holds(alloc, body, &inner, out)
 }
 
@@ -512,7 +530,8 @@ pub fn tell<'t>(
         ≡ explained (earlier_lines (value_view value.now) None (typed_view condition.now))) }
     ensures answer { IfOk result (λ evaluation. said_view evaluation.answer
         ≡ outcome_of (mean (value_view value.now) None (typed_view condition.now))
-        (failed_on (value_view value.now) None (typed_view condition.now))) }
+        (failed_on (value_view value.now) None (typed_view condition.now))
+        (apart_on (value_view value.now) None (typed_view condition.now))) }
 {
     let place = Place::outermost(alloc, value);
     let mut parts_said = Explanation::new(alloc);

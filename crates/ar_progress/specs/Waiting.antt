@@ -1,12 +1,14 @@
 -- What a metric that isn't complete waits for, and what its run does.
 use Rattle.std.specs.Prelude.{ℕ, if◌then◌else◌, List, [], ◌∷◌, ◌++◌, codes, decimal, Option, Some, None, ◌≡◌, refl, false}
 use Rattle.std.specs.Fmt.{digits}
+use Rattle.std.specs.Str.{chars}
 use Rattle.ar_value.specs.Terms.{Text}
 use Rattle.ar_limits.specs.declared.counts.Counts.{Counts}
 use Rattle.ar_limits.specs.declared.limits.Limits.{Limits}
 use Rattle.ar_limits.specs.declared.phase.Phase.{Phase}
 use Rattle.ar_limits.specs.declared.phase.Phase.TheVariants as phases
 use Rattle.ar_limits.specs.Metric.{counted, is_complete}
+use Rattle.ar_quote.specs.Shown.{shown_name}
 use Rattle.ar_facts.specs.Facts.{MetricFacts}
 use Rattle.ar_progress.specs.declared.waiting.Progress.{Progress}
 
@@ -38,7 +40,7 @@ waiting_text progress = progress_text progress ++ end_text progress.count
 -- ---- a run: its metrics that aren't complete, in their order
 
 unfoldable pub waiting_metric : MetricFacts → Text
-waiting_metric metric = metric.name ++ (codes " " ++ progress_text (progress_of metric.limits metric.counts))
+waiting_metric metric = shown_name metric.name ++ (codes " " ++ progress_text (progress_of metric.limits metric.counts))
 
 -- what others are before one more
 abbrev pub separated : Text → Text
@@ -87,5 +89,5 @@ named name phase count successful = record {
 two_of_three : run_waits_for phases.Running (named (codes "errors") phases.Running (Some 3) 2
     ∷ named (codes "load") phases.Successful (Some 1) 1 ∷ named (codes "speed") phases.Pending None 0 ∷ [])
     ≡ Some (codes "errors 2 of count 3; speed 0 measured, no count")
-unfolding waiting_metric progress_text digits
+unfolding waiting_metric progress_text shown_name chars digits
 two_of_three = refl

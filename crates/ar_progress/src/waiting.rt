@@ -7,6 +7,7 @@ ghost use Rattle.ar_progress.specs.Waiting.{progress_of, progress_text, run_wait
 use crate::counts::measured;
 use ar_bundle::MetricPart;
 use ar_limits::{Counts, Limits, Phase, RunState};
+use ar_quote::push_name;
 use std::alloc::{AllocError, Global};
 use std::fmt::Write;
 
@@ -97,7 +98,7 @@ fn push_waiting_metric(
         return Ok(());
     }
     push_separator(out)?;
-    out.push_str(metric.name.as_str())?;
+    push_name(out, metric.name.as_str())?;
     out.push_str(" ")?;
     push_progress(out, progress_of(limits, counts))
 }

@@ -4,7 +4,7 @@ use Rattle.std.specs.Prelude.{if◌then◌else◌, nat_lt, codes}
 use Rattle.std.specs.Char.{digit_char}
 use Rattle.std.specs.Fmt.{digit_glyph, digits, format_spec, padded_integral}
 use Rattle.std.proofs.lemmas.Fmt.{hex_byte}
-use Rattle.ar_quote.specs.Shown.{byte_digits, code_escape}
+use Rattle.ar_quote.specs.Shown.{byte_digits, unit_escape}
 
 glyph_is : (d : ℕ) → digit_glyph false d ≡ digit_char d
 glyph_is d = by (nat_lt d 10) where
@@ -19,7 +19,7 @@ padded byte = padded_integral (format_spec 32 0 4 2 (2 ^ 64 - 1)) false [] (digi
 padded_is : (byte : ℕ) → byte < 256 → padded byte ≡ byte_digits byte
 padded_is byte small = hex_byte false byte small ∙ (ap (λ d. d ∷ digit_glyph false (byte % 16) ∷ []) (glyph_is (byte / 16)) ∙ ap (λ d. digit_char (byte / 16) ∷ d ∷ []) (glyph_is (byte % 16)))
 
-pub coded : (character : ℕ) → character < 65536 → codes "\\u" ++ (padded (character / 256) ++ padded (character % 256)) ≡ code_escape character
-coded character small =
-    ap (λ digits. codes "\\u" ++ (digits ++ padded (character % 256))) (padded_is (character / 256) (omega arith))
-    ∙ ap (λ digits. codes "\\u" ++ (byte_digits (character / 256) ++ digits)) (padded_is (character % 256) (omega arith))
+pub coded : (unit : ℕ) → unit < 65536 → codes "\\u" ++ (padded (unit / 256) ++ padded (unit % 256)) ≡ unit_escape unit
+coded unit small =
+    ap (λ digits. codes "\\u" ++ (digits ++ padded (unit % 256))) (padded_is (unit / 256) (omega arith))
+    ∙ ap (λ digits. codes "\\u" ++ (byte_digits (unit / 256) ++ digits)) (padded_is (unit % 256) (omega arith))

@@ -1,6 +1,6 @@
 -- Shown names have no character at which a terminal may do something else than show it.
-use Rattle.std.proofs.Common.{◌≡◌, ◌<◌, ℕ, zero, suc, ◌/◌, ◌%◌, Bool, true, false, List, [], ◌∷◌, ◌++◌, length, take, refl, sym, ◌∙◌, ap, subst, arith}
-use Rattle.std.specs.Prelude.{All, ◌&&◌, ◌==◌, codes, flat_map, if◌then◌else◌, nat_le, nat_lt}
+use Rattle.std.proofs.Common.{◌≡◌, ◌<◌, ℕ, zero, suc, ◌+◌, ◌-◌, ◌/◌, ◌%◌, Bool, true, false, List, [], ◌∷◌, ◌++◌, length, take, refl, sym, ◌∙◌, ap, subst, arith}
+use Rattle.std.specs.Prelude.{All, ◌&&◌, not, ◌==◌, codes, flat_map, if◌then◌else◌, nat_le, nat_lt}
 use Rattle.std.specs.Char.{digit_char, encode_utf8}
 use Rattle.std.specs.List.{AllByRecursion, list_all}
 use Rattle.std.specs.Str.{IsUtf8, chars}
@@ -9,7 +9,7 @@ use Rattle.std.proofs.lemmas.List.{append-nil}
 use Rattle.std.proofs.lemmas.List.Elements.{All-from_recursion}
 use Rattle.std.proofs.lemmas.Str.{chars-encodes, encode_ascii, encodes-append, scalars-chars}
 use lib.Utf8.{encodes, low_scalar, scalar, scalars}
-use Rattle.ar_quote.specs.Shown.{code_escape, escaped, moves, name_end, quoted}
+use Rattle.ar_quote.specs.Shown.{code_escape, escaped, is_clear, moves, name_end, quoted, shown_name, unit_escape}
 
 abbrev Stays : ℕ → Type 0
 Stays character = moves character ≡ false
@@ -70,13 +70,25 @@ still_plain (byte ∷ bytes) plain =
 plain_digit : (d : ℕ) → d < 16 → is_plain (digit_char d) ≡ true
 plain_digit d small = grind (arith, nat_tests)
 
-still_code : (character : ℕ) → character < 65536 → IsStill (code_escape character)
-still_code character small =
-    let first = plain_digit (character / 256 / 16) (omega arith) in
-    let second = plain_digit (character / 256 % 16) (omega arith) in
-    let third = plain_digit (character % 256 / 16) (omega arith) in
-    let fourth = plain_digit (character % 256 % 16) (omega arith) in
-    still_plain (code_escape character) (rw (first, second, third, fourth) refl)
+still_unit : (unit : ℕ) → unit < 65536 → IsStill (unit_escape unit)
+still_unit unit small =
+    let first = plain_digit (unit / 256 / 16) (omega arith) in
+    let second = plain_digit (unit / 256 % 16) (omega arith) in
+    let third = plain_digit (unit % 256 / 16) (omega arith) in
+    let fourth = plain_digit (unit % 256 % 16) (omega arith) in
+    still_plain (unit_escape unit) (rw (first, second, third, fourth) refl)
+
+still_code : (character : ℕ) → character < 1114112 → IsStill (code_escape character)
+still_code character is = by (nat_lt character 65536) refl where
+  high : ℕ
+  high = 0xD800 + (character - 0x10000) / 0x400
+
+  low : ℕ
+  low = 0xDC00 + character % 0x400
+
+  by : (single : Bool) → nat_lt character 65536 ≡ single → IsStill (if single then unit_escape character else unit_escape high ++ unit_escape low)
+  by true small = still_unit character (grind (arith, nat_tests))
+  by false small = still_append (unit_escape high) (unit_escape low) (still_unit high (omega arith)) (still_unit low (omega arith))
 
 -- ---- names
 
@@ -88,7 +100,7 @@ still_itself character is stays = record {
   still = (stays, tt);
 }
 
-pub code_below : (character : ℕ) → moves character ≡ true → character < 65536
+pub code_below : (character : ℕ) → moves character ≡ true → character < 1114112
 code_below character moves = grind (arith, nat_tests)
 
 still_escaped : (character : ℕ) → scalar character ≡ true → IsStill (escaped character)
@@ -127,3 +139,26 @@ names_stay name is =
     let still = still_quoted name is in
     let characters : chars (quoted name) ≡ still.characters = sym (ap chars still.spelled) ∙ chars-encodes still.characters still.scalar in
     subst (All Stays) (sym characters) (All-from_recursion Stays still.characters still.still)
+
+-- what is clear stays by definition
+stays : (characters : List ℕ) → list_all (λ character. not (moves character)) characters ≡ true → AllByRecursion Stays characters
+stays [] are = tt
+stays (character ∷ characters) are =
+    let parts = both (not (moves character)) (list_all (λ character. not (moves character)) characters) are in
+    (by (moves character) parts.0, stays characters parts.1) where
+      by : (moving : Bool) → not moving ≡ true → moving ≡ false
+      by true is = cc
+      by false is = refl
+
+clear_stays : (name : List ℕ) → is_clear name ≡ true → All (λ character. moves character ≡ false) (chars name)
+clear_stays [] is = cc
+clear_stays (first ∷ rest) is =
+    let parts = both (not (first == 34)) (list_all (λ character. not (moves character)) (chars (first ∷ rest))) is in
+    All-from_recursion Stays (chars (first ∷ rest)) (stays (chars (first ∷ rest)) parts.1)
+
+pub shown_names_stay : (name : List ℕ) → IsUtf8 name → All (λ character. moves character ≡ false) (chars (shown_name name))
+unfolding shown_name
+shown_names_stay name is = by (is_clear name) refl where
+  by : (clear : Bool) → is_clear name ≡ clear → All (λ character. moves character ≡ false) (chars (if clear then name else quoted name))
+  by true clear = clear_stays name clear
+  by false clear = names_stay name is

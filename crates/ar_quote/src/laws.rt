@@ -2,12 +2,18 @@
 
 ghost use Rattle.std.specs.Prelude.{◌≡◌, ◌≤◌, ◌++◌, ℕ, All, List, false, length};
 ghost use Rattle.std.specs.Str.{IsUtf8, chars};
-ghost use Rattle.ar_quote.specs.Shown.{most_characters, moves, quoted};
+ghost use Rattle.ar_quote.specs.Shown.{most_characters, moves, quoted, shown_name};
 
 /// A name stays in its line: of no character that is shown of it does a terminal make anything else.
 #[tactic(auto, using(crate::proofs::Still::names_stay))]
 pub fn names_stay_in_their_line()
     ensures { (name : List ℕ) → IsUtf8 name → All (λ character. moves character ≡ false) (chars (quoted name)) }
+{}
+
+/// So does a name in a line of words.
+#[tactic(auto, using(crate::proofs::Still::shown_names_stay))]
+pub fn shown_names_stay_in_their_line()
+    ensures { (name : List ℕ) → IsUtf8 name → All (λ character. moves character ≡ false) (chars (shown_name name)) }
 {}
 
 /// A name that is shown whole ends where it seems to end: texts that begin with two such names are equal only where

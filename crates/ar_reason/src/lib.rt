@@ -14,7 +14,10 @@
 //! it from that.
 //!
 //! - `given`: what a provider gave; `evaluated`: the trees of conditions; `parts`: the lines of their parts
-//! - `lines`: the text; `data`: the object; [`laws`]: the verdict is by the conditions that are shown
+//! - `lines`: the text
+//! - `data`: the object; `part_data`: the objects of conditions and their parts; `why_data`: why an event closed its
+//!   run or came late
+//! - [`laws`]: the verdict is by the conditions that are shown
 #![tactic(auto)]
 
 mod data;
@@ -22,7 +25,9 @@ mod evaluated;
 mod given;
 pub mod laws;
 mod lines;
+mod part_data;
 mod parts;
+mod why_data;
 
 pub use data::reasons_json;
 pub use lines::reasons_text;

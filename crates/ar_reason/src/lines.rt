@@ -11,6 +11,12 @@ ghost use Rattle.ar_bundle.specs.Sound.{IsRun};
 ghost use Rattle.ar_judge.specs.Verdict.{sample_view};
 ghost use Rattle.ar_facts.specs.Facts.{facts_of_metrics, metric_facts};
 ghost use Rattle.ar_facts.specs.Report.{run_line};
+ghost use Rattle.ar_value.specs.Value as values;
+ghost use Rattle.ar_value.specs.View.{value_view};
+ghost use Rattle.ar_misfit.specs.MisfitText.{misfit_text};
+ghost use Rattle.ar_misfit.specs.Views.{misfit_view};
+ghost use Rattle.ar_quote.specs.Shown.{shown_name};
+ghost use Rattle.ar_show.specs.Values.{shown_value};
 ghost use Rattle.ar_reason.specs.Reason.{conditions_by, conditions_of, lacks_conditions, reason_of, reasons_of, run_reasons};
 ghost use Rattle.ar_reason.specs.ReasonText.{change_line, condition_text, given_line, line_if_there, metric_lines, no_condition_line, outcome_lines, reason_text, reasons_text, run_reasons_text, waits_line, why_line};
 ghost use Rattle.ar_reason.specs.Views.{given_view};
@@ -24,13 +30,18 @@ use crate::evaluated::{JudgeTrees, trees_at, trees_of};
 use crate::given::{Given, given_of};
 use crate::parts::push_conditions;
 use ar_bundle::{Bundle, Entry, Finished, MetricPart, RunPart, What};
-use ar_facts::{phase_name, put_event, put_metric, put_run_line};
+use ar_facts::{Naming, phase_name, put_event, put_metric, put_run_line};
 use ar_judge::{Judge, Sample, Which};
 use ar_limits::{Counts, Limits, Phase, RunState};
+use ar_machine::operand::OperandRef;
+use ar_machine::operand::borrowed::{ValueRef, value_ref};
+use ar_misfit::{Misfit, push_misfit};
 use ar_progress::{
     Change, Chosen, Progress, Settled, Step, Why, is_chosen_run, push_counts, push_settled,
     push_waiting, push_why, run_waits_for, settled_by, traced, waits_for, why_of,
 };
+use ar_show::push_value;
+use ar_value::value::Value;
 use serde_json::Value as Json;
 use std::alloc::{AllocError, Global};
 
@@ -44,14 +55,41 @@ fn push_line(out: &mut String, name: &str, text: &str) -> Result<(), AllocError>
     out.push_str("\n")
 }
 
-fn push_given(out: &mut String, given: &Given) -> Result<(), AllocError>
+fn push_measured(out: &mut String, value: &Value) -> Result<(), AllocError>
+    ensures { OnOk result (string_bytes out.new ≡ string_bytes out.old
+        ++ (codes "  value: " ++ (shown_value (value_view value.now) ++ codes "\n"))) }
+{
+    out.push_str("  value: ")?;
+    push_value(out, OperandRef::Borrowed(value_ref(value)))?;
+    out.push_str("\n")
+}
+
+fn push_error(out: &mut String, text: &str) -> Result<(), AllocError>
+    ensures { OnOk result (string_bytes out.new ≡ string_bytes out.old
+        ++ (codes "  error: " ++ (shown_value (values.text text.now) ++ codes "\n"))) }
+{
+    out.push_str("  error: ")?;
+    push_value(out, OperandRef::Borrowed(ValueRef::Text(text)))?;
+    out.push_str("\n")
+}
+
+fn push_misfit_line(out: &mut String, misfit: &Misfit<'_>) -> Result<(), AllocError>
+    ensures { OnOk result (string_bytes out.new ≡ string_bytes out.old
+        ++ (codes "  misfit: " ++ (misfit_text (misfit_view misfit.now) ++ codes "\n"))) }
+{
+    out.push_str("  misfit: ")?;
+    push_misfit(out, misfit)?;
+    out.push_str("\n")
+}
+
+fn push_given(out: &mut String, given: &Given<'_>) -> Result<(), AllocError>
     ensures { OnOk result (string_bytes out.new ≡ string_bytes out.old ++ given_line (given_view given.now)) }
 {
     match given {
         Given::Nothing => Ok(()),
-        Given::Value(text) => push_line(out, "  value: ", text),
-        Given::Error(text) => push_line(out, "  error: ", text),
-        Given::Misfit(text) => push_line(out, "  misfit: ", text),
+        Given::Value(value) => push_measured(out, value),
+        Given::Error(text) => push_error(out, text),
+        Given::Misfit(misfit) => push_misfit_line(out, misfit),
     }
 }
 
@@ -182,7 +220,7 @@ fn push_reason(
     let number = step.entry.number;
     let part = &bundle.entries()[number as usize];
     let given = given_of(alloc, document, bundle, number, &part.what)?;
-    put_event(out, bundle, step.entry)?;
+    put_event(out, Naming::Clear, bundle, step.entry)?;
     push_given(out, &given)?;
     push_evaluated(alloc, out, bundle, run, trees, &part.what)?;
     push_no_condition(out, lacks_conditions(bundle, run, &part.what))?;
@@ -261,7 +299,7 @@ fn push_metric(
     ensures { OnOk result (string_bytes out.new ≡ string_bytes out.old
         ++ metric_lines closer (metric_facts metric.now limits phase counts)) }
 {
-    put_metric(out, metric, limits, phase, counts)?;
+    put_metric(out, Naming::Clear, metric, limits, phase, counts)?;
     push_waits(out, phase, waits_for(phase, limits, counts))?;
     push_settled_line(out, settled_by(closer, limits, counts))
 }
@@ -300,12 +338,13 @@ fn push_head(
 ) -> Result<(), AllocError>
     requires limits { length run.now.limits ≡ length metrics.now }
     requires metrics { length state.now.limits ≡ length metrics.now }
-    ensures { OnOk result (string_bytes out.new ≡ string_bytes out.old ++ (run_line run.now.name state.now.phase
+    ensures { OnOk result (string_bytes out.new ≡ string_bytes out.old
+        ++ (run_line (shown_name run.now.name) state.now.phase
         ++ line_if_there (codes "  waits for: ") (run_waits_for state.now.phase
         (facts_of_metrics metrics.now run.now.limits state.now.phases state.now.counts)))) }
 {
     let waits = run_waits_for(alloc, metrics, run.limits.as_slice(), state)?;
-    put_run_line(out, run, state.phase())?;
+    put_run_line(out, Naming::Clear, run, state.phase())?;
     push_if_there(out, "  waits for: ", waits)
 }
 

@@ -5,18 +5,19 @@ ghost use Rattle.std.specs.List.{list_any};
 ghost use Rattle.ar_value.specs.View.{value_view};
 ghost use Rattle.ar_operand.specs.Failures.{failure_of};
 ghost use Rattle.ar_tree.specs.Views.{typed_view};
-ghost use Rattle.ar_explain.specs.Views.{explanation_view, line_view, said_view};
+ghost use Rattle.ar_explain.specs.Views.{apart_view, explanation_view, line_view, said_view};
 ghost use Rattle.ar_show.specs.PartText.{shown_part};
 ghost use Rattle.ar_reason.specs.Reason.{conditions_on, evaluated_if_there, evaluated_with, has_failed, is_failure};
 ghost use Rattle.ar_reason.specs.Private.Trees.{condition_tree, trees_of, judge_trees_view};
-ghost use Rattle.ar_reason.specs.ReasonText.{condition_text, between_text, failure_name, held_text, hold_word, item_text, left_out_line, operands_text, part_line, parts_text, said_part, said_text};
+ghost use Rattle.ar_reason.specs.ReasonText.{apart_text, condition_text, conversion_text, between_text, failure_name, held_text, hold_word, item_text, left_out_line, operands_text, part_line, parts_text, said_part, said_text};
 
 use crate::evaluated::{JudgeTrees, NamedTree};
-use ar_explain::{Explanation, Line, Said, tell};
+use ar_explain::{Apart, Explanation, Line, Said, Shown, tell};
 use ar_judge::{Judge, SharedCondition, Which};
 use ar_operand::operand::Failure;
 use ar_show::{plural, push_part};
 use ar_tree::Typed;
+use ar_value::operator::UnaryOperator;
 use ar_value::value::Value;
 use std::alloc::{AllocError, Global};
 use std::collections::VecDeque;
@@ -80,13 +81,38 @@ fn push_gap(out: &mut String, items: usize, held: usize) -> Result<(), AllocErro
     push_held(out, items, held)
 }
 
+/// Where two texts differ that are shown alike, where there are such.
+fn push_apart(out: &mut String, apart: &Option<Apart>) -> Result<(), AllocError>
+    ensures { OnOk result (string_bytes out.new
+        ≡ string_bytes out.old ++ apart_text (option_map apart_view apart.now)) }
+{
+    match apart {
+        None => Ok(()),
+        Some(apart) => write!(
+            out,
+            "; byte {} differs: {} and {}",
+            apart.byte, apart.left, apart.right
+        ),
+    }
+}
+
+fn push_value(out: &mut String, shown: &Shown) -> Result<(), AllocError>
+    ensures { OnOk result (string_bytes out.new ≡ string_bytes out.old
+        ++ (codes " = " ++ (string_bytes shown.now.text ++ apart_text (option_map apart_view shown.now.apart)))) }
+{
+    out.push_str(" = ")?;
+    out.push_str(&shown.text)?;
+    push_apart(out, &shown.apart)
+}
+
 fn push_said(out: &mut String, said: &Said) -> Result<(), AllocError>
     ensures { OnOk result (string_bytes out.new ≡ string_bytes out.old ++ said_text (said_view said.now)) }
 {
     match said {
-        Said::Valued(text) => {
+        Said::Valued(shown) => push_value(out, shown),
+        Said::Item(item) => {
             out.push_str(" = ")?;
-            out.push_str(text)
+            out.push_str(&item.text)
         }
         Said::Failed(failure, on) => {
             out.push_str(": ")?;
@@ -98,6 +124,27 @@ fn push_said(out: &mut String, said: &Said) -> Result<(), AllocError>
     }
 }
 
+/// That a part converts its operand, which its text doesn't show.
+fn conversion_text(part: &Typed) -> &'static str
+    ensures { result.now ≡ conversion_text (typed_view part.now) }
+{
+    match part {
+        Typed::Unary {
+            operator: UnaryOperator::ToDecimal,
+            ..
+        } => " as a decimal",
+        _ => "",
+    }
+}
+
+fn push_failed_part(out: &mut String, part: &Typed) -> Result<(), AllocError>
+    ensures { OnOk result (string_bytes out.new ≡ string_bytes out.old
+        ++ (shown_part (typed_view part.now) ++ conversion_text (typed_view part.now))) }
+{
+    push_part(out, part)?;
+    out.push_str(conversion_text(part))
+}
+
 /// The part itself, but where only items of it are counted.
 fn push_said_part(out: &mut String, part: &Typed, said: &Said) -> Result<(), AllocError>
     ensures { OnOk result
@@ -105,7 +152,9 @@ fn push_said_part(out: &mut String, part: &Typed, said: &Said) -> Result<(), All
 {
     match said {
         Said::Passed { .. } => Ok(()),
-        Said::Valued(_) | Said::Failed(..) | Said::Unneeded => push_part(out, part),
+        Said::Item(_) => out.push_str("#"),
+        Said::Failed(..) => push_failed_part(out, part),
+        Said::Valued(_) | Said::Unneeded => push_part(out, part),
     }
 }
 

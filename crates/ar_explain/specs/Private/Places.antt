@@ -15,9 +15,11 @@ use Rattle.ar_tree.specs.declared.typed.Typed.{Typed as TypedCode}
 use Rattle.ar_machine.specs.Operand.{value_of}
 use Rattle.ar_operand.specs.Operand.{Meets, failure_of, operand_view}
 use Rattle.ar_operand.specs.declared.operand.Failure.{Failure as FailureCode}
-use Rattle.ar_explain.specs.Lines.{Explanation, Line, Outcome, Seen, each_item_lines, earlier_lines, failed, items_lines, none_seen, passed, unneeded, valued, with_own}
+use Rattle.ar_explain.specs.Apart.{Apart, apart_on, operands_apart}
+use Rattle.ar_explain.specs.Lines.{Explanation, Line, Outcome, Seen, body_lines, each_item_lines, earlier_lines, failed, is_item, items_lines, none_seen, passed, unneeded, valued, with_own}
 use Rattle.ar_explain.specs.Operands.{failed_on, item_failed_on, two_operands, on_value, refused_or}
-use Rattle.ar_explain.specs.Private.Failed.{MeetsOn}
+use Rattle.ar_explain.specs.Private.Apart.{texts_apart}
+use Rattle.ar_explain.specs.Private.Failed.{ComesTo, MeetsOn}
 use Rattle.ar_explain.specs.Private.Keeping.{with_lines}
 use Rattle.ar_show.specs.Values.{shown_value}
 use Rattle.ar_explain.specs.Trace.{if_value}
@@ -25,6 +27,7 @@ use Rattle.ar_explain.specs.Views.{explanation_view}
 use Rattle.ar_explain.specs.declared.explanation.Explanation.{Explanation as ExplanationCode}
 use Rattle.ar_explain.specs.declared.explanation.Remark.{Remark}
 use Rattle.ar_explain.specs.declared.explanation.Remark.TheVariants as remarks
+use Rattle.ar_explain.specs.declared.applied.Found.{Found as FoundCode}
 use Rattle.ar_explain.specs.declared.failed.Failed.{Failed as FailedCode}
 use Rattle.ar_explain.specs.declared.place.Place.{Place as PlaceCode}
 use Rattle.ar_explain.specs.declared.seen.Seen.{Seen as SeenCode}
@@ -58,6 +61,9 @@ meant place tree = mean place.result place.here tree
 abbrev pub failed_at : Place → Typed → Option Text
 failed_at place tree = failed_on place.result place.here tree
 
+abbrev pub apart_at : Place → Typed → Option Apart
+apart_at place tree = apart_on place.result place.here tree
+
 abbrev pub earlier_at : Place → Typed → List Line
 earlier_at place tree = earlier_lines place.result place.here tree
 
@@ -75,6 +81,9 @@ operated operator left place right = meant place right >>= binary_meaning operat
 abbrev pub operated_on : BinaryOperator → Value → Place → Typed → Option Text
 operated_on operator left place right =
     on_value (meant place right) (λ second. Some (two_operands operator left second))
+
+abbrev pub operated_apart : Value → Place → Typed → Option Apart
+operated_apart left place right = on_value (meant place right) (λ second. operands_apart left second)
 
 -- ---- list literals
 
@@ -110,7 +119,7 @@ abbrev pub holds_on : Place → Typed → Value → Result Bool Failure
 holds_on place body value = mean place.result (Some value) body >>= boolean
 
 abbrev pub lines_on : Place → Typed → Value → List Line
-lines_on place body value = with_own place.result (Some value) body (earlier_lines place.result (Some value) body)
+lines_on place body value = body_lines place.result body value
 
 -- what a predicate gives over the items of an operand, and the lines of those
 abbrev pub over_meant : Predicate → Value → Place → Typed → Meaning
@@ -126,9 +135,10 @@ over_lines predicate many place body =
 -- ---- what is said
 
 abbrev pub said_by : Remark → Outcome
-said_by (remarks.Value operand) = valued (shown_value (operand_view operand.now))
+said_by (remarks.Value operand texts) = valued (shown_value (operand_view operand.now)) (texts_apart texts)
 said_by (remarks.Failure failure on) = failed (failure_of failure) (option_map (λ text. text.now) on)
 said_by remarks.Unneeded = unneeded
+said_by (remarks.Item value) = is_item (shown_value (value_of value))
 said_by (remarks.Passed seen) = passed seen.items seen.held
 
 -- what was met, as a meaning
@@ -150,3 +160,9 @@ abbrev pub ExplainsOn : {X Y : Type 0} → (X → Y) → Place → (old new : Ex
     → Result (Result X FailedCode) AllocError → Result Y Failure → Option Text → List Line → Type 0
 ExplainsOn view place old new result meaning on lines =
     IfOk result (λ met. MeetsOn view met meaning on × (explanation_view new ≡ with_lines_at place old lines))
+
+-- the same of a part
+abbrev pub ExplainsFound : Place → (old new : ExplanationCode) → Result (Result FoundCode FailedCode) AllocError
+    → Meaning → Option Text → Option Apart → List Line → Type 0
+ExplainsFound place old new result meaning on apart lines =
+    IfOk result (λ met. ComesTo met meaning on apart × (explanation_view new ≡ with_lines_at place old lines))

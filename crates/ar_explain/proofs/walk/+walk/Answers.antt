@@ -7,23 +7,38 @@ use Rattle.ar_value.specs.Value.{bool, items_of, list}
 use Rattle.ar_machine.specs.Operand.{list_values, value_of}
 use Rattle.ar_op.specs.Machine.{decided}
 use Rattle.ar_tree.specs.Meaning.{over}
+use Rattle.ar_tree.specs.Typed.{Typed}
 use Rattle.ar_tree.specs.Typed as typed
 use Rattle.ar_tree.specs.Views.{typed_view}
 use Rattle.ar_tree.specs.declared.typed.Typed.{the_lemmas}
 use Rattle.ar_operand.specs.Operand.{failure_of, operand_view}
-use Rattle.ar_explain.specs.Lines.{Seen, each_item_lines, none_seen, unneeded_line}
+use Rattle.ar_explain.specs.Lines.{Seen, each_item_lines, item_line, none_seen, unneeded_line}
 use Rattle.ar_explain.specs.Private.Failed.{on_of}
-use Rattle.ar_explain.specs.Private.Places.{ExplainsOn, earlier_at, failed_at, holds_meant, holds_on, items_failed_at, items_lines_at, items_meant, lines_at, lines_on, meant, operated, operated_on, over_failed_on, place_view, scalar_failed_at, scalar_meant, seen_view, typeds_view, with_lines_at}
-use Rattle.ar_explain.proofs.Walks.{after_left, after_list, after_taken, failure_came, held_on, look_once, look_twice, more, otherwise, own_after, value_came, value_is}
+use Rattle.ar_explain.specs.Private.Places.{ExplainsFound, apart_at, earlier_at, failed_at, holds_meant, holds_on, items_failed_at, items_lines_at, items_meant, lines_at, lines_on, meant, operated, operated_apart, operated_on, over_failed_on, place_view, scalar_failed_at, scalar_meant, seen_view, typeds_view, with_lines_at}
+use Rattle.ar_explain.proofs.Walks.{after_failure, after_left, after_list, after_operand, after_taken, also, failure_came, held_on, look_once, look_twice, more, otherwise, own_after, value_came, value_is}
 use Rattle.ar_explain.proofs.Loops.{all_items_made, all_lines_said, failed_after, failed_here, item_lines_after, item_lines_failed, items_after, items_failed, lines_after, none_within, rest_after, rest_of_all}
 use Rattle.ar_explain.proofs.walk.+walk.Goals as goal
+
+pub unary-returns-in-Ok : goal.unary-returns-in-Ok
+unary-returns-in-Ok t c =
+    let place = place_view c.args.place.now in
+    let met = c.in_ok-met.ensures in
+    after_operand place c.args.out.now c.parts.new.out c.say_operand.new.out c.in_ok-met.met c.args.operator (typed_view c.args.operand.now) met.0 met.1 c.in_ok-say_operand.ensures
+    c.in-Ok.found c.unary_on.result c.in-Ok.is c.unary_on.ensures
+
+pub unary-returns-in-Err : goal.unary-returns-in-Err
+unary-returns-in-Err t c =
+    let place = place_view c.args.place.now in
+    let met = c.in_ok-met.ensures in
+    after_failure place c.args.out.now c.parts.new.out c.say_operand.new.out c.in_ok-met.met c.args.operator (typed_view c.args.operand.now) met.0 met.1 c.in_ok-say_operand.ensures
+    c.in-Err.failed c.inside.result c.in-Err.is c.inside.ensures.failure c.inside.ensures.on
 
 pub binary-returns-in-Ok : goal.binary-returns-in-Ok
 binary-returns-in-Ok t c =
     let place = place_view c.args.place.now in
     let left = c.in_ok-left.ensures in
-    after_left operand_view place c.args.out.now c.walk.new.out c.binary_after.new.out c.binary_after.result (meant place (typed_view c.args.left.now)) (operand_view c.in-Ok.left)
-    (λ value. operated c.args.operator value place (typed_view c.args.right.now)) (λ value. operated_on c.args.operator value place (typed_view c.args.right.now))
+    after_left place c.args.out.now c.walk.new.out c.binary_after.new.out c.binary_after.result (meant place (typed_view c.args.left.now)) (operand_view c.in-Ok.left)
+    (λ value. operated c.args.operator value place (typed_view c.args.right.now)) (λ value. operated_on c.args.operator value place (typed_view c.args.right.now)) (λ value. operated_apart value place (typed_view c.args.right.now))
     (lines_at place (typed_view c.args.left.now)) (λ value. lines_at place (typed_view c.args.right.now))
     (value_is operand_view c.in_ok-left.field-0 c.in-Ok.left (meant place (typed_view c.args.left.now)) c.in-Ok.is left.0) left.1 c.binary_after.ensures
 
@@ -80,17 +95,21 @@ over-returns-in-Ok t c =
 
 pub holds_at-returns : goal.holds_at-returns
 holds_at-returns t c =
-    let inner = c.in_ok-inner.ensures in
-    held_on (place_view c.args.place.now) (place_view c.in_ok-inner.inner) c.args.looked.number (value_of c.args.looked.item) c.args.silent c.args.out.now c.holds.new.out c.holds.result
-    (typed_view c.args.body.now) inner c.holds.ensures
+    let inner = place_view c.in_ok-inner.inner in
+    let body = typed_view c.args.body.now in
+    let value = value_of c.args.looked.item in
+    held_on (place_view c.args.place.now) inner c.args.looked.number value c.args.silent c.args.out.now c.holds.new.out c.holds.result body c.in_ok-inner.ensures
+    (also (λ (it : Bool). it) inner c.args.out.now c.say.new.self c.holds.new.out c.holds.result (holds_meant inner body) (item_line body value ∷ []) (lines_at inner body) c.in_ok-say.ensures
+    c.holds.ensures)
 
 pub walk-returns : goal.walk-returns
 walk-returns t c =
     let place = place_view c.args.place.now in
     let tree = typed_view c.args.tree.now in
     let met = c.in_ok-met.ensures in (
-      c.plain.ensures (meant place tree) (failed_at place tree) met.0,
-      own_after operand_view place c.args.out.now c.parts.new.out c.say_own.new.out c.in_ok-met.met (meant place tree) (failed_at place tree) tree (earlier_at place tree) met.0 met.1 c.in_ok-say_own.ensures,
+      c.plain.ensures (meant place tree) (failed_at place tree) met.0.0,
+      own_after place c.args.out.now c.parts.new.out c.say_own.new.out c.in_ok-met.met (meant place tree) (failed_at place tree) (apart_at place tree) tree (earlier_at place tree) met.0 met.1
+          c.in_ok-say_own.ensures,
     )
 
 pub then_taken-returns : goal.then_taken-returns
@@ -120,12 +139,15 @@ look-returns t c =
     look_twice place c.args.out.now c.holds_at.new.out c.say_gap.new.out c.holds_at-2.new.out c.in_ok-holds.holds c.holds_at-2.result (holds_on place body value) c.args.looked.predicate body
     (seen_view c.args.looked.seen) c.args.looked.number c.args.looked.at_end (lines_on place body value) met.0 (search rules) met.1 c.in_ok-say_gap.ensures c.holds_at-2.ensures
 
-pub parts-returns-in-Field : goal.parts-returns-in-Field
-parts-returns-in-Field t c =
+pub parts-returns-in_ok-field-in-Field : goal.parts-returns-in_ok-field-in-Field
+parts-returns-in_ok-field-in-Field t c =
     let place = place_view c.args.place.now in
     let tree : typed_view c.args.tree.now ≡ typed.field (typed_view c.deref.result.now) c.in-Field.name =
     ap typed_view c.in-Field.is ∙ search (rules, the_lemmas) in
-    subst (λ tree. ExplainsOn operand_view place c.args.out.now c.field.new.out c.field.result (meant place tree) (failed_at place tree) (earlier_at place tree)) (sym tree) c.field.ensures
+    let field : Typed = typed.field (typed_view c.deref.result.now) c.in-Field.name in
+    let met = c.in_ok-field-in-Field.ensures in
+    subst (λ tree. ExplainsFound place c.args.out.now c.field.new.out (Ok c.without_texts-in-Field.result) (meant place tree) (failed_at place tree) (apart_at place tree) (earlier_at place tree)) (sym tree)
+    (c.without_texts-in-Field.ensures (meant place field) (failed_at place field) met.0, met.1)
 
 pub listed-returns-in-Err : goal.listed-returns-in-Err
 listed-returns-in-Err t c =
