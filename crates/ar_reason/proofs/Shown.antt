@@ -2,7 +2,7 @@
 use Rattle.std.proofs.Common.{◌≡◌, ◌||◌, Bool, true, false, List, [], ◌∷◌, ◌++◌, codes, Option, None, Some, refl, sym, ◌∙◌, ap}
 use Rattle.std.specs.Prelude.{if◌then◌else◌, Result, Ok, Err}
 use Rattle.std.specs.List.{list_any}
-use Rattle.ar_value.specs.Operators.{Failure, Meaning, faulted, ill_kinded}
+use Rattle.ar_value.specs.Operators.{Meaning, faulted, ill_kinded}
 use Rattle.ar_value.specs.Shape.{Shape}
 use Rattle.ar_value.specs.Terms.{Text}
 use Rattle.ar_value.specs.Value.{Value}
