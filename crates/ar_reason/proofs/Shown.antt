@@ -1,5 +1,5 @@
--- The verdict of a measured value is by the conditions that are shown.
-use Rattle.std.proofs.Common.{◌≡◌, ◌||◌, Bool, true, false, List, [], ◌∷◌, ◌++◌, codes, Option, None, Some, refl, sym, ◌∙◌, ap}
+-- The verdict of a measured value is by the conditions that are shown, and that of another value by the misfit.
+use Rattle.std.proofs.Common.{◌≡◌, ◌||◌, Bool, true, false, List, [], ◌∷◌, ◌++◌, codes, Option, None, Some, refl, sym, ◌∙◌, ap, inl, inr}
 use Rattle.std.specs.Prelude.{if◌then◌else◌, Result, Ok, Err}
 use Rattle.std.specs.List.{list_any}
 use Rattle.ar_value.specs.Operators.{Meaning, faulted, ill_kinded}
@@ -16,8 +16,15 @@ use Rattle.ar_judge.specs.Condition.{Condition}
 use Rattle.ar_judge.specs.Saying.{said_by, typed_text}
 use Rattle.ar_judge.specs.Verdict.{AreBuilt, Said, absent, said_of, said_where, spoken, verdict_by}
 use Rattle.ar_judge.specs.declared.error.BuildCause.{BuildCause}
+use Rattle.ar_judge.specs.declared.verdict.Cause.TheVariants as causes
+use Rattle.ar_judge.specs.declared.verdict.Verdict.TheVariants.{Error}
+use Rattle.ar_limits.proofs.PrefixLemmas.{option_cases}
+use Rattle.ar_json.specs.Reading.{read}
+use Rattle.ar_json.specs.declared.value_reading.ShapeFault.{ShapeFault}
+use Rattle.ar_misfit.proofs.Faults.{misfit_refused, no_misfit_read}
+use Rattle.ar_misfit.specs.Misfit.{misfit}
 use Rattle.ar_reason.specs.Reason.{EvaluatedCondition, after_success, evaluated, evaluated_if_there, evaluated_with, has_failed, is_failure}
-use Rattle.ar_reason.specs.ReasonLaws.{VerdictIsByShown, said_among}
+use Rattle.ar_reason.specs.ReasonLaws.{MisfitIsOfVerdict, VerdictIsByShown, said_among}
 
 -- ---- a condition with a tree, or none
 
@@ -93,3 +100,22 @@ verdict_is_by_shown shape success failure judge found is =
     ∙ sym (ap (λ (conditions : List EvaluatedCondition). verdict_by (said_among (codes "success") found conditions) (said_among (codes "failure") found conditions))
     (ap (λ (first : List EvaluatedCondition). after_success first (evaluated_if_there (codes "failure") found judge.failure)) (succeeds.shows (codes "success"))
     ∙ ap (after_success (shown (codes "success") found succeeds.own)) (fails.shows (codes "failure"))))))
+
+-- ---- misfits
+
+fault_is : (found : Result Value ShapeFault) (fault own : ShapeFault) → found ≡ Err fault → found ≡ Err own → fault ≡ own
+fault_is found fault own refused shown = cc
+
+never_read : (found : Result Value ShapeFault) (fault : ShapeFault) (value : Value) → found ≡ Err fault → found ≡ Ok value → ⊥
+never_read found fault value refused read_as = cc
+
+pub misfit_is_of_verdict : MisfitIsOfVerdict
+misfit_is_of_verdict judge shape json fault refused =
+    elim (option_cases (misfit shape json)) [
+      | inl none ↦ let given = no_misfit_read shape json none in absurd (never_read (read shape json) fault given.0 refused given.1)
+      | inr found ↦ record {
+        shown = found.0;
+        is_there = found.1;
+        verdict_is = ap (λ (fault : ShapeFault). Error (causes.Shape fault)) (fault_is (read shape json) fault found.0.fault refused (misfit_refused shape json found.0 found.1));
+      }
+    ]

@@ -17,7 +17,7 @@
 //! - `lines`: the text
 //! - `data`: the object; `part_data`: the objects of conditions and their parts; `why_data`: why an event closed its
 //!   run or came late
-//! - [`laws`]: the verdict is by the conditions that are shown
+//! - [`laws`]: the verdict is by the conditions that are shown, or by the misfit
 #![tactic(auto)]
 
 mod data;
