@@ -1,6 +1,6 @@
 //! The copy of a value that JSON has.
 
-ghost use Rattle.std.specs.Prelude.{◌≡◌, IfOk, string_bytes};
+ghost use Rattle.std.specs.Prelude.{◌≡◌, IfOk, OnOk, string_bytes};
 ghost use Rattle.std.specs.Fmt.{signed_decimal};
 ghost use Rattle.ar_exact.specs.Exact.{exact_data, exact_of, exact_text, exact_whole, is_exact};
 ghost use Rattle.ar_exact.specs.Views.{exact_view};
@@ -26,8 +26,9 @@ pub enum Exact {
     /// Nil, or what has no form of its own.
     Null,
     Bool(bool),
-    Integer(i64),
-    /// A text, or the digits of a number.
+    Whole(i64),
+    /// In millionths.
+    Decimal(i64),
     Text(String),
 }
 
@@ -43,15 +44,6 @@ fn whole_digits(alloc: Global, whole: i64) -> Result<String, AllocError>
     let mut digits = String::new(alloc);
     write!(digits, "{whole}")?;
     Ok(digits)
-}
-
-fn whole_of(alloc: Global, whole: i64) -> Result<Exact, AllocError>
-    ensures { IfOk result (λ exact. exact_view exact ≡ exact_whole whole) }
-{
-    if is_exact(whole) {
-        return Ok(Exact::Integer(whole));
-    }
-    Ok(Exact::Text(whole_digits(alloc, whole)?))
 }
 
 fn decimal_digits(alloc: Global, millionths: i64) -> Result<String, AllocError>
@@ -78,8 +70,8 @@ fn borrowed_of(alloc: Global, value: ValueRef<'_>) -> Result<Exact, AllocError>
 {
     match value {
         ValueRef::Bool(boolean) => Ok(Exact::Bool(boolean)),
-        ValueRef::Whole(whole) => whole_of(alloc, whole),
-        ValueRef::Decimal(millionths) => Ok(Exact::Text(decimal_digits(alloc, millionths)?)),
+        ValueRef::Whole(whole) => Ok(Exact::Whole(whole)),
+        ValueRef::Decimal(millionths) => Ok(Exact::Decimal(millionths)),
         ValueRef::Text(text) => text_of(alloc, text),
         ValueRef::Nil | ValueRef::List(_) | ValueRef::Object(_) => Ok(Exact::Null),
     }
@@ -99,16 +91,36 @@ pub fn exact_of(alloc: Global, value: OperandRef<'_, '_>) -> Result<Exact, Alloc
     }
 }
 
+/// Writes an integer, or its digits where not each reader takes it exactly.
+fn put_whole(alloc: Global, json: &mut JsonText, name: &str, whole: i64) -> Result<(), AllocError>
+    ensures { OnOk result
+        (AddsMember name.now (exact_data (exact_whole whole)) json.old.written json.new.written) }
+{
+    if is_exact(whole) {
+        json.put_integer_member(name, whole);
+        return Ok(());
+    }
+    json.put_text(name, &whole_digits(alloc, whole)?);
+    Ok(())
+}
+
 impl Exact {
     /// Writes the value as a member of an object.
-    pub fn put(&self, json: &mut JsonText, name: &str)
-        ensures { AddsMember name.now (exact_data (exact_view self.now)) json.old.written json.new.written }
+    ///
+    /// # Errors
+    ///
+    /// Out of memory alone.
+    pub fn put(&self, alloc: Global, json: &mut JsonText, name: &str) -> Result<(), AllocError>
+        ensures { OnOk result
+            (AddsMember name.now (exact_data (exact_view self.now)) json.old.written json.new.written) }
     {
         match self {
             Exact::Null => json.put_null(name),
             Exact::Bool(boolean) => json.put_flag(name, *boolean),
-            Exact::Integer(integer) => json.put_integer_member(name, *integer),
+            Exact::Whole(whole) => put_whole(alloc, json, name, *whole)?,
+            Exact::Decimal(millionths) => json.put_text(name, &decimal_digits(alloc, *millionths)?),
             Exact::Text(text) => json.put_text(name, text),
         }
+        Ok(())
     }
 }

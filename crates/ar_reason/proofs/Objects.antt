@@ -78,23 +78,23 @@ exact_small exact levels = let is = exact_flat exact in omega arith
 -- ---- the parts of a condition
 
 value_small : (said : Outcome) (levels : ℕ) → depth (value_if_there said) ≤ levels
-value_small (valued text exact apart) levels = exact_small exact levels
-value_small (is_item text exact) levels = exact_small exact levels
+value_small (valued shown apart) levels = exact_small shown.exact levels
+value_small (is_item shown) levels = exact_small shown.exact levels
 value_small (failed failure on) levels = zero_small levels
 value_small unneeded levels = zero_small levels
 value_small (passed items held) levels = zero_small levels
 
 answer_small : (said : Outcome) (levels : ℕ) → depth (condition_answer said) ≤ levels
-answer_small (valued text exact apart) levels = exact_small exact levels
-answer_small (is_item text exact) levels = zero_small levels
+answer_small (valued shown apart) levels = exact_small shown.exact levels
+answer_small (is_item shown) levels = zero_small levels
 answer_small (failed failure on) levels = zero_small levels
 answer_small unneeded levels = zero_small levels
 answer_small (passed items held) levels = zero_small levels
 
 gap_flat : (said : Outcome) → depth (gap_data said) ≤ 2
 gap_flat (passed items held) = omega arith
-gap_flat (valued text exact apart) = omega arith
-gap_flat (is_item text exact) = omega arith
+gap_flat (valued shown apart) = omega arith
+gap_flat (is_item shown) = omega arith
 gap_flat (failed failure on) = omega arith
 gap_flat unneeded = omega arith
 

@@ -111,8 +111,8 @@ evaluated_if_there which found (Some condition) =
 
 abbrev pub is_failure : Outcome → Bool
 is_failure (failed failure on) = true
-is_failure (valued text exact apart) = false
-is_failure (is_item text exact) = false
+is_failure (valued shown apart) = false
+is_failure (is_item shown) = false
 is_failure unneeded = false
 is_failure (passed items held) = false
 

@@ -35,14 +35,14 @@ use Rattle.ar_reason.specs.ReasonText.{failure_name}
 
 -- a value as lines show it
 abbrev pub shown_if_there : Outcome → Option Text
-shown_if_there (valued text exact apart) = Some text
-shown_if_there (is_item text exact) = Some text
+shown_if_there (valued shown apart) = Some shown.text
+shown_if_there (is_item shown) = Some shown.text
 shown_if_there said = None
 
 -- the value, where JSON has it exactly
 abbrev pub value_if_there : Outcome → Data
-value_if_there (valued text exact apart) = exact_data exact
-value_if_there (is_item text exact) = exact_data exact
+value_if_there (valued shown apart) = exact_data shown.exact
+value_if_there (is_item shown) = exact_data shown.exact
 value_if_there said = null
 
 abbrev pub failure_if_there : Outcome → Option Text
@@ -56,13 +56,13 @@ operands_if_there said = None
 
 -- where two texts differ that are shown alike
 abbrev pub apart_if_there : Outcome → Option Apart
-apart_if_there (valued text exact apart) = apart
+apart_if_there (valued shown apart) = apart
 apart_if_there said = None
 
 abbrev pub was_needed : Outcome → Bool
 was_needed unneeded = false
-was_needed (valued text exact apart) = true
-was_needed (is_item text exact) = true
+was_needed (valued shown apart) = true
+was_needed (is_item shown) = true
 was_needed (failed failure on) = true
 was_needed (passed items held) = true
 
@@ -85,7 +85,7 @@ converts part said = false
 
 -- the item itself has the text `#`
 abbrev pub part_name : Typed → Outcome → Text
-part_name part (is_item text exact) = codes "#"
+part_name part (is_item shown) = codes "#"
 part_name part said = shown_part part
 
 abbrev pub part_data : Line → Data
@@ -103,7 +103,7 @@ part_data line = object
 
 -- the whole condition's boolean, or the name of its failure
 abbrev pub condition_answer : Outcome → Data
-condition_answer (valued text exact apart) = exact_data exact
+condition_answer (valued shown apart) = exact_data shown.exact
 condition_answer (failed failure on) = string (failure_name failure)
 condition_answer said = null
 

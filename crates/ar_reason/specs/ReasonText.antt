@@ -61,8 +61,8 @@ apart_text (Some apart) =
     codes "; byte " ++ (decimal apart.byte ++ (codes " differs: " ++ (apart.left ++ (codes " and " ++ apart.right))))
 
 abbrev pub said_text : Outcome → Text
-said_text (valued text exact apart) = codes " = " ++ (text ++ apart_text apart)
-said_text (is_item text exact) = codes " = " ++ text
+said_text (valued shown apart) = codes " = " ++ (shown.text ++ apart_text apart)
+said_text (is_item shown) = codes " = " ++ shown.text
 said_text (failed failure on) = codes ": " ++ (failure_name failure ++ operands_text on)
 said_text unneeded = codes ": not needed"
 said_text (passed items held) = between_text (codes "item") items ++ (codes ", " ++ held_text items held)
@@ -78,8 +78,8 @@ conversion_text part = []
 
 -- the part itself; where only items of it are counted it isn't written again
 abbrev pub said_part : Typed → Outcome → Text
-said_part part (valued text exact apart) = shown_part part
-said_part part (is_item text exact) = codes "#"
+said_part part (valued shown apart) = shown_part part
+said_part part (is_item shown) = codes "#"
 said_part part (failed failure on) = shown_part part ++ conversion_text part
 said_part part unneeded = shown_part part
 said_part part (passed items held) = []

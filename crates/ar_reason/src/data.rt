@@ -165,8 +165,8 @@ fn put_value(alloc: Global, json: &mut JsonText, given: &Given<'_>) -> Result<()
         json.put_null("value");
         return Ok(());
     };
-    exact_of(alloc, OperandRef::Borrowed(value_ref(value)))?.put(json, "value");
-    Ok(())
+    let exact = exact_of(alloc, OperandRef::Borrowed(value_ref(value)))?;
+    exact.put(alloc, json, "value")
 }
 
 fn write_change(json: &mut JsonText, change: Change)

@@ -17,7 +17,7 @@ ghost use Rattle.ar_reason.specs.Private.Trees.{condition_tree, trees_of, judge_
 
 use crate::evaluated::{JudgeTrees, NamedTree};
 use crate::parts::{failure_name, is_failure};
-use ar_explain::{Apart, Evaluation, Explanation, Line, Said, Shown, tell};
+use ar_explain::{Apart, Evaluation, Explanation, Line, Said, tell};
 use ar_judge::{Judge, SharedCondition, Which};
 use ar_object::JsonText;
 use ar_show::push_part;
@@ -32,8 +32,7 @@ fn shown_if_there(said: &Said) -> Option<&str>
     ensures { option_map (λ text. text.now) result ≡ shown_if_there (said_view said.now) }
 {
     match said {
-        Said::Valued(shown) => Some(shown.text.as_str()),
-        Said::Item(item) => Some(item.text.as_str()),
+        Said::Valued(shown, _) | Said::Item(shown) => Some(shown.text.as_str()),
         Said::Failed(..) | Said::Unneeded | Said::Passed { .. } => None,
     }
 }
@@ -43,7 +42,7 @@ fn failure_if_there(said: &Said) -> Option<&'static str>
 {
     match said {
         Said::Failed(failure, _) => Some(failure_name(*failure)),
-        Said::Valued(_) | Said::Item(_) | Said::Unneeded | Said::Passed { .. } => None,
+        Said::Valued(..) | Said::Item(_) | Said::Unneeded | Said::Passed { .. } => None,
     }
 }
 
@@ -54,7 +53,7 @@ fn operands_if_there(said: &Said) -> Option<&str>
     match said {
         Said::Failed(_, Some(on)) => Some(on.as_str()),
         Said::Failed(_, None)
-        | Said::Valued(_)
+        | Said::Valued(..)
         | Said::Item(_)
         | Said::Unneeded
         | Said::Passed { .. } => None,
@@ -97,7 +96,7 @@ fn part_name(alloc: Global, part: &Typed, said: &Said) -> Result<String, AllocEr
 {
     match said {
         Said::Item(_) => "#".to_string(alloc),
-        Said::Valued(_) | Said::Failed(..) | Said::Unneeded | Said::Passed { .. } => {
+        Said::Valued(..) | Said::Failed(..) | Said::Unneeded | Said::Passed { .. } => {
             part_text(alloc, part)
         }
     }
@@ -121,7 +120,7 @@ fn put_gap(json: &mut JsonText, said: &Said)
             json.put_key("between");
             write_gap(json, *items, *held)
         }
-        Said::Valued(_) | Said::Item(_) | Said::Failed(..) | Said::Unneeded => {
+        Said::Valued(..) | Said::Item(_) | Said::Failed(..) | Said::Unneeded => {
             json.put_null("between")
         }
     }
@@ -152,31 +151,39 @@ fn put_apart(json: &mut JsonText, said: &Said)
             json.put_key("differ");
             write_apart(json, apart)
         }
-        Said::Valued(_) | Said::Item(_) | Said::Failed(..) | Said::Unneeded | Said::Passed { .. } =>
-            json.put_null("differ"),
+        Said::Valued(..)
+        | Said::Item(_)
+        | Said::Failed(..)
+        | Said::Unneeded
+        | Said::Passed { .. } => json.put_null("differ"),
     }
 }
 
 /// Writes a part's value where JSON has it, or null.
-fn put_exact(json: &mut JsonText, said: &Said)
-    ensures { AddsMember (codes "value") (value_if_there (said_view said.now)) json.old.written json.new.written }
+fn put_exact(alloc: Global, json: &mut JsonText, said: &Said) -> Result<(), AllocError>
+    ensures { OnOk result (AddsMember (codes "value") (value_if_there (said_view said.now))
+        json.old.written json.new.written) }
 {
     match said {
-        Said::Valued(shown) => shown.exact.put(json, "value"),
-        Said::Item(item) => item.exact.put(json, "value"),
-        Said::Failed(..) | Said::Unneeded | Said::Passed { .. } => json.put_null("value"),
+        Said::Valued(shown, _) | Said::Item(shown) => shown.exact.put(alloc, json, "value"),
+        Said::Failed(..) | Said::Unneeded | Said::Passed { .. } => {
+            json.put_null("value");
+            Ok(())
+        }
     }
 }
 
 /// Writes a condition's boolean, or the name of its failure.
-fn put_answer(json: &mut JsonText, answer: &Said)
-    ensures { AddsMember (codes "answer") (condition_answer (said_view answer.now)) json.old.written json.new.written }
+fn put_answer(alloc: Global, json: &mut JsonText, answer: &Said) -> Result<(), AllocError>
+    ensures { OnOk result (AddsMember (codes "answer") (condition_answer (said_view answer.now))
+        json.old.written json.new.written) }
 {
     match answer {
-        Said::Valued(shown) => shown.exact.put(json, "answer"),
+        Said::Valued(shown, _) => return shown.exact.put(alloc, json, "answer"),
         Said::Failed(failure, _) => json.put_text("answer", failure_name(*failure)),
         Said::Item(_) | Said::Unneeded | Said::Passed { .. } => json.put_null("answer"),
     }
+    Ok(())
 }
 
 /// Writes the items that a part has lines of.
@@ -204,7 +211,7 @@ fn write_part(alloc: Global, json: &mut JsonText, line: &Line<'_>) -> Result<(),
     json.put_text_if_there("on", operands_if_there(&line.said));
     json.put_text("part", &part);
     json.put_text_if_there("shown", shown_if_there(&line.said));
-    put_exact(json, &line.said);
+    put_exact(alloc, json, &line.said)?;
     json.end_object();
     Ok(())
 }
@@ -248,7 +255,7 @@ fn write_evaluation(
         (said_view evaluation.now.answer)) json.old.written json.new.written) }
 {
     json.begin_object();
-    put_answer(json, &evaluation.answer);
+    put_answer(alloc, json, &evaluation.answer)?;
     json.put_text("condition", which);
     json.put_count("leftOut", evaluation.parts.left_out);
     json.put_text_if_there("on", operands_if_there(&evaluation.answer));

@@ -12,7 +12,7 @@ ghost use Rattle.ar_reason.specs.Private.Trees.{condition_tree, trees_of, judge_
 ghost use Rattle.ar_reason.specs.ReasonText.{apart_text, condition_text, conversion_text, between_text, failure_name, held_text, hold_word, item_text, left_out_line, operands_text, part_line, parts_text, said_part, said_text};
 
 use crate::evaluated::{JudgeTrees, NamedTree};
-use ar_explain::{Apart, Explanation, Line, Said, Shown, tell};
+use ar_explain::{Apart, Explanation, Line, Said, tell};
 use ar_judge::{Judge, SharedCondition, Which};
 use ar_operand::operand::Failure;
 use ar_show::{plural, push_part};
@@ -96,23 +96,18 @@ fn push_apart(out: &mut String, apart: &Option<Apart>) -> Result<(), AllocError>
     }
 }
 
-fn push_value(out: &mut String, shown: &Shown) -> Result<(), AllocError>
-    ensures { OnOk result (string_bytes out.new ≡ string_bytes out.old
-        ++ (codes " = " ++ (string_bytes shown.now.text ++ apart_text (option_map apart_view shown.now.apart)))) }
-{
-    out.push_str(" = ")?;
-    out.push_str(&shown.text)?;
-    push_apart(out, &shown.apart)
-}
-
 fn push_said(out: &mut String, said: &Said) -> Result<(), AllocError>
     ensures { OnOk result (string_bytes out.new ≡ string_bytes out.old ++ said_text (said_view said.now)) }
 {
     match said {
-        Said::Valued(shown) => push_value(out, shown),
-        Said::Item(item) => {
+        Said::Valued(shown, apart) => {
             out.push_str(" = ")?;
-            out.push_str(&item.text)
+            out.push_str(&shown.text)?;
+            push_apart(out, apart)
+        }
+        Said::Item(shown) => {
+            out.push_str(" = ")?;
+            out.push_str(&shown.text)
         }
         Said::Failed(failure, on) => {
             out.push_str(": ")?;
@@ -154,7 +149,7 @@ fn push_said_part(out: &mut String, part: &Typed, said: &Said) -> Result<(), All
         Said::Passed { .. } => Ok(()),
         Said::Item(_) => out.push_str("#"),
         Said::Failed(..) => push_failed_part(out, part),
-        Said::Valued(_) | Said::Unneeded => push_part(out, part),
+        Said::Valued(..) | Said::Unneeded => push_part(out, part),
     }
 }
 
