@@ -34,7 +34,7 @@ VerdictIsByShown = (shape : Shape) (success failure : Option Text) (judge : Judg
 
 -- ---- misfits
 
--- a JSON value that a shape refuses with this fault is shown by where it doesn't fit, which has the fault of the verdict
+-- a JSON value that a shape refuses with this fault is shown by where it doesn't fit, with the fault of the verdict
 pub record ShowsTheFault (judge : Judge) (shape : Shape) (json : Data) (fault : ShapeFault) : Type 0 where
   pub shown : Misfit
   pub is_there : misfit shape json ≡ Some shown
