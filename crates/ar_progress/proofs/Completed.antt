@@ -373,6 +373,13 @@ change_there limits events metric m own there =
     ∙ (ap (λ (before : Option MetricState). is_some (change_with metric own before (metric_after limits after metric))) was.1
     ∙ ap (λ (after : Option MetricState). is_some (change_with metric own (Some was.0) after)) now.1)
 
+pub change_there_below : (limits : List Limits) (events : List Event) (metric : ℕ) (m : Mark) → metric < length limits → is_some (own_change limits events (event.Mark metric m)) ≡ true
+change_there_below limits events metric m below =
+    elim (slice_get_cases limits metric).1 [
+      | inl found ↦ change_there limits events metric m found.0 found.2
+      | inr past ↦ absurd (omega arith)
+    ]
+
 pub late_for_a_reason : LateForAReason
 late_for_a_reason bundle run limits earlier entry later positive is late =
     let last = entry_is bundle run limits earlier entry later is in

@@ -1,4 +1,5 @@
 pub mod Changes
+pub mod Closers
 pub mod Closes
 pub mod Completed
 pub mod Completers

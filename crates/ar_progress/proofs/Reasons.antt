@@ -115,3 +115,91 @@ metric_was step reached since is = by_effect step.entry.effect refl is where
       let same : why_closed phase step.change ≡ MetricWas reached since = cc in
       closed_why phase step.change (MetricWas reached since) same (λ no. absurd cc) (λ reached excess no. absurd cc) (λ no. absurd cc)
   by_effect effect.Late own is = late step.closer step.change own refl refl is
+
+-- ---- by a stop, and by the last metric
+
+pub record IsStopped (step : Step) : Type 0 where
+  pub no_change : step.change ≡ None
+
+pub stopped : (step : Step) → why_of step ≡ Some Stopped → IsStopped step
+stopped step is = by_effect step.entry.effect refl is where
+  closed : (phase : Phase) (change : Option Change) → step.change ≡ change → why_closed phase change ≡ Stopped → IsStopped step
+  closed phase None changes is = record { no_change = changes }
+  closed phase (Some change) changes is = by_excess (excess_of phase change.limits change.after.counts) is where
+    by_excess : (excess : Option Excess) → why_completed phase excess ≡ Stopped → IsStopped step
+    by_excess None is = absurd cc
+    by_excess (Some excess) is = absurd cc
+
+  late : (closer : Option ℕ) (change : Option Change) → why_late closer change step.completer ≡ Some Stopped → IsStopped step
+  late (Some number) change is = absurd cc
+  late None (Some change) is = absurd cc
+  late None None is = absurd cc
+
+  by_effect : (own : Effect) → step.entry.effect ≡ own → why_by own step ≡ Some Stopped → IsStopped step
+  by_effect effect.Applied own is = not_applied step.change Stopped is (λ phase dry. absurd cc)
+  by_effect (effect.Closed phase) own is = let same : why_closed phase step.change ≡ Stopped = cc in closed phase step.change refl same
+  by_effect effect.Late own is = late step.closer step.change is
+
+pub record IsByTheLast (step : Step) : Type 0 where
+  pub change : Change
+  pub changes : step.change ≡ Some change
+  pub reached : Phase
+  pub effect : step.entry.effect ≡ effect.Closed reached
+  pub within : limit_exceeded reached ≡ None
+
+pub by_the_last : (step : Step) → why_of step ≡ Some AllComplete → IsByTheLast step
+by_the_last step is = by_effect step.entry.effect refl is where
+  completed : (phase : Phase) (change : Change) (name : Option LimitName) → step.entry.effect ≡ effect.Closed phase → step.change ≡ Some change → limit_exceeded phase ≡ name
+      → why_completed phase (option_map (excess_at change.limits change.after.counts) name) ≡ AllComplete → IsByTheLast step
+  completed phase change None closes changes named is = record { change = change; changes = changes; reached = phase; effect = closes; within = named }
+  completed phase change (Some name) closes changes named is = absurd cc
+
+  closed : (phase : Phase) (change : Option Change) → step.entry.effect ≡ effect.Closed phase → step.change ≡ change → why_closed phase change ≡ AllComplete → IsByTheLast step
+  closed phase None closes changes is = absurd cc
+  closed phase (Some change) closes changes is = completed phase change (limit_exceeded phase) closes changes refl is
+
+  late : (closer : Option ℕ) (change : Option Change) → why_late closer change step.completer ≡ Some AllComplete → IsByTheLast step
+  late (Some number) change is = absurd cc
+  late None (Some change) is = absurd cc
+  late None None is = absurd cc
+
+  by_effect : (own : Effect) → step.entry.effect ≡ own → why_by own step ≡ Some AllComplete → IsByTheLast step
+  by_effect effect.Applied own is = not_applied step.change AllComplete is (λ phase dry. absurd cc)
+  by_effect (effect.Closed phase) own is = let same : why_closed phase step.change ≡ AllComplete = cc in closed phase step.change own refl same
+  by_effect effect.Late own is = late step.closer step.change is
+
+-- ---- by no metric, since it is dry
+
+pub record IsAppliedDry (step : Step) (reached : Phase) : Type 0 where
+  pub change : Change
+  pub changes : step.change ≡ Some change
+  pub effect : step.entry.effect ≡ effect.Applied
+  pub dry : change.limits.dry ≡ true
+  pub reached_is : change.after.phase ≡ reached
+  pub fails : is_unsuccessful reached ≡ true
+
+pub applied_dry : (step : Step) (reached : Phase) → why_of step ≡ Some (Dry reached) → IsAppliedDry step reached
+applied_dry step reached is = by_effect step.entry.effect refl is where
+  tested : (change : Change) (dry fails : Bool) → step.entry.effect ≡ effect.Applied → step.change ≡ Some change → change.limits.dry ≡ dry → is_unsuccessful change.after.phase ≡ fails
+      → (if dry && fails then Some (Dry change.after.phase) else None) ≡ Some (Dry reached) → IsAppliedDry step reached
+  tested change true true applies changes dry fails is =
+      let same : change.after.phase ≡ reached = cc in
+      record { change = change; changes = changes; effect = applies; dry = dry; reached_is = same; fails = ap is_unsuccessful (sym same) ∙ fails }
+  tested change true false applies changes dry fails is = absurd cc
+  tested change false fails applies changes dry not is = absurd cc
+
+  applied : (change : Option Change) → step.entry.effect ≡ effect.Applied → step.change ≡ change → why_applied change ≡ Some (Dry reached) → IsAppliedDry step reached
+  applied None applies changes is = absurd cc
+  applied (Some change) applies changes is = tested change change.limits.dry (is_unsuccessful change.after.phase) applies changes refl refl is
+
+  late : (closer : Option ℕ) (change : Option Change) → why_late closer change step.completer ≡ Some (Dry reached) → IsAppliedDry step reached
+  late (Some number) change is = absurd cc
+  late None (Some change) is = absurd cc
+  late None None is = absurd cc
+
+  by_effect : (own : Effect) → step.entry.effect ≡ own → why_by own step ≡ Some (Dry reached) → IsAppliedDry step reached
+  by_effect effect.Applied own is = applied step.change own refl is
+  by_effect (effect.Closed phase) own is =
+      let same : why_closed phase step.change ≡ Dry reached = cc in
+      closed_why phase step.change (Dry reached) same (λ no. absurd cc) (λ phase excess no. absurd cc) (λ no. absurd cc)
+  by_effect effect.Late own is = late step.closer step.change is

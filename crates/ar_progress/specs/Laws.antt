@@ -2,14 +2,17 @@
 -- entries before an entry, this one, and later ones.
 use Rattle.std.specs.Prelude.{ℕ, ◌≡◌, ◌≤◌, ◌+◌, true, false, List, [], ◌∷◌, ◌++◌, Option, Some, IfSome, is_some, option_map, length, slice_get}
 use Rattle.std.specs.List.{list_any}
-use Rattle.ar_limits.specs.Metric.{HasPositiveCounts, counted, decided_by, is_complete, phase_of_marks}
+use Rattle.ar_limits.specs.Metric.{HasPositiveCounts, counted, decided_by, is_complete, is_unsuccessful, phase_of_marks}
+use Rattle.ar_limits.specs.Laws.{AllLeaveToSucceed}
+use Rattle.ar_limits.specs.Replay.{IsOfMetricBelow}
 use Rattle.ar_limits.specs.Run.{closing_prefix, marks_of, metric_counts, metric_phases}
 use Rattle.ar_limits.specs.declared.counts.Counts.{Counts}
 use Rattle.ar_limits.specs.declared.event.Effect.TheVariants as effect
 use Rattle.ar_limits.specs.declared.event.Event.{Event}
+use Rattle.ar_limits.specs.declared.event.Event.TheVariants as event
 use Rattle.ar_limits.specs.declared.limits.Limits.{Limits}
 use Rattle.ar_limits.specs.declared.phase.Phase.{Phase}
-use Rattle.ar_bundle.specs.Bundle.{Bundle, events_of}
+use Rattle.ar_bundle.specs.Bundle.{Bundle, events_of, happened}
 use Rattle.ar_bundle.specs.Event.{EventNumber}
 use Rattle.ar_bundle.specs.Lawful.{IsHistory, numbers_of}
 use Rattle.ar_bundle.specs.declared.bundle.RunPart.{RunPart}
@@ -20,7 +23,7 @@ use Rattle.ar_progress.specs.Steps.{change_after, closes, is_entry_of, step_afte
 use Rattle.ar_progress.specs.Why.{why_of}
 use Rattle.ar_progress.specs.declared.excess.Excess.{Excess}
 use Rattle.ar_progress.specs.declared.steps.Change.{Change}
-use Rattle.ar_progress.specs.declared.why.Why.TheVariants.{AfterClose, Exceeded, MetricWas}
+use Rattle.ar_progress.specs.declared.why.Why.TheVariants.{AfterClose, AllComplete, Dry, Exceeded, MetricWas, Stopped}
 
 -- what entries are to their run
 abbrev pub events_in : Bundle → List Entry → List Event
@@ -89,6 +92,34 @@ ClosersAreFirstOver = (bundle : Bundle) (run : ℕ) (limits : List Limits) (earl
     → IsHistory bundle run limits (earlier ++ entry ∷ later)
     → why_of (step_after bundle limits earlier entry) ≡ Some (Exceeded reached excess)
     → IsFirstOver bundle limits earlier entry excess
+
+-- an event that closes its run as a stop is one
+abbrev pub ClosedByAStop : Type 0
+ClosedByAStop = (bundle : Bundle) (limits : List Limits) (earlier : List Entry) (entry : Entry) (happening : Event)
+    → happened bundle entry.number ≡ Some happening → IsOfMetricBelow (length limits) happening
+    → why_of (step_after bundle limits earlier entry) ≡ Some Stopped → happening ≡ event.Stop
+
+-- after one that closes it as the last metric completes, each metric is complete, and Successful unless it is dry
+abbrev pub ClosedByTheLast : Type 0
+ClosedByTheLast = (bundle : Bundle) (run : ℕ) (limits : List Limits) (earlier : List Entry) (entry : Entry)
+    (later : List Entry) → IsHistory bundle run limits (earlier ++ entry ∷ later)
+    → why_of (step_after bundle limits earlier entry) ≡ Some AllComplete
+    → AllLeaveToSucceed limits (events_in bundle (earlier ++ entry ∷ []))
+
+-- an entry after which a dry metric is complete without success, with this phase, and the run is open
+pub record IsDryFailure (bundle : Bundle) (limits : List Limits) (earlier : List Entry) (entry : Entry)
+    (reached : Phase) : Type 0 where
+  pub change : Change
+  pub changes : change_after bundle limits earlier entry ≡ Some change
+  pub dry : change.limits.dry ≡ true
+  pub reached_is : change.after.phase ≡ reached
+  pub fails : is_unsuccessful reached ≡ true
+  pub applied : entry.effect ≡ effect.Applied
+
+abbrev pub NotClosedSinceDry : Type 0
+NotClosedSinceDry = (bundle : Bundle) (limits : List Limits) (earlier : List Entry) (entry : Entry) (reached : Phase)
+    → why_of (step_after bundle limits earlier entry) ≡ Some (Dry reached)
+    → IsDryFailure bundle limits earlier entry reached
 
 -- ---- What makes an event late
 

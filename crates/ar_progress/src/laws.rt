@@ -1,6 +1,6 @@
 //! Laws of the definitions. Each function does nothing: its contract is the law, which its proof shows.
 
-ghost use Rattle.ar_progress.specs.Laws.{ChangesAreOfFronts, ClosersAreFirstOver, CountsAreOfEvents, CountsStay, LastCountsAreReported, LateAfterTheCloser, LateAfterTheCompleter, LateForAReason, SettledByTheClose};
+ghost use Rattle.ar_progress.specs.Laws.{ChangesAreOfFronts, ClosedByAStop, ClosedByTheLast, ClosersAreFirstOver, CountsAreOfEvents, CountsStay, LastCountsAreReported, LateAfterTheCloser, LateAfterTheCompleter, LateForAReason, NotClosedSinceDry, SettledByTheClose};
 
 /// What an event changes are the phase and the counts of its metric: before, those of the events before it, and after,
 /// those of these and it.
@@ -24,6 +24,18 @@ pub fn counts_are_of_events()
 /// limit.
 pub fn closers_are_first_over()
     ensures { ClosersAreFirstOver }
+{}
+
+/// An event that closes its run as a stop is one; after one that closes it as the last metric completes, each metric is
+/// complete, and Successful unless it is dry.
+pub fn other_closers()
+    ensures stop { ClosedByAStop }
+    ensures last { ClosedByTheLast }
+{}
+
+/// An event that closes no run because its metric is dry leaves the metric complete without success, and the run open.
+pub fn not_closed_since_dry()
+    ensures { NotClosedSinceDry }
 {}
 
 /// An event that is late by its run comes after the event that the reason names, which is the only one that closes the

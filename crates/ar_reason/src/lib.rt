@@ -17,11 +17,13 @@
 //! - `lines`: the text
 //! - `data`: the object; `part_data`: the objects of conditions and their parts; `why_data`: why an event closed its
 //!   run or came late
+//! - [`laws`]: the verdict is by the conditions that are shown, or by the misfit
 #![tactic(auto)]
 
 mod data;
 mod evaluated;
 mod given;
+pub mod laws;
 mod lines;
 mod part_data;
 mod parts;
