@@ -4,8 +4,7 @@ from itertools import islice
 from typing import NamedTuple
 
 from documents import parsed
-from reasons import lines_of_event, lines_of_metric
-from reports import event_line
+from reasons import event_head, lines_of_event, lines_of_metric
 from suites.comparing import differences
 from suites.judging import answered, document_of
 
@@ -43,7 +42,7 @@ def reasons(engine, subject, case, found):
     for place in places[:MOST_EVENTS] or [None]:
         run = explained(engine, document, place)
         for one in run["events"]:
-            lines += [event_line(one["event"]).rstrip("\n"), *lines_of_event(one)]
+            lines += [event_head(one["event"]), *lines_of_event(one)]
     lines += ["other events are left out"] if places[MOST_EVENTS:] else []
     return lines + [line for one in run["metrics"] for line in lines_of_metric(one)]
 

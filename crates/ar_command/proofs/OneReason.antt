@@ -33,14 +33,14 @@ use Rattle.ar_command_line.specs.declared.command_line.Command.TheVariants as co
 use Rattle.ar_command_line.specs.declared.command_line.Format.{Format}
 use Rattle.ar_document.specs.Entries.{Entry, entry_view, what_view}
 use Rattle.ar_document.specs.Opening.{Metric, metric_view}
-use Rattle.ar_reason.specs.Reason.{conditions_by, conditions_of, error_given, evaluated_if_there, given_by, given_of, is_unconditional, is_measured, lacks_conditions, measured_member, misfit_words, reason_if_there, reason_of, reasons_from, reasons_of, run_reasons}
+use Rattle.ar_reason.specs.Reason.{conditions_by, conditions_of, error_given, evaluated_if_there, given_by, given_of, is_unconditional, is_measured, lacks_conditions, measured_member, misfit_there, reason_if_there, reason_of, reasons_from, reasons_of, run_reasons}
 use Rattle.ar_reason.specs.ReasonData.{reasons_data}
 use Rattle.ar_reason.specs.ReasonText.{reasons_text}
-use Rattle.ar_reason.specs.Steps.{change_after, chosen_steps, closer_of, is_chosen_run, leaves_complete, measures, own_completer, step_after, steps_after}
-use Rattle.ar_reason.specs.declared.steps.Change.{Change}
-use Rattle.ar_reason.specs.declared.chosen.Chosen.{Chosen}
-use Rattle.ar_reason.specs.declared.chosen.Chosen.TheVariants as chosen
-use Rattle.ar_reason.specs.declared.steps.Step.{Step}
+use Rattle.ar_progress.specs.Steps.{change_after, chosen_steps, closer_of, is_chosen_run, leaves_complete, measures, own_completer, step_after, steps_after}
+use Rattle.ar_progress.specs.declared.steps.Change.{Change}
+use Rattle.ar_progress.specs.declared.chosen.Chosen.{Chosen}
+use Rattle.ar_progress.specs.declared.chosen.Chosen.TheVariants as chosen
+use Rattle.ar_progress.specs.declared.steps.Step.{Step}
 
 -- ---- what conditions say
 
@@ -94,12 +94,12 @@ same_metric (one ∷ some) [] place same = absurd cc
 same_metric (one ∷ some) (other ∷ others) zero same = let head : metric_view one ≡ metric_view other = cc in head
 same_metric (one ∷ some) (other ∷ others) (suc place) same = same_metric some others place cc
 
-same_misfit_words : (found : Option Data) (one other : Option MetricPart) → AreSameMetrics one other → misfit_words found one ≡ misfit_words found other
-same_misfit_words (Some found) (Some one) (Some other) same = let shape : shape_view one.shape ≡ shape_view other.shape = ap (λ (m : Metric). m.shape) same in rw shape refl
-same_misfit_words None (Some one) (Some other) same = refl
-same_misfit_words found (Some one) None same = absurd same
-same_misfit_words found None (Some other) same = absurd same
-same_misfit_words found None None same = refl
+same_misfit : (found : Option Data) (one other : Option MetricPart) → AreSameMetrics one other → misfit_there found one ≡ misfit_there found other
+same_misfit (Some found) (Some one) (Some other) same = let shape : shape_view one.shape ≡ shape_view other.shape = ap (λ (m : Metric). m.shape) same in rw shape refl
+same_misfit None (Some one) (Some other) same = refl
+same_misfit found (Some one) None same = absurd same
+same_misfit found None (Some other) same = absurd same
+same_misfit found None None same = refl
 
 -- ---- histories
 
@@ -189,7 +189,7 @@ module _ (one other : Bundle) (same : IsSameBundle one other) where
   same_given document number (Measure metric sample) (Measure place also) view =
       let metric_is : metric ≡ place = cc in
       let sample_is : sample_view sample ≡ sample_view also = cc in
-      let words = same_misfit_words (measured_member (codes "value") document number) (slice_get one.metrics place) (slice_get other.metrics place) (same_metric one.metrics other.metrics place same.metrics) in
+      let words = same_misfit (measured_member (codes "value") document number) (slice_get one.metrics place) (slice_get other.metrics place) (same_metric one.metrics other.metrics place same.metrics) in
       rw metric_is (rw sample_is (ap (λ words. given_by words (error_given (measured_member (codes "error") document number)) (sample_view also)) words))
   same_given document number (Measure metric sample) Stop view = absurd cc
   same_given document number Stop (Measure place also) view = absurd cc

@@ -3,7 +3,7 @@ use Rattle.std.proofs.Common.{◌≡◌, ℕ, suc, true, if◌then◌else◌, Li
 use Rattle.std.specs.Prelude.{slice_get}
 use Rattle.serde_json.specs.Data.{Data}
 use Rattle.serde_json.specs.Find.{get}
-use Rattle.ar_value.specs.Terms.{Text}
+use Rattle.ar_misfit.specs.Misfit.{Misfit}
 use Rattle.ar_json.specs.Document.{json_in}
 use Rattle.ar_json.specs.declared.document.JsonError.{JsonError}
 use Rattle.ar_judge.specs.Verdict.{Sample, measured, misfit, provider, sample_view}
@@ -19,16 +19,16 @@ use Rattle.ar_document.specs.Document.{FollowsJson, ReadsInput}
 use Rattle.ar_document.specs.Unmeasured.{IsNoDocument, KeepsUnmeasured, lacks_value, is_unmeasured_there, measurement_at, gave_no_value}
 use Rattle.ar_document.specs.declared.error.BundleError.{BundleError}
 use Rattle.ar_facts.specs.Facts.{event_facts, facts_of_metrics}
-use Rattle.ar_reason.specs.Reason.{Given, Reason, RunReasons, conditions_of, error_given, gave_misfit, given_by, given_of, lacks_conditions, misfit_words, reason_if_there, reason_of, reason_with, reasons_from, reasons_of, run_reasons}
-use Rattle.ar_reason.specs.Steps.{chosen_steps, closer_of, is_chosen_run}
-use Rattle.ar_reason.specs.declared.chosen.Chosen.{Chosen}
-use Rattle.ar_reason.specs.declared.steps.Step.{Step}
+use Rattle.ar_reason.specs.Reason.{Given, Reason, RunReasons, conditions_of, error_given, given_by, given_unfit, given_of, lacks_conditions, misfit_there, reason_if_there, reason_of, reason_with, reasons_from, reasons_of, run_reasons}
+use Rattle.ar_progress.specs.Steps.{chosen_steps, closer_of, is_chosen_run}
+use Rattle.ar_progress.specs.declared.chosen.Chosen.{Chosen}
+use Rattle.ar_progress.specs.declared.steps.Step.{Step}
 
 -- a document is looked at only where there is no value
-given_alike : (text other : Text) (error also : Given) (sample : Sample) → (lacks_value sample ≡ true → (text ≡ other) × (error ≡ also)) → given_by text error sample ≡ given_by other also sample
-given_alike text other error also provider same = (same refl).1
-given_alike text other error also (misfit fault) same = ap gave_misfit (same refl).0
-given_alike text other error also (measured found) same = refl
+given_alike : (unfit other : Option Misfit) (error also : Given) (sample : Sample) → (lacks_value sample ≡ true → (unfit ≡ other) × (error ≡ also)) → given_by unfit error sample ≡ given_by other also sample
+given_alike unfit other error also provider same = (same refl).1
+given_alike unfit other error also (misfit fault) same = ap given_unfit (same refl).0
+given_alike unfit other error also (measured found) same = refl
 
 module _ (bundle : Bundle) (document kept : Data) (keeps : KeepsUnmeasured bundle document kept) where
   same_given : (number : ℕ) (what : What) → (gave_no_value what ≡ true → measurement_at kept number ≡ measurement_at document number)
@@ -36,7 +36,7 @@ module _ (bundle : Bundle) (document kept : Data) (keeps : KeepsUnmeasured bundl
   same_given number (Measure metric sample) same =
       given_alike _ _ _ _ (sample_view sample)
       (λ is. (
-        ap (λ found. misfit_words (option_and_then (get (codes "value")) found) (slice_get bundle.metrics metric)) (same is),
+        ap (λ found. misfit_there (option_and_then (get (codes "value")) found) (slice_get bundle.metrics metric)) (same is),
         ap (λ found. error_given (option_and_then (get (codes "error")) found)) (same is),
       ))
   same_given number Stop same = refl

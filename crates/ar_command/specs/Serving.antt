@@ -22,8 +22,8 @@ use Rattle.ar_object.specs.Line.{IsJsonLine}
 use Rattle.ar_reason.specs.Reason.{reasons_of}
 use Rattle.ar_reason.specs.ReasonData.{reasons_data}
 use Rattle.ar_reason.specs.ReasonText.{reasons_text}
-use Rattle.ar_reason.specs.declared.chosen.Chosen.{Chosen}
-use Rattle.ar_reason.specs.declared.chosen.Chosen.TheVariants as chosen
+use Rattle.ar_progress.specs.declared.chosen.Chosen.{Chosen}
+use Rattle.ar_progress.specs.declared.chosen.Chosen.TheVariants as chosen
 use Rattle.ar_document.specs.Document as document
 use Rattle.ar_document.specs.Opening.{index_of_name}
 use Rattle.ar_document.specs.declared.error.BundleError.{BundleError}

@@ -24,7 +24,8 @@ use crate::reading::{Reading, read_kept};
 use crate::serving::{Refusal, ServeError};
 use ar_bundle::{Bundle, Finished, MetricPart, RunPart, finish_plain};
 use ar_command_line::{Format, Selection};
-use ar_reason::{Chosen, reasons_json, reasons_text};
+use ar_progress::Chosen;
+use ar_reason::{reasons_json, reasons_text};
 use serde_json::Value as Json;
 use std::alloc::{AllocError, Global};
 

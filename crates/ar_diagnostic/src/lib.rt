@@ -24,3 +24,4 @@ pub use listing::{first_listed, those_listed};
 pub use place::{
     EntryPart, Flag, Item, Member, MetricField, Place, SpecPart, TemplateField, Within,
 };
+pub use place_text::push_token;

@@ -116,7 +116,7 @@ pub(crate) fn push_place(out: &mut String, place: &Place) -> Result<(), AllocErr
 
 // ---- as a pointer
 
-fn push_token_character(out: &mut String, character: char) -> Result<(), AllocError>
+pub fn push_token_character(out: &mut String, character: char) -> Result<(), AllocError>
     ensures { OnOk result (string_bytes out.new ≡ string_bytes out.old ++ pointer_character character) }
 {
     match character {
@@ -127,7 +127,7 @@ fn push_token_character(out: &mut String, character: char) -> Result<(), AllocEr
 }
 
 /// A name as a reference token of a JSON Pointer.
-fn push_token(out: &mut String, name: &str) -> Result<(), AllocError>
+pub fn push_token(out: &mut String, name: &str) -> Result<(), AllocError>
     ensures { OnOk result (string_bytes out.new ≡ string_bytes out.old ++ pointer_token name.now) }
 {
     for character in name.chars() {

@@ -161,4 +161,4 @@ list_isnt_alike (whole number) items = refl
 list_isnt_alike (decimal millionths) items = refl
 list_isnt_alike (text letters) items = refl
 list_isnt_alike (list others) items = refl
-list_isnt_alike (object fields) items = refl
+list_isnt_alike (object of) items = refl

@@ -27,21 +27,30 @@ use Rattle.ar_tree.specs.Meaning.{mean}
 use Rattle.ar_tree.specs.Typed.{Typed, Typeds}
 use Rattle.ar_tree.specs.Typed as typed
 use Rattle.ar_quote.specs.Shown.{quoted}
+use Rattle.ar_exact.specs.Exact.{Exact, a_boolean, exact_of}
 use Rattle.ar_show.specs.Values.{shown_text, shown_value}
 use Rattle.ar_explain.specs.Apart.{Apart, apart_of, apart_on}
 use Rattle.ar_explain.specs.Operands.{failed_on, one_operand, two_operands}
 use Rattle.ar_explain.specs.Trace.{continues, if_value}
 
+-- a value as people see it, and as programs have it
+pub record Shown : Type 0 where
+  pub text : List ℕ
+  pub exact : Exact
+
+abbrev pub shown_of : Value → Shown
+shown_of value = record { text = shown_value value; exact = exact_of value }
+
 -- what is said of a part
 pub data Outcome : Type 0 where
   -- it has a value, which is shown so; where its operands are texts that differ and are shown alike, they are apart so
-  valued : (text : List ℕ) → (apart : Option Apart) → Outcome
+  valued : Shown → (apart : Option Apart) → Outcome
   -- it fails, on these operands where the failure arises in it
   failed : Failure → (on : Option Text) → Outcome
   -- it wasn't needed
   unneeded : Outcome
   -- it is a predicate's body, evaluated on an item that is shown so
-  is_item : (text : List ℕ) → Outcome
+  is_item : Shown → Outcome
   -- it is a predicate's body, evaluated on this many items that aren't shown, of `held` of which it holds
   passed : (items held : ℕ) → Outcome
 
@@ -52,7 +61,7 @@ pub record Line : Type 0 where
   pub said : Outcome
 
 abbrev pub outcome_of : Meaning → (on : Option Text) → (apart : Option Apart) → Outcome
-outcome_of (Ok value) on apart = valued (shown_value value) apart
+outcome_of (Ok value) on apart = valued (shown_of value) apart
 outcome_of (Err failure) on apart = failed failure on
 
 -- a part's own line
@@ -64,7 +73,7 @@ unneeded_line tree = record { items = []; part = tree; said = unneeded }
 
 -- that a predicate's body is evaluated on an item
 abbrev pub item_line : (body : Typed) → Value → Line
-item_line body value = record { items = []; part = body; said = is_item (shown_value value) }
+item_line body value = record { items = []; part = body; said = is_item (shown_of value) }
 
 -- that items aren't shown
 abbrev pub passed_line : Typed → (items held : ℕ) → Line
@@ -308,7 +317,7 @@ abbrev one_over_result : Typed
 one_over_result = typed.binary (binary.Wholes Divide) (the_literal 1) typed.result
 
 abbrev the_value : Value → Outcome
-the_value value = valued (shown_value value) None
+the_value value = valued (shown_of value) None
 
 abbrev fails_on_zero : Outcome
 fails_on_zero = failed (faulted DivisionByZero) (Some (codes "operands 1 and 0"))
@@ -417,7 +426,7 @@ is_long_text =
     typed.binary (binary.Equal families.Text) typed.result (typed.literal (literals.Text (long_text (codes "b"))))
 
 texts_shown_alike : map row_of (all_lines (text (long_text (codes "c"))) None is_long_text)
-    ≡ ([], is_long_text, valued (codes "false") (Some (apart_of (long_text (codes "c")) (long_text (codes "b"))))) ∷ []
+    ≡ ([], is_long_text, valued (record { text = codes "false"; exact = a_boolean false }) (Some (apart_of (long_text (codes "c")) (long_text (codes "b"))))) ∷ []
 unfolding shown_value shown_text quoted digits chars lib.Utf8.encode
 texts_shown_alike = refl
 
@@ -447,7 +456,7 @@ the_items =
     list (items_of (whole (pos 9) ∷ whole (pos 8) ∷ whole (pos 9) ∷ whole (pos 8) ∷ whole (pos 1) ∷ whole (pos 2) ∷ []))
 
 abbrev the_item : Value → Outcome
-the_item value = is_item (shown_value value)
+the_item value = is_item (shown_of value)
 
 abbrev of_item : ℕ → ℕ → Bool → List (List ℕ × Typed × Outcome)
 of_item number value holds =

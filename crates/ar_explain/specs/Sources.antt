@@ -8,10 +8,9 @@ use Rattle.ar_tree.specs.Meaning.{mean}
 use Rattle.ar_tree.specs.Typed.{Typed}
 use Rattle.ar_tree.specs.Typed as typed
 use Rattle.ar_explain.specs.Apart.{apart_on}
-use Rattle.ar_explain.specs.Lines.{Line, Outcome, body_lines, earlier_lines, failed, is_item, lines_on_item, outcome_of, passed, passed_line, unneeded, unneeded_line, valued, with_own}
+use Rattle.ar_explain.specs.Lines.{Line, Outcome, body_lines, earlier_lines, failed, is_item, lines_on_item, outcome_of, passed, passed_line, shown_of, unneeded, unneeded_line, valued, with_own}
 use Rattle.ar_explain.specs.Operands.{failed_on}
 use Rattle.ar_explain.specs.Parts.{here_at, is_evaluated_on, part_at, same_path}
-use Rattle.ar_show.specs.Values.{shown_value}
 use Rattle.ar_explain.specs.Trace.{TraceEntry, trace, with_root}
 
 -- a line says what an entry has: where a failure arises, on which operands, and how operands are apart
@@ -27,7 +26,7 @@ pub record ShowsItem (entry : TraceEntry) (line : Line) : Type 0 where
   pub on_items : line.items ≡ entry.items
   pub value : Value
   pub is_here : entry.here ≡ Some value
-  pub of_value : line.said ≡ is_item (shown_value value)
+  pub of_value : line.said ≡ is_item (shown_of value)
 
 -- one of these entries has what a line says
 abbrev pub OneHas : (TraceEntry → Line → Type 0) → List TraceEntry → Line → Type 0

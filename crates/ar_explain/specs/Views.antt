@@ -4,21 +4,26 @@ use Rattle.ar_tree.specs.Views.{typed_view}
 use Rattle.ar_explain.specs.Apart.{Apart}
 use Rattle.ar_explain.specs.declared.apart.Apart.{Apart as ApartCode}
 use Rattle.ar_operand.specs.Failures.{failure_of}
-use Rattle.ar_explain.specs.Lines.{Explanation, Line, Outcome, failed, is_item, passed, unneeded, valued}
+use Rattle.ar_explain.specs.Lines.{Explanation, Line, Outcome, Shown, failed, is_item, passed, unneeded, valued}
 use Rattle.ar_explain.specs.declared.explanation.Explanation.{Explanation as ExplanationCode}
 use Rattle.ar_explain.specs.declared.explanation.Line.{Line as LineCode}
+use Rattle.ar_exact.specs.Views.{exact_view}
 use Rattle.ar_explain.specs.declared.explanation.Said.{Said as SaidCode}
+use Rattle.ar_explain.specs.declared.explanation.Shown.{Shown as ShownCode}
 use Rattle.ar_explain.specs.declared.explanation.Said.TheVariants as said
 
 abbrev pub apart_view : ApartCode → Apart
 apart_view apart =
     record { byte = apart.byte; left = string_bytes apart.left; right = string_bytes apart.right }
 
+abbrev pub shown_view : ShownCode → Shown
+shown_view shown = record { text = string_bytes shown.text; exact = exact_view shown.exact }
+
 abbrev pub said_view : SaidCode → Outcome
-said_view (said.Valued shown) = valued (string_bytes shown.text) (option_map apart_view shown.apart)
+said_view (said.Valued shown apart) = valued (shown_view shown) (option_map apart_view apart)
 said_view (said.Failed failure on) = failed (failure_of failure) (option_map string_bytes on)
 said_view said.Unneeded = unneeded
-said_view (said.Item text) = is_item (string_bytes text)
+said_view (said.Item shown) = is_item (shown_view shown)
 said_view (said.Passed items held) = passed items held
 
 abbrev pub line_view : LineCode → Line

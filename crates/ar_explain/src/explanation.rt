@@ -6,12 +6,14 @@ ghost use Rattle.ar_machine.specs.Operand.{operand_value};
 ghost use Rattle.ar_explain.specs.Private.Keeping.{with_last, with_line};
 ghost use Rattle.ar_explain.specs.Private.Places.{place_view, said_by, with_lines_at};
 ghost use Rattle.ar_show.specs.Values.{shown_value};
-ghost use Rattle.ar_explain.specs.Views.{explanation_view, line_view, said_view};
+ghost use Rattle.ar_explain.specs.Lines.{shown_of};
+ghost use Rattle.ar_explain.specs.Views.{explanation_view, line_view, said_view, shown_view};
 
 use crate::apart::{Apart, Texts, texts_apart};
 use crate::applied::operand_ref;
 use crate::place::Place;
 use crate::seen::Seen;
+use ar_exact::{Exact, exact_of};
 use ar_machine::operand::OperandRef;
 use ar_machine::operand::borrowed::ValueRef;
 use ar_operand::operand::{Failure, Operand};
@@ -23,25 +25,24 @@ use std::collections::VecDeque;
 /// How many of the first lines are kept, and how many of the last ones.
 const MOST_AT_EACH_END: usize = 500;
 
-/// A value as it is shown.
+/// A value as people see it, and as programs have it.
 #[derive(Drop)]
 pub struct Shown {
     pub text: String,
-    /// Where the operands of the part are texts that differ and are shown alike.
-    pub apart: Option<Apart>,
+    pub exact: Exact,
 }
 
 /// What is said of a part.
 #[derive(Drop)]
 pub enum Said {
-    /// It has a value.
-    Valued(Shown),
+    /// It has a value. Where its operands are texts that differ and are shown alike, they are apart so.
+    Valued(Shown, Option<Apart>),
     /// It fails, on these operands where the failure arises in it.
     Failed(Failure, Option<String>),
     /// It wasn't needed.
     Unneeded,
     /// It is a predicate's body, evaluated on an item that is shown so.
-    Item(String),
+    Item(Shown),
     /// It is a predicate's body, evaluated on items that aren't shown, of `held` of which it holds.
     Passed { items: usize, held: usize },
 }
@@ -95,6 +96,15 @@ pub(crate) fn text_of(alloc: Global, value: OperandRef<'_, '_>) -> Result<String
     Ok(text)
 }
 
+fn shown_of(alloc: Global, value: OperandRef<'_, '_>) -> Result<Shown, AllocError>
+    ensures { IfOk result (λ shown. shown_view shown ≡ shown_of (operand_value value.entry)) }
+{
+    Ok(Shown {
+        text: text_of(alloc, value)?,
+        exact: exact_of(alloc, value)?,
+    })
+}
+
 fn owned(alloc: Global, text: Option<&str>) -> Result<Option<String>, AllocError>
     ensures { IfOk result (λ owned. option_map string_bytes owned ≡ option_map (λ text. text.now) text.entry) }
 {
@@ -108,13 +118,13 @@ pub(crate) fn said_of(alloc: Global, remark: Remark<'_, '_>) -> Result<Said, All
     ensures { IfOk result (λ said. said_view said ≡ said_by remark.entry) }
 {
     match remark {
-        Remark::Value(operand, texts) => Ok(Said::Valued(Shown {
-            text: text_of(alloc, operand_ref(operand))?,
-            apart: texts_apart(alloc, texts)?,
-        })),
+        Remark::Value(operand, texts) => {
+            let shown = shown_of(alloc, operand_ref(operand))?;
+            Ok(Said::Valued(shown, texts_apart(alloc, texts)?))
+        }
         Remark::Failure(failure, on) => Ok(Said::Failed(failure, owned(alloc, on)?)),
         Remark::Unneeded => Ok(Said::Unneeded),
-        Remark::Item(value) => Ok(Said::Item(text_of(alloc, OperandRef::Borrowed(value))?)),
+        Remark::Item(value) => Ok(Said::Item(shown_of(alloc, OperandRef::Borrowed(value))?)),
         Remark::Passed(seen) => Ok(Said::Passed {
             items: seen.items,
             held: seen.held,

@@ -3,3 +3,4 @@ pub mod Names
 pub mod Facts
 pub mod Report
 pub mod ReportData
+pub mod ReportReader

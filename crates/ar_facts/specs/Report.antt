@@ -4,8 +4,27 @@ use Rattle.ar_value.specs.Terms.{Text}
 use Rattle.ar_limits.specs.declared.counts.Counts.{Counts}
 use Rattle.ar_limits.specs.declared.limits.Limits.{Limits}
 use Rattle.ar_limits.specs.declared.phase.Phase.{Phase}
+use Rattle.ar_quote.specs.Shown.{shown_name}
+use Rattle.ar_facts.specs.declared.text.Naming.{Naming}
+use Rattle.ar_facts.specs.declared.text.Naming.TheVariants as naming
 use Rattle.ar_facts.specs.Facts.{EventFacts, FindingFacts, MetricFacts, RunFacts, judged, stopped}
 use Rattle.ar_facts.specs.Names.{effect_text, phase_name, verdict_text}
+
+-- ---- how names are printed
+
+abbrev pub printed_name : Naming → (name : Text) → Text
+printed_name naming.Verbatim name = name
+printed_name naming.Clear name = shown_name name
+
+abbrev pub printed_metric : Naming → MetricFacts → MetricFacts
+printed_metric naming metric = record metric { name = printed_name naming metric.name }
+
+abbrev pub printed_finding : Naming → FindingFacts → FindingFacts
+printed_finding naming (judged metric verdict) = judged (printed_name naming metric) verdict
+printed_finding naming stopped = stopped
+
+abbrev pub printed_event : Naming → EventFacts → EventFacts
+printed_event naming event = record event { finding = printed_finding naming event.finding }
 
 -- ---- a metric's line
 

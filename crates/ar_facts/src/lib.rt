@@ -17,4 +17,4 @@ mod text;
 
 pub use data::{write_counts, write_event, write_limits, write_metric};
 pub use names::{phase_name, put_verdict};
-pub use text::{put_counted, put_event, put_metric, put_run_line};
+pub use text::{Naming, put_counted, put_event, put_metric, put_run_line};

@@ -4,13 +4,32 @@ ghost use Rattle.std.specs.Prelude.{◌≡◌, ◌++◌, OnOk, Some, codes, deci
 ghost use Rattle.ar_bundle.specs.Bundle.{finding_at};
 ghost use Rattle.ar_facts.specs.Facts.{event_facts, finding_facts, metric_facts, name_at};
 ghost use Rattle.ar_facts.specs.Names.{effect_text};
-ghost use Rattle.ar_facts.specs.Report.{figure_text, counts_text, dry_text, errors_text, event_line, finding_text, metric_line, run_line};
+ghost use Rattle.ar_facts.specs.Report.{figure_text, counts_text, dry_text, errors_text, event_line, finding_text, metric_line, printed_name, printed_event, printed_finding, printed_metric, run_line};
 
 use crate::names::{phase_name, put_effect, put_verdict};
 use ar_bundle::{Bundle, Entry, Finding, MetricPart, RunPart, What};
 use ar_limits::{Counts, Effect, Limits, Phase};
+use ar_quote::push_name;
 use itoa::Buffer;
 use std::alloc::AllocError;
+
+/// How the names of runs and metrics are printed.
+#[derive(Clone, Copy)]
+pub enum Naming {
+    /// As the document has them.
+    Verbatim,
+    /// As a JSON string where a line of words can't have the name as it is.
+    Clear,
+}
+
+fn put_name(out: &mut String, naming: Naming, name: &str) -> Result<(), AllocError>
+    ensures { OnOk result (string_bytes out.new ≡ string_bytes out.old ++ printed_name naming name.now) }
+{
+    match naming {
+        Naming::Verbatim => out.push_str(name),
+        Naming::Clear => push_name(out, name),
+    }
+}
 
 fn put_number(out: &mut String, number: u64) -> Result<(), AllocError>
     ensures { OnOk result (string_bytes out.new ≡ string_bytes out.old ++ decimal number) }
@@ -59,16 +78,17 @@ fn put_dry(out: &mut String, own: Limits) -> Result<(), AllocError>
 /// Writes the line of a metric after what is in a text.
 pub fn put_metric(
     out: &mut String,
+    naming: Naming,
     metric: &MetricPart,
     own: Limits,
     phase: Phase,
     counts: Counts,
 ) -> Result<(), AllocError>
-    ensures { OnOk result
-        (string_bytes out.new ≡ string_bytes out.old ++ metric_line (metric_facts metric.now own phase counts)) }
+    ensures { OnOk result (string_bytes out.new
+        ≡ string_bytes out.old ++ metric_line (printed_metric naming (metric_facts metric.now own phase counts))) }
 {
     out.push_str("metric ")?;
-    out.push_str(metric.name.as_str())?;
+    put_name(out, naming, metric.name.as_str())?;
     out.push_str(" ")?;
     out.push_str(phase_name(phase))?;
     put_counts(out, counts)?;
@@ -89,16 +109,17 @@ pub(crate) fn name_at(metrics: &[MetricPart], metric: usize) -> &str
 /// The result of an entry: its metric and verdict, or that it is a stop.
 fn put_finding(
     out: &mut String,
+    naming: Naming,
     metrics: &[MetricPart],
     what: &What,
     finding: Finding,
 ) -> Result<(), AllocError>
     ensures { OnOk result (string_bytes out.new
-        ≡ string_bytes out.old ++ finding_text (finding_facts metrics.now what.now finding)) }
+        ≡ string_bytes out.old ++ finding_text (printed_finding naming (finding_facts metrics.now what.now finding))) }
 {
     match (what, finding) {
         (What::Measure(metric, _), Finding::Judged(verdict)) => {
-            out.push_str(name_at(metrics, *metric))?;
+            put_name(out, naming, name_at(metrics, *metric))?;
             out.push_str(" ")?;
             put_verdict(out, verdict)
         }
@@ -108,14 +129,19 @@ fn put_finding(
 
 /// Writes the line of an event after what is in a text.
 #[tactic(auto, using(crate::proofs::Lines::found_inside))]
-pub fn put_event(out: &mut String, bundle: &Bundle, entry: Entry) -> Result<(), AllocError>
+pub fn put_event(
+    out: &mut String,
+    naming: Naming,
+    bundle: &Bundle,
+    entry: Entry,
+) -> Result<(), AllocError>
     requires { finding_at bundle.now entry.number ≡ Some entry.finding }
-    ensures { OnOk result
-        (string_bytes out.new ≡ string_bytes out.old ++ event_line (event_facts bundle.now entry.number entry.effect)) }
+    ensures { OnOk result (string_bytes out.new ≡ string_bytes out.old
+        ++ event_line (printed_event naming (event_facts bundle.now entry.number entry.effect))) }
 {
     let what = &bundle.entries()[entry.number as usize].what;
     put_event_number(out, entry.number)?;
-    put_finding(out, bundle.metrics(), what, entry.finding)?;
+    put_finding(out, naming, bundle.metrics(), what, entry.finding)?;
     put_event_effect(out, entry.effect)
 }
 
@@ -138,11 +164,17 @@ fn put_event_effect(out: &mut String, effect: Effect) -> Result<(), AllocError>
 }
 
 /// Writes the line of a run after what is in a text.
-pub fn put_run_line(out: &mut String, run: &RunPart, phase: Phase) -> Result<(), AllocError>
-    ensures { OnOk result (string_bytes out.new ≡ string_bytes out.old ++ run_line run.now.name phase) }
+pub fn put_run_line(
+    out: &mut String,
+    naming: Naming,
+    run: &RunPart,
+    phase: Phase,
+) -> Result<(), AllocError>
+    ensures { OnOk result
+        (string_bytes out.new ≡ string_bytes out.old ++ run_line (printed_name naming run.now.name) phase) }
 {
     out.push_str("run ")?;
-    out.push_str(run.name.as_str())?;
+    put_name(out, naming, run.name.as_str())?;
     out.push_str(" ")?;
     out.push_str(phase_name(phase))?;
     out.push_str("\n")

@@ -3,3 +3,4 @@ pub mod Walked
 pub mod Faults
 pub mod Paths
 pub mod Sizes
+pub mod Steps

@@ -1,5 +1,5 @@
 -- Items and fields that were looked at, one after another.
-use Rattle.std.proofs.Common.{◌≡◌, ℕ, zero, suc, ◌+◌, ◌<◌, ◌≤◌, min, Bool, false, List, [], ◌∷◌, ◌++◌, length, drop, Option, Some, None, option_map, refl, sym, ap, ◌∙◌, arith, add-one, append_assoc, drop-cons}
+use Rattle.std.proofs.Common.{◌≡◌, ℕ, zero, suc, ◌+◌, ◌<◌, ◌≤◌, min, List, [], ◌∷◌, length, drop, Option, Some, None, option_map, refl, sym, ap, ◌∙◌, arith, add-one, drop-cons}
 use Rattle.std.specs.Option.{option_or}
 use Rattle.std.specs.Prelude.{slice_index_or}
 use Rattle.std.proofs.lemmas.Bool.Decides.{nat_tests}
@@ -17,22 +17,13 @@ use Rattle.ar_value.proofs.FieldLists.{Of, field_at, no_field_at}
 use Rattle.ar_json.specs.declared.value_reading.ShapeFault.TheVariants.{ListTooLong}
 use Rattle.ar_misfit.proofs.Viewed.{count_of_view}
 use Rattle.ar_misfit.specs.Misfit.{Misfit, Step, index, named, after_step, field_misfit, fields_misfit, items_misfit, list_misfit, misfit_as, misfit_here}
-use Rattle.ar_misfit.specs.MisfitText.{fault_text, path_text, step_text, text_from}
 
--- a misfit after a step
-longer_text : (step : Step) (whole : Bool) (m : Misfit) → text_from whole (after_step step m) ≡ step_text step ++ text_from false m
-longer_text step whole m = append_assoc (step_text step) (path_text false m.path) (fault_text m.expected m.found m.fault)
+pub found_after : (step : Step) (found later : Option Misfit) (m longer : Misfit) → Some m ≡ found → longer ≡ after_step step m
+    → Some longer ≡ option_or (option_map (after_step step) found) later
+found_after step found later m longer is after = rw (← is, after) refl
 
-pub said_after : (step : Step) (whole : Bool) (found later : Option Misfit) (text longer : List ℕ) → Some text ≡ option_map (text_from false) found → longer ≡ step_text step ++ text
-    → Some longer ≡ option_map (text_from whole) (option_or (option_map (after_step step) found) later)
-said_after step whole None later text longer said is = absurd (cc)
-said_after step whole (Some m) later text longer said is =
-    let same : text ≡ text_from false m = cc in
-    ap (λ (t : List ℕ). Some t) (is ∙ ap (λ t. step_text step ++ t) same ∙ sym (longer_text step whole m))
-
-pub passed_by : (step : Step) (found later : Option Misfit) → None ≡ option_map (text_from false) found → option_or (option_map (after_step step) found) later ≡ later
-passed_by step None later said = refl
-passed_by step (Some m) later said = absurd (cc)
+pub passed_by : (step : Step) (found later : Option Misfit) → None ≡ found → option_or (option_map (after_step step) found) later ≡ later
+passed_by step found later is = rw (← is) refl
 
 -- ---- items
 
@@ -56,27 +47,27 @@ item_here : (M : Data → Option Misfit) (items : List Json) (i : ℕ) (x : Json
     → items_misfit M i (items_view (drop i items)) ≡ option_or (option_map (after_step (index i)) (M (view x))) (items_misfit M (i + 1) (items_view (drop (i + 1) items)))
 item_here M items i x inside is = rw add-one (front M i (drop i items) (drop (suc i) items) x (drop-cons items i x inside ∙ ap (λ y. y ∷ drop (suc i) items) (sym is)))
 
-pub item_said : (M : Data → Option Misfit) (items : List Json) (i : ℕ) (x : Json) (whole : Bool) (text longer : List ℕ) → i < length items → x ≡ slice_index_or items i x
+pub item_found : (M : Data → Option Misfit) (items : List Json) (i : ℕ) (x : Json) (m longer : Misfit) → i < length items → x ≡ slice_index_or items i x
     → items_misfit M 0 (items_view items) ≡ items_misfit M i (items_view (drop i items))
-    → Some text ≡ option_map (text_from false) (M (view x)) → longer ≡ step_text (index i) ++ text
-    → Some longer ≡ option_map (text_from whole) (items_misfit M 0 (items_view items))
-item_said M items i x whole text longer inside is before said after =
-    said_after (index i) whole (M (view x)) (items_misfit M (i + 1) (items_view (drop (i + 1) items))) text longer said after
-    ∙ sym (ap (option_map (text_from whole)) (before ∙ item_here M items i x inside is))
+    → Some m ≡ M (view x) → longer ≡ after_step (index i) m
+    → Some longer ≡ items_misfit M 0 (items_view items)
+item_found M items i x m longer inside is before found after =
+    found_after (index i) (M (view x)) (items_misfit M (i + 1) (items_view (drop (i + 1) items))) m longer found after
+    ∙ sym (before ∙ item_here M items i x inside is)
 
 pub item_passed : (M : Data → Option Misfit) (items : List Json) (i : ℕ) (x : Json) → i < length items → x ≡ slice_index_or items i x
     → items_misfit M 0 (items_view items) ≡ items_misfit M i (items_view (drop i items))
-    → None ≡ option_map (text_from false) (M (view x))
+    → None ≡ M (view x)
     → items_misfit M 0 (items_view items) ≡ items_misfit M (i + 1) (items_view (drop (i + 1) items))
 item_passed M items i x inside is before said =
     before ∙ item_here M items i x inside is ∙ passed_by (index i) (M (view x)) (items_misfit M (i + 1) (items_view (drop (i + 1) items))) said
 
-pub no_item_left : (M : Data → Option Misfit) (items : List Json) (i : ℕ) (whole : Bool) → length items ≤ i
+pub no_item_left : (M : Data → Option Misfit) (items : List Json) (i : ℕ) → length items ≤ i
     → items_misfit M 0 (items_view items) ≡ items_misfit M i (items_view (drop i items))
-    → None ≡ option_map (text_from whole) (items_misfit M 0 (items_view items))
-no_item_left M items i whole past before =
+    → None ≡ items_misfit M 0 (items_view items)
+no_item_left M items i past before =
     let none : drop i items ≡ [] = drop_of_length-le items past in
-    sym (ap (option_map (text_from whole)) (before ∙ ap (λ left. items_misfit M i (items_view left)) none))
+    sym (before ∙ ap (λ left. items_misfit M i (items_view left)) none)
 
 -- ---- fields
 
@@ -89,8 +80,8 @@ module _ (names : List (List ℕ)) (of : List ShapeCode) (d : Data) (i : ℕ) wh
   abbrev pub so_far : Type 0
   so_far = fields_misfit (Of names of) d ≡ fields_misfit (Of (drop i names) (drop i of)) d
 
-  pub no_field_left : (whole : Bool) → min (length names) (length of) ≤ i → so_far → None ≡ option_map (text_from whole) (fields_misfit (Of names of) d)
-  no_field_left whole past before = sym (ap (option_map (text_from whole)) (before ∙ ap (λ left. fields_misfit left d) (no_field_at names of i past)))
+  pub no_field_left : min (length names) (length of) ≤ i → so_far → None ≡ fields_misfit (Of names of) d
+  no_field_left past before = sym (before ∙ ap (λ left. fields_misfit left d) (no_field_at names of i past))
 
   module _ (name : List ℕ) (in_names : i < length names) (in_shapes : i < length of) (is_name : name ≡ slice_index_or names i name) (found : Option Data) (is_found : found ≡ get name d) where
     abbrev here : ShapeCode → Option Data → Option Misfit
@@ -99,24 +90,24 @@ module _ (names : List (List ℕ)) (of : List ShapeCode) (d : Data) (i : ℕ) wh
     abbrev later : Option Misfit
     later = fields_misfit (Of (drop (i + 1) names) (drop (i + 1) of)) d
 
-    -- what is said of the field here, under the shape at the same index
-    abbrev pub Said : Option (List ℕ) → Type 0
-    Said text = (shape : ShapeCode) → shape ≡ slice_index_or of i shape → text ≡ option_map (text_from false) (here shape found)
+    -- what is found in the field here, under the shape at the same index
+    abbrev pub Found : Option Misfit → Type 0
+    Found misfit = (shape : ShapeCode) → shape ≡ slice_index_or of i shape → misfit ≡ here shape found
 
     field_here : (shape : ShapeCode) → shape ≡ slice_index_or of i shape → fields_misfit (Of (drop i names) (drop i of)) d ≡ option_or (option_map (after_step (named name)) (here shape (get name d))) later
     field_here shape is_shape = rw (field_at names of i name shape in_names in_shapes is_name is_shape) refl
 
-    same : (shape : ShapeCode) (text : Option (List ℕ)) → text ≡ option_map (text_from false) (here shape found) → text ≡ option_map (text_from false) (here shape (get name d))
-    same shape text said = said ∙ ap (λ there. option_map (text_from false) (here shape there)) is_found
+    same : (shape : ShapeCode) (misfit : Option Misfit) → misfit ≡ here shape found → misfit ≡ here shape (get name d)
+    same shape misfit is = is ∙ ap (λ there. here shape there) is_found
 
-    pub field_said : (whole : Bool) (text longer : List ℕ) → so_far → Said (Some text) → longer ≡ step_text (named name) ++ text
-        → Some longer ≡ option_map (text_from whole) (fields_misfit (Of names of) d)
-    field_said whole text longer before said after =
+    pub field_found : (m longer : Misfit) → so_far → Found (Some m) → longer ≡ after_step (named name) m
+        → Some longer ≡ fields_misfit (Of names of) d
+    field_found m longer before found_here after =
         let at = item_of of i in_shapes in
-        said_after (named name) whole (here at.0 (get name d)) later text longer (same at.0 (Some text) (said at.0 at.1)) after
-        ∙ sym (ap (option_map (text_from whole)) (before ∙ field_here at.0 at.1))
+        found_after (named name) (here at.0 (get name d)) later m longer (same at.0 (Some m) (found_here at.0 at.1)) after
+        ∙ sym (before ∙ field_here at.0 at.1)
 
-    pub field_passed : so_far → Said None → fields_misfit (Of names of) d ≡ later
-    field_passed before said =
+    pub field_passed : so_far → Found None → fields_misfit (Of names of) d ≡ later
+    field_passed before found_here =
         let at = item_of of i in_shapes in
-        before ∙ field_here at.0 at.1 ∙ passed_by (named name) (here at.0 (get name d)) later (same at.0 None (said at.0 at.1))
+        before ∙ field_here at.0 at.1 ∙ passed_by (named name) (here at.0 (get name d)) later (same at.0 None (found_here at.0 at.1))

@@ -1,3 +1,6 @@
 pub mod Misfit
+pub mod Views
 pub mod MisfitText
+pub mod MisfitData
 pub mod Examples
+pub mod Private

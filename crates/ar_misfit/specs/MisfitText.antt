@@ -1,5 +1,5 @@
 -- How a misfit is said to a person: its path, the fault's name, what was expected there and what was found.
-use Rattle.std.specs.Prelude.{Bool, true, false, if◌then◌else◌, List, [], ◌∷◌, ◌++◌, codes, decimal, Option, Some, None}
+use Rattle.std.specs.Prelude.{List, [], ◌∷◌, ◌++◌, codes, decimal, flat_map, Option, Some, None}
 use Rattle.std.specs.Fmt.{signed_decimal}
 use Rattle.serde_json.specs.Data as json
 use Rattle.serde_json.specs.Data.{Data, Num}
@@ -22,10 +22,9 @@ abbrev pub step_text : Step → Text
 step_text (index n) = codes "[" ++ (decimal n ++ codes "]")
 step_text (named name) = field_text name
 
--- `whole`: no step comes before these
-abbrev pub path_text : (whole : Bool) → List Step → Text
-path_text whole [] = if whole then codes "the value" else []
-path_text whole (step ∷ steps) = step_text step ++ path_text false steps
+abbrev pub path_text : List Step → Text
+path_text [] = codes "the value"
+path_text (step ∷ steps) = flat_map step_text (step ∷ steps)
 
 -- ---- what was expected and found
 
@@ -55,41 +54,36 @@ found_text (Some (json.object given)) = codes "an object"
 
 -- ---- what to do
 
-abbrev pub float_advice : Shape → Text
-float_advice shapes.bool = []
-float_advice shapes.whole = []
-float_advice shapes.decimal = codes "; write it as a text, as \"0.95\""
-float_advice shapes.text = []
-float_advice (shapes.list shape max) = []
-float_advice (shapes.object of) = []
+abbrev pub float_advice : (expected : Shape) → Option Text
+float_advice shapes.bool = None
+float_advice shapes.whole = Some (codes "an integer has no point and no exponent, and 64 bits")
+float_advice shapes.decimal = Some (codes "write the number in quotes, as a text")
+float_advice shapes.text = None
+float_advice (shapes.list shape max) = None
+float_advice (shapes.object of) = None
 float_advice (shapes.optional shape) = float_advice shape
 
-abbrev pub advice : ShapeFault → (expected : Shape) → Text
-advice WrongKind expected = []
+abbrev pub advice : ShapeFault → (expected : Shape) → Option Text
+advice WrongKind expected = None
 advice FloatNumber expected = float_advice expected
-advice NotFinite expected = codes "; it is no value, and counts towards consecutiveErrorLimit"
-advice BadDecimal expected = []
-advice OutOfRange expected = []
-advice ListTooLong expected = []
-advice MissingField expected = []
-advice OutOfMemory expected = []
+advice NotFinite expected = Some (codes "it is no value, and counts towards consecutiveErrorLimit")
+advice BadDecimal expected = None
+advice OutOfRange expected = None
+advice ListTooLong expected = None
+advice MissingField expected = None
+advice OutOfMemory expected = None
+
+abbrev pub advice_text : Option Text → Text
+advice_text None = []
+advice_text (Some words) = codes "; " ++ words
 
 -- ---- the whole text
 
 -- what comes after the path
-abbrev pub fault_text : (expected : Shape) → (found : Option Data) → ShapeFault → Text
-fault_text expected found fault =
-    codes ": " ++ (shape_fault_name fault ++ (codes ": expected " ++ (expected_text expected ++ (codes ", found "
-    ++ (found_text found ++ advice fault expected)))))
-
--- `whole`: no step comes before its path
-abbrev pub text_from : (whole : Bool) → Misfit → Text
-text_from whole misfit = path_text whole misfit.path ++ fault_text misfit.expected misfit.found misfit.fault
+abbrev pub fault_text : Misfit → Text
+fault_text misfit =
+    codes ": " ++ (shape_fault_name misfit.fault ++ (codes ": expected " ++ (expected_text misfit.expected
+    ++ (codes ", found " ++ (found_text misfit.found ++ advice_text (advice misfit.fault misfit.expected))))))
 
 unfoldable pub misfit_text : Misfit → Text
-misfit_text misfit = text_from true misfit
-
--- nothing is said of what fits
-unfoldable pub misfit_text_of : Option Misfit → Text
-misfit_text_of None = []
-misfit_text_of (Some misfit) = misfit_text misfit
+misfit_text misfit = path_text misfit.path ++ fault_text misfit

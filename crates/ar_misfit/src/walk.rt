@@ -1,6 +1,6 @@
 //! The first misfit of a value under a shape.
 
-ghost use Rattle.std.specs.Prelude.{◌≡◌, ◌<◌, ◌++◌, false, IfOk, OnOk, Some, length, map, option_map, slice_index_or, string_bytes};
+ghost use Rattle.std.specs.Prelude.{◌≡◌, ◌<◌, false, IfOk, Some, length, map, option_map, slice_index_or};
 ghost use Rattle.serde_json.specs.View.{items_view, view};
 ghost use Rattle.ar_value.specs.Shape as shapes;
 ghost use Rattle.ar_value.specs.Shape.{field_shapes_of};
@@ -10,9 +10,10 @@ ghost use Rattle.ar_json.specs.Reading.{is_memory_under, read};
 ghost use Rattle.ar_json.specs.declared.value_reading.ShapeFault.{ShapeFault};
 ghost use Rattle.ar_json.specs.declared.value_reading.ShapeFault.TheVariants.{WrongKind};
 ghost use Rattle.ar_misfit.specs.Misfit.{absent_misfit, field_misfit, fields_misfit, items_misfit, misfit, misfit_as, misfit_here, misfit_if_refused};
-ghost use Rattle.ar_misfit.specs.MisfitText.{misfit_text_of, text_from};
+ghost use Rattle.ar_misfit.specs.Private.Inward.{inward_view};
+ghost use Rattle.ar_misfit.specs.Views.{misfit_view};
 
-use crate::words::{text_after_index, text_after_name, text_here};
+use crate::misfit::{Misfit, Step};
 use ar_json::{ShapeFault, read_value};
 use ar_value::kind::is_optional;
 use ar_value::names::Names;
@@ -21,239 +22,208 @@ use ar_value::text::Text;
 use serde_json::Value as Json;
 use std::alloc::{AllocError, Global};
 
-/// Appends where a JSON value doesn't fit a shape, and what was expected there; nothing where it fits. The recursion
-/// descends the shape, and each part of the value is looked at once.
-#[tactic(auto, unfolding(crate::specs::Misfit::misfit, crate::specs::MisfitText::misfit_text, crate::specs::MisfitText::misfit_text_of))]
-pub fn push_misfit(
+/// Where a JSON value doesn't fit a shape first, if it doesn't. The recursion descends the shape, and each part of the
+/// value is looked at once.
+#[tactic(auto, unfolding(crate::specs::Misfit::misfit))]
+pub fn misfit_of<'d>(
     alloc: Global,
-    out: &mut String,
-    json: &Json,
-    shape: &Shape,
-) -> Result<(), AllocError>
-    ensures { OnOk result (string_bytes out.new ≡ string_bytes out.old
-        ++ misfit_text_of (misfit (shape_view shape.now) (view json.now))) }
+    json: &'d Json,
+    shape: &'d Shape,
+) -> Result<Option<Misfit<'d>>, AllocError>
+    ensures { IfOk result
+        (λ found. option_map misfit_view found ≡ misfit (shape_view shape.now) (view json.now)) }
 {
-    match text_under(alloc, shape, json, shape, true)? {
-        Some(text) => out.push_str(&text),
-        None => Ok(()),
+    match misfit_under(alloc, shape, json, shape)? {
+        Some(misfit) => Ok(Some(misfit.outward())),
+        None => Ok(None),
     }
 }
 
-/// The text of a value's first misfit. `expected`: the shape with which it is read, which may be an optional one of
-/// `shape`; `whole`: no step leads to it.
-#[cycle(text_under)]
-fn text_under(
+/// A value's first misfit. `expected`: the shape with which it is read, which may be an optional one of `shape`.
+#[cycle(misfit_under)]
+fn misfit_under<'d>(
     alloc: Global,
-    shape: &Shape,
-    json: &Json,
-    expected: &Shape,
-    whole: bool,
-) -> Result<Option<String>, AllocError>
-    ensures { IfOk result (λ text. option_map string_bytes text ≡ option_map (text_from whole)
-        (misfit_as (shape_view expected.now) (shape_view shape.now) (view json.now))) }
+    shape: &'d Shape,
+    json: &'d Json,
+    expected: &'d Shape,
+) -> Result<Option<Misfit<'d>>, AllocError>
+    ensures { IfOk result (λ found. option_map inward_view found
+        ≡ misfit_as (shape_view expected.now) (shape_view shape.now) (view json.now)) }
 {
     match shape {
-        Shape::Bool | Shape::Whole | Shape::Decimal => {
-            scalar_text(alloc, shape, json, expected, whole)
+        Shape::Bool | Shape::Whole | Shape::Decimal => scalar_misfit(alloc, shape, json, expected),
+        Shape::Text => Ok(text_misfit(alloc, json, expected)),
+        Shape::List { item, max } => list_misfit(alloc, item, *max, json, expected),
+        Shape::Object(fields) => {
+            record_misfit(alloc, &fields.shapes, &fields.names, json, expected)
         }
-        Shape::Text => literal_text(alloc, json, expected, whole),
-        Shape::List { item, max } => list_text(alloc, item, *max, json, expected, whole),
-        Shape::Object(fields) => record_text(
-            alloc,
-            &fields.shapes,
-            &fields.names,
-            json,
-            expected,
-            whole,
-        ),
-        Shape::Optional(plain) => optional_text(alloc, plain, json, expected, whole),
+        Shape::Optional(plain) => optional_misfit(alloc, plain, json, expected),
     }
 }
 
-/// The text of what is no value of a shape's kind.
-fn wrong_kind_text(
-    alloc: Global,
-    json: &Json,
-    expected: &Shape,
-    whole: bool,
-) -> Result<Option<String>, AllocError>
-    ensures { IfOk result (λ text. option_map string_bytes text ≡ Some (text_from whole
-        (misfit_here (shape_view expected.now) (Some (view json.now)) WrongKind))) }
+/// What is no value of a shape's kind.
+fn wrong_kind<'d>(alloc: Global, json: &'d Json, expected: &'d Shape) -> Option<Misfit<'d>>
+    ensures { option_map inward_view result
+        ≡ Some (misfit_here (shape_view expected.now) (Some (view json.now)) WrongKind) }
 {
-    let text = text_here(alloc, whole, expected, Some(json), ShapeFault::WrongKind)?;
-    Ok(Some(text))
+    Some(Misfit::here(alloc, expected, Some(json), ShapeFault::WrongKind))
 }
 
 /// Under a shape whose values take no memory.
-fn scalar_text(
+fn scalar_misfit<'d>(
     alloc: Global,
     shape: &Shape,
-    json: &Json,
-    expected: &Shape,
-    whole: bool,
-) -> Result<Option<String>, AllocError>
+    json: &'d Json,
+    expected: &'d Shape,
+) -> Result<Option<Misfit<'d>>, AllocError>
     requires { (fault : ShapeFault) → is_memory_under (shape_view shape.now) fault ≡ false }
-    ensures { IfOk result (λ text. option_map string_bytes text ≡ option_map (text_from whole)
-        (misfit_if_refused (shape_view expected.now) (view json.now) (read (shape_view shape.now) (view json.now)))) }
+    ensures { IfOk result (λ found. option_map inward_view found ≡ misfit_if_refused (shape_view expected.now)
+        (view json.now) (read (shape_view shape.now) (view json.now))) }
 {
     match read_value(alloc, json, shape) {
         Ok(_) => Ok(None),
-        Err(fault) => Ok(Some(text_here(alloc, whole, expected, Some(json), fault)?)),
+        Err(fault) => Ok(Some(Misfit::here(alloc, expected, Some(json), fault))),
     }
 }
 
 /// Under the shape of texts.
-fn literal_text(
-    alloc: Global,
-    json: &Json,
-    expected: &Shape,
-    whole: bool,
-) -> Result<Option<String>, AllocError>
-    ensures { IfOk result (λ text. option_map string_bytes text ≡ option_map (text_from whole)
-        (misfit_as (shape_view expected.now) shapes.text (view json.now))) }
+fn text_misfit<'d>(alloc: Global, json: &'d Json, expected: &'d Shape) -> Option<Misfit<'d>>
+    ensures { option_map inward_view result ≡ misfit_as (shape_view expected.now) shapes.text (view json.now) }
 {
     match json {
-        Json::String(_) => Ok(None),
+        Json::String(_) => None,
         Json::Null | Json::Bool(_) | Json::Number(_) | Json::Array(_) | Json::Object(_) => {
-            wrong_kind_text(alloc, json, expected, whole)
+            wrong_kind(alloc, json, expected)
         }
     }
 }
 
 /// Null fits, and anything else is looked at under the plain shape.
-#[cycle(text_under)]
-fn optional_text(
+#[cycle(misfit_under)]
+fn optional_misfit<'d>(
     alloc: Global,
-    plain: &Shape,
-    json: &Json,
-    expected: &Shape,
-    whole: bool,
-) -> Result<Option<String>, AllocError>
-    ensures { IfOk result (λ text. option_map string_bytes text ≡ option_map (text_from whole)
-        (misfit_as (shape_view expected.now) (shapes.optional (shape_view plain.now)) (view json.now))) }
+    plain: &'d Shape,
+    json: &'d Json,
+    expected: &'d Shape,
+) -> Result<Option<Misfit<'d>>, AllocError>
+    ensures { IfOk result (λ found. option_map inward_view found
+        ≡ misfit_as (shape_view expected.now) (shapes.optional (shape_view plain.now)) (view json.now)) }
 {
     match json {
         Json::Null => Ok(None),
         Json::Bool(_) | Json::Number(_) | Json::String(_) | Json::Array(_) | Json::Object(_) => {
-            text_under(alloc, plain, json, expected, whole)
+            misfit_under(alloc, plain, json, expected)
         }
     }
 }
 
-#[cycle(text_under)]
-fn list_text(
+#[cycle(misfit_under)]
+fn list_misfit<'d>(
     alloc: Global,
-    item: &Shape,
+    item: &'d Shape,
     max: usize,
-    json: &Json,
-    expected: &Shape,
-    whole: bool,
-) -> Result<Option<String>, AllocError>
-    ensures { IfOk result (λ text. option_map string_bytes text ≡ option_map (text_from whole)
-        (misfit_as (shape_view expected.now) (shapes.list (shape_view item.now) max) (view json.now))) }
+    json: &'d Json,
+    expected: &'d Shape,
+) -> Result<Option<Misfit<'d>>, AllocError>
+    ensures { IfOk result (λ found. option_map inward_view found
+        ≡ misfit_as (shape_view expected.now) (shapes.list (shape_view item.now) max) (view json.now)) }
 {
     match json {
         Json::Array(items) => {
             if items.len() > max {
                 let fault = ShapeFault::ListTooLong;
-                return Ok(Some(text_here(alloc, whole, expected, Some(json), fault)?));
+                return Ok(Some(Misfit::here(alloc, expected, Some(json), fault)));
             }
-            items_text(alloc, item, items, whole)
+            items_misfit(alloc, item, items)
         }
         Json::Null | Json::Bool(_) | Json::Number(_) | Json::String(_) | Json::Object(_) => {
-            wrong_kind_text(alloc, json, expected, whole)
+            Ok(wrong_kind(alloc, json, expected))
         }
     }
 }
 
-#[cycle(text_under)]
-fn items_text(
+#[cycle(misfit_under)]
+fn items_misfit<'d>(
     alloc: Global,
-    item: &Shape,
-    items: &[Json],
-    whole: bool,
-) -> Result<Option<String>, AllocError>
-    ensures { IfOk result (λ text. option_map string_bytes text ≡ option_map (text_from whole)
-        (items_misfit (λ d. misfit_as (shape_view item.now) (shape_view item.now) d) 0 (items_view items.now))) }
+    item: &'d Shape,
+    items: &'d [Json],
+) -> Result<Option<Misfit<'d>>, AllocError>
+    ensures { IfOk result (λ found. option_map inward_view found
+        ≡ items_misfit (λ d. misfit_as (shape_view item.now) (shape_view item.now) d) 0 (items_view items.now)) }
 {
     for index in 0..items.len() {
-        if let Some(text) = text_under(alloc, item, &items[index], item, false)? {
-            return Ok(Some(text_after_index(alloc, index, &text)?));
+        if let Some(misfit) = misfit_under(alloc, item, &items[index], item)? {
+            return Ok(Some(misfit.after(Step::Index(index))?));
         }
     }
     Ok(None)
 }
 
-#[cycle(text_under)]
-fn record_text(
+#[cycle(misfit_under)]
+fn record_misfit<'d>(
     alloc: Global,
-    of: &[Shape],
-    names: &Names,
-    json: &Json,
-    expected: &Shape,
-    whole: bool,
-) -> Result<Option<String>, AllocError>
-    ensures { IfOk result (λ text. option_map string_bytes text ≡ option_map (text_from whole)
-        (misfit_as (shape_view expected.now)
-        (shapes.object (field_shapes_of names.now (map shape_view of.now))) (view json.now))) }
+    of: &'d [Shape],
+    names: &'d Names,
+    json: &'d Json,
+    expected: &'d Shape,
+) -> Result<Option<Misfit<'d>>, AllocError>
+    ensures { IfOk result (λ found. option_map inward_view found ≡ misfit_as (shape_view expected.now)
+        (shapes.object (field_shapes_of names.now (map shape_view of.now))) (view json.now)) }
 {
     match json {
-        Json::Object(_) => fields_text(alloc, of, names.as_slice(), json, whole),
+        Json::Object(_) => fields_misfit(alloc, of, names.as_slice(), json),
         Json::Null | Json::Bool(_) | Json::Number(_) | Json::String(_) | Json::Array(_) => {
-            wrong_kind_text(alloc, json, expected, whole)
+            Ok(wrong_kind(alloc, json, expected))
         }
     }
 }
 
-#[cycle(text_under)]
-fn fields_text(
+#[cycle(misfit_under)]
+fn fields_misfit<'d>(
     alloc: Global,
-    of: &[Shape],
-    names: &[Text],
-    json: &Json,
-    whole: bool,
-) -> Result<Option<String>, AllocError>
-    ensures { IfOk result (λ text. option_map string_bytes text ≡ option_map (text_from whole)
-        (fields_misfit (field_shapes_of names.now (map shape_view of.now)) (view json.now))) }
+    of: &'d [Shape],
+    names: &'d [Text],
+    json: &'d Json,
+) -> Result<Option<Misfit<'d>>, AllocError>
+    ensures { IfOk result (λ found. option_map inward_view found
+        ≡ fields_misfit (field_shapes_of names.now (map shape_view of.now)) (view json.now)) }
 {
     for index in 0..names.len().min(of.len()) {
         let name = names[index].as_str();
         let found = json.get(name);
-        if let Some(text) = nth_text(alloc, of, index, found)? {
-            return Ok(Some(text_after_name(alloc, name, &text)?));
+        if let Some(misfit) = nth_misfit(alloc, of, index, found)? {
+            return Ok(Some(misfit.after(Step::Named(name))?));
         }
     }
     Ok(None)
 }
 
 /// Under the shape at an index, of a field that may be absent.
-#[cycle(text_under)]
-fn nth_text(
+#[cycle(misfit_under)]
+fn nth_misfit<'d>(
     alloc: Global,
-    of: &[Shape],
+    of: &'d [Shape],
     index: usize,
-    found: Option<&Json>,
-) -> Result<Option<String>, AllocError>
+    found: Option<&'d Json>,
+) -> Result<Option<Misfit<'d>>, AllocError>
     requires { index < length of.now }
     ensures { (shape : Shape) → shape ≡ slice_index_or of.now index shape
-        → IfOk result (λ text. option_map string_bytes text ≡ option_map (text_from false)
-        (field_misfit (λ d. misfit_as (shape_view shape) (shape_view shape) d) (shape_view shape)
-        (option_map (λ json. view json.now) found.entry))) }
+        → IfOk result (λ misfit. option_map inward_view misfit
+        ≡ field_misfit (λ d. misfit_as (shape_view shape) (shape_view shape) d) (shape_view shape)
+        (option_map (λ json. view json.now) found.entry)) }
 {
     match found {
-        Some(json) => text_under(alloc, &of[index], json, &of[index], false),
-        None => absent_text(alloc, &of[index]),
+        Some(json) => misfit_under(alloc, &of[index], json, &of[index]),
+        None => Ok(absent_misfit(alloc, &of[index])),
     }
 }
 
 /// Of a field that is absent: it fits where it is optional.
-fn absent_text(alloc: Global, shape: &Shape) -> Result<Option<String>, AllocError>
-    ensures { IfOk result (λ text. option_map string_bytes text ≡ option_map (text_from false)
-        (absent_misfit (shape_view shape.now))) }
+fn absent_misfit<'d>(alloc: Global, shape: &'d Shape) -> Option<Misfit<'d>>
+    ensures { option_map inward_view result ≡ absent_misfit (shape_view shape.now) }
 {
     if is_optional(shape) {
-        return Ok(None);
+        return None;
     }
-    let text = text_here(alloc, false, shape, None, ShapeFault::MissingField)?;
-    Ok(Some(text))
+    Some(Misfit::here(alloc, shape, None, ShapeFault::MissingField))
 }

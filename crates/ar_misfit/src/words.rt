@@ -1,20 +1,21 @@
 //! What is said of a misfit.
 
-ghost use Rattle.std.specs.Prelude.{◌≡◌, ◌++◌, IfOk, OnOk, Some, option_map, string_bytes};
+ghost use Rattle.std.specs.Prelude.{◌≡◌, ◌++◌, OnOk, Some, flat_map, map, option_map, string_bytes};
 ghost use Rattle.serde_json.specs.View.{number_view, view};
 ghost use Rattle.ar_value.specs.View.{shape_view};
-ghost use Rattle.ar_misfit.specs.Misfit.{index, misfit_here, named};
-ghost use Rattle.ar_misfit.specs.MisfitText.{advice, expected_text, fault_text, float_advice, found_text, number_shown, path_text, step_text, text_from};
+ghost use Rattle.ar_misfit.specs.MisfitText.{advice, advice_text, expected_text, fault_text, float_advice, found_text, misfit_text, number_shown, path_text, step_text};
+ghost use Rattle.ar_misfit.specs.Views.{misfit_view, step_view};
 
+use crate::misfit::{Misfit, Step};
 use ar_json::ShapeFault;
 use ar_quote::push_quoted;
 use ar_show::{push_boolean, push_field_name};
 use ar_value::shape::Shape;
 use serde_json::{Number, Value as Json};
-use std::alloc::{AllocError, Global};
+use std::alloc::AllocError;
 use std::fmt::Write;
 
-fn push_expected(out: &mut String, shape: &Shape) -> Result<(), AllocError>
+pub(crate) fn push_expected(out: &mut String, shape: &Shape) -> Result<(), AllocError>
     ensures { OnOk result (string_bytes out.new ≡ string_bytes out.old ++ expected_text (shape_view shape.now)) }
 {
     match shape {
@@ -54,7 +55,7 @@ fn push_json(out: &mut String, json: &Json) -> Result<(), AllocError>
 }
 
 /// What was found at a place, or that nothing was.
-fn push_found(out: &mut String, found: Option<&Json>) -> Result<(), AllocError>
+pub(crate) fn push_found(out: &mut String, found: Option<&Json>) -> Result<(), AllocError>
     ensures { OnOk result (string_bytes out.new ≡ string_bytes out.old
         ++ found_text (option_map (λ json. view json.now) found.entry)) }
 {
@@ -64,84 +65,95 @@ fn push_found(out: &mut String, found: Option<&Json>) -> Result<(), AllocError>
     }
 }
 
-/// What to do with a float, where a text can represent it.
-fn float_advice(expected: &Shape) -> &'static str
-    ensures { result.now ≡ float_advice (shape_view expected.now) }
+/// What to do with a float.
+fn float_advice(expected: &Shape) -> Option<&'static str>
+    ensures { option_map (λ words. words.now) result ≡ float_advice (shape_view expected.now) }
 {
     match expected {
-        Shape::Decimal => "; write it as a text, as \"0.95\"",
+        Shape::Whole => Some("an integer has no point and no exponent, and 64 bits"),
+        Shape::Decimal => Some("write the number in quotes, as a text"),
         Shape::Optional(plain) => float_advice(plain),
-        Shape::Bool | Shape::Whole | Shape::Text | Shape::List { .. } | Shape::Object(_) => "",
+        Shape::Bool | Shape::Text | Shape::List { .. } | Shape::Object(_) => None,
     }
 }
 
-fn advice(fault: ShapeFault, expected: &Shape) -> &'static str
-    ensures { result.now ≡ advice fault (shape_view expected.now) }
+pub(crate) fn advice(fault: ShapeFault, expected: &Shape) -> Option<&'static str>
+    ensures { option_map (λ words. words.now) result ≡ advice fault (shape_view expected.now) }
 {
     match fault {
         ShapeFault::FloatNumber => float_advice(expected),
-        ShapeFault::NotFinite => "; it is no value, and counts towards consecutiveErrorLimit",
+        ShapeFault::NotFinite => Some("it is no value, and counts towards consecutiveErrorLimit"),
         ShapeFault::WrongKind
         | ShapeFault::BadDecimal
         | ShapeFault::OutOfRange
         | ShapeFault::ListTooLong
         | ShapeFault::MissingField
-        | ShapeFault::OutOfMemory => "",
+        | ShapeFault::OutOfMemory => None,
+    }
+}
+
+fn push_advice(out: &mut String, advice: Option<&str>) -> Result<(), AllocError>
+    ensures { OnOk result (string_bytes out.new
+        ≡ string_bytes out.old ++ advice_text (option_map (λ words. words.now) advice.entry)) }
+{
+    let Some(words) = advice else {
+        return Ok(());
+    };
+    out.push_str("; ")?;
+    out.push_str(words)
+}
+
+fn push_step(out: &mut String, step: Step<'_>) -> Result<(), AllocError>
+    ensures { OnOk result (string_bytes out.new ≡ string_bytes out.old ++ step_text (step_view step.entry)) }
+{
+    match step {
+        Step::Index(number) => write!(out, "[{number}]"),
+        Step::Named(name) => push_field_name(out, name),
+    }
+}
+
+fn push_steps(out: &mut String, path: &[Step<'_>]) -> Result<(), AllocError>
+    ensures { OnOk result
+        (string_bytes out.new ≡ string_bytes out.old ++ flat_map step_text (map step_view path.now)) }
+{
+    for step in path {
+        push_step(out, *step)?;
+    }
+    Ok(())
+}
+
+/// The steps, or words for the whole value where there are none.
+fn push_path(out: &mut String, path: &[Step<'_>]) -> Result<(), AllocError>
+    ensures { OnOk result (string_bytes out.new ≡ string_bytes out.old ++ path_text (map step_view path.now)) }
+{
+    match path {
+        [] => out.push_str("the value"),
+        [_, ..] => push_steps(out, path),
     }
 }
 
 /// What comes after the path.
-fn push_fault(
-    out: &mut String,
-    expected: &Shape,
-    found: Option<&Json>,
-    fault: ShapeFault,
-) -> Result<(), AllocError>
-    ensures { OnOk result (string_bytes out.new ≡ string_bytes out.old
-        ++ fault_text (shape_view expected.now) (option_map (λ json. view json.now) found.entry) fault) }
+fn push_fault(out: &mut String, misfit: &Misfit<'_>) -> Result<(), AllocError>
+    ensures { OnOk result (string_bytes out.new ≡ string_bytes out.old ++ fault_text (misfit_view misfit.now)) }
 {
     out.push_str(": ")?;
-    out.push_str(fault.name())?;
+    out.push_str(misfit.fault.name())?;
     out.push_str(": expected ")?;
-    push_expected(out, expected)?;
+    push_expected(out, misfit.expected)?;
     out.push_str(", found ")?;
-    push_found(out, found)?;
-    out.push_str(advice(fault, expected))
+    push_found(out, misfit.found)?;
+    push_advice(out, advice(misfit.fault, misfit.expected))
 }
 
-/// The text of a misfit that no step leads to. `whole`: none leads to its place either.
-pub(crate) fn text_here(
-    alloc: Global,
-    whole: bool,
-    expected: &Shape,
-    found: Option<&Json>,
-    fault: ShapeFault,
-) -> Result<String, AllocError>
-    ensures { IfOk result (λ text. string_bytes text ≡ text_from whole
-        (misfit_here (shape_view expected.now) (option_map (λ json. view json.now) found.entry) fault)) }
+/// Appends where a value doesn't fit, what was expected there, and what was found.
+///
+/// # Errors
+///
+/// Out of memory alone.
+#[tactic(auto, unfolding(crate::specs::MisfitText::misfit_text))]
+pub fn push_misfit(out: &mut String, misfit: &Misfit<'_>) -> Result<(), AllocError>
+    ensures { OnOk result (string_bytes out.new ≡ string_bytes out.old ++ misfit_text (misfit_view misfit.now)) }
 {
-    let mut text = String::new(alloc);
-    text.push_str(if whole { "the value" } else { "" })?;
-    push_fault(&mut text, expected, found, fault)?;
-    Ok(text)
-}
-
-/// The text of a misfit in the item of an index.
-pub(crate) fn text_after_index(alloc: Global, at: usize, text: &str) -> Result<String, AllocError>
-    ensures { IfOk result (λ longer. string_bytes longer ≡ step_text (index at) ++ text.now) }
-{
-    let mut longer = String::new(alloc);
-    write!(&mut longer, "[{at}]")?;
-    longer.push_str(text)?;
-    Ok(longer)
-}
-
-/// The text of a misfit in the field of a name.
-pub(crate) fn text_after_name(alloc: Global, name: &str, text: &str) -> Result<String, AllocError>
-    ensures { IfOk result (λ longer. string_bytes longer ≡ step_text (named name.now) ++ text.now) }
-{
-    let mut longer = String::new(alloc);
-    push_field_name(&mut longer, name)?;
-    longer.push_str(text)?;
-    Ok(longer)
+    push_path(out, &misfit.path)?;
+    push_fault(out, misfit)
 }

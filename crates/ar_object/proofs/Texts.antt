@@ -1,16 +1,19 @@
 -- JSON that was written one token after another reads back.
-use Rattle.std.proofs.Common.{◌≡◌, ◌<◌, ◌≤◌, ◌^◌, ℕ, suc, max, List, [], ◌∷◌, ◌++◌, codes, Some, map, option_map, option_and_then, refl, sym, ◌∙◌, ap, ap₂, subst, arith, append_assoc, append-nil}
+use Rattle.std.proofs.Common.{SFits, w64, to_z, of_z, ℤ, pos, negsuc, ◌≡◌, ◌<◌, ◌≤◌, ◌^◌, ℕ, suc, max, List, [], ◌∷◌, ◌++◌, codes, Some, map, option_map, option_and_then, refl, sym, ◌∙◌, ap, ap₂, subst, arith, append_assoc, append-nil}
 use Rattle.std.specs.Prelude.{flat_map}
 use Rattle.std.specs.List.{AllByRecursion}
 use Rattle.std.proofs.lemmas.List.Concat.{flat_map-append}
 use Rattle.std.proofs.lemmas.Result.{IfOk-weaker}
+use Rattle.std.proofs.Math.Facts.{to_z-of_z}
+use Rattle.std.specs.Fmt.{signed_decimal}
 use Rattle.json.proofs.Printed.Trees.{value-json_tokens}
 use Rattle.json.specs.Json as json
 use Rattle.json.specs.Lex.{tokens}
 use Rattle.json.specs.Print.{print}
+use Rattle.json.specs.Token as token
 use Rattle.json.specs.Token.{Token, begin_array, begin_object, end_array, end_object, key}
 use Rattle.json.specs.Tree as tree
-use Rattle.serde_json.proofs.Numbers.{number_of-decimal}
+use Rattle.serde_json.proofs.Numbers.{number_of-decimal, number_of-negative}
 use Rattle.serde_json.proofs.Texts.{print-outline}
 use Rattle.serde_json.specs.Data.{Data, Items, Members, array, depth, item, items_depth, member, members_depth, no_items, no_members, number, object, put}
 use Rattle.serde_json.specs.Data as values
@@ -18,7 +21,7 @@ use Rattle.serde_json.specs.Read.{max_depth, of_items, of_json, of_members, read
 use Rattle.serde_json.specs.View.{items_of}
 use Rattle.serde_json.specs.Written.{compact_text, items_outline, members_outline, outline}
 use Rattle.ar_object.specs.Line.{IsJsonLine}
-use Rattle.ar_object.specs.Object.{array_of, count_data}
+use Rattle.ar_object.specs.Object.{array_of, count_data, integer_data}
 use Rattle.ar_object.specs.Written.{AddsMember, AddsTokens, AddsValue, AddsValues, HasTokens, HasValue, Output, ReadsBack, value_tokens}
 
 -- ---- tokens, one after another
@@ -37,6 +40,20 @@ same_tokens a b old new same adds = record { adds = λ before has. IfOk-weaker n
 
 pub count_reads_back : (count : ℕ) → count < 2 ^ 64 → ReadsBack (count_data count)
 count_reads_back count fits = ap (option_map number) (number_of-decimal count fits)
+
+integer_reads_back : (integer : ℤ) → SFits w64 integer → ReadsBack (integer_data integer)
+integer_reads_back (pos n) fits = ap (option_map number) (number_of-decimal n (omega (arith, fits)))
+integer_reads_back (negsuc n) fits = ap (option_map number) (number_of-negative n (omega (arith, fits)))
+
+integer_tokens : (integer : ℤ) → token.number (signed_decimal integer) ∷ [] ≡ value_tokens (integer_data integer) ++ []
+integer_tokens (pos n) = refl
+integer_tokens (negsuc n) = refl
+
+pub integer_written : (integer : ℤ) (old new : Output) → SFits w64 integer → AddsTokens (token.number (signed_decimal (to_z w64 (of_z w64 integer))) ∷ []) old new → AddsValue (integer_data integer) old new
+integer_written integer old new fits adds = record {
+  tokens_are = same_tokens _ _ old new (ap (λ z. token.number (signed_decimal z) ∷ []) (to_z-of_z fits) ∙ integer_tokens integer) adds;
+  read_back = (integer_reads_back integer fits, tt);
+}
 
 pub no_values : (output : Output) → AddsValues [] output output
 no_values output = record { tokens_are = no_tokens output; read_back = tt }

@@ -1,6 +1,7 @@
 //! The text of a JSON value, which is written one token after another.
 
 ghost use Rattle.std.specs.Prelude.{◌≡◌, ◌≤◌, [], ◌∷◌, IfOk, decimal, option_map, string_bytes};
+ghost use Rattle.std.specs.Fmt.{signed_decimal};
 ghost use Rattle.std.specs.Result.{ForOk};
 ghost use Rattle.json.specs.Lex.{tokens};
 ghost use Rattle.json.specs.Print.{IsPrintable, print};
@@ -9,7 +10,7 @@ ghost use Rattle.json.specs.Token.{begin_array, begin_object, end_array, end_obj
 ghost use Rattle.serde_json.specs.Data.{Data, boolean, depth, null, string};
 ghost use Rattle.serde_json.specs.Read.{max_depth};
 ghost use Rattle.ar_object.specs.Line.{IsJsonLine};
-ghost use Rattle.ar_object.specs.Object.{count_data, count_or_null, text_or_null};
+ghost use Rattle.ar_object.specs.Object.{count_data, count_or_null, integer_data, text_or_null};
 ghost use Rattle.ar_object.specs.Written.{AddsMember, AddsTokens, AddsValue, HasTokens, HasValue};
 
 use json::{Token, Writer};
@@ -100,6 +101,31 @@ impl JsonText {
         self.put_number(count)
     }
 
+    /// A text without a name.
+    pub fn put_text_value(&mut self, text: &str)
+        ensures { AddsValue (string text.now) self.old.written self.new.written }
+    {
+        self.put_token(Token::String(text))
+    }
+
+    fn put_integer(&mut self, integer: i64)
+        ensures { AddsTokens (number (signed_decimal integer) ∷ []) self.old.written self.new.written }
+    {
+        let Ok(writer) = &mut self.written else {
+            return;
+        };
+        if let Err(error) = writer.i64(integer) {
+            self.written = Err(error);
+        }
+    }
+
+    /// An integer without a name.
+    pub fn put_integer_value(&mut self, integer: i64)
+        ensures { AddsValue (integer_data integer) self.old.written self.new.written }
+    {
+        self.put_integer(integer)
+    }
+
     // ---- members
 
     pub fn put_null(&mut self, name: &str)
@@ -114,6 +140,13 @@ impl JsonText {
     {
         self.put_key(name);
         self.put_token(Token::Bool(holds))
+    }
+
+    pub fn put_integer_member(&mut self, name: &str, integer: i64)
+        ensures { AddsMember name.now (integer_data integer) self.old.written self.new.written }
+    {
+        self.put_key(name);
+        self.put_integer_value(integer)
     }
 
     pub fn put_count(&mut self, name: &str, count: u64)

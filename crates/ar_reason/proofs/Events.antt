@@ -13,9 +13,10 @@ use Rattle.ar_reason.proofs.Lists.{next_text, no_text_left}
 use Rattle.ar_reason.specs.Private.Found.{AreFoundSteps}
 use Rattle.ar_reason.specs.Reason.{conditions_of, given_of, lacks_conditions, reason_if_there, reason_of, reason_with}
 use Rattle.ar_reason.specs.ReasonText.{change_line, condition_text, given_line, no_condition_line, reason_text, why_line}
-use Rattle.ar_reason.specs.Why.{why_of}
-use Rattle.ar_facts.specs.Report.{event_line}
-use Rattle.ar_reason.specs.declared.steps.Step.{Step}
+use Rattle.ar_progress.specs.Why.{why_of}
+use Rattle.ar_facts.specs.Report.{event_line, printed_event}
+use Rattle.ar_facts.specs.declared.text.Naming.TheVariants as naming
+use Rattle.ar_progress.specs.declared.steps.Step.{Step}
 
 pub is_found : (bundle : Bundle) (run : ℕ) (steps : List Step) (index : ℕ) (step : Step) → AreFoundSteps bundle run steps → index < length steps → step ≡ slice_index_or steps index step → IsFound bundle run step.entry
 is_found bundle run steps index step all inside read = of_each (λ (step : Step). IsFound bundle run step.entry) steps index step all (slice_get_read steps (length steps) index step refl inside read)
@@ -36,10 +37,10 @@ reason_is document bundle run step part is read =
 
 -- and its lines
 pub reason_written : (document : Data) (bundle : Bundle) (run : ℕ) (step : Step) (part : EventPart) (before lined given judged noted all : List ℕ) → IsFound bundle run step.entry → part ≡ slice_index_or bundle.entries step.entry.number part
-    → lined ≡ before ++ event_line (event_facts bundle step.entry.number step.entry.effect) → given ≡ lined ++ given_line (given_of document bundle step.entry.number part.what) → judged ≡ given ++ flat_map condition_text (conditions_of bundle run part.what)
+    → lined ≡ before ++ event_line (printed_event naming.Clear (event_facts bundle step.entry.number step.entry.effect)) → given ≡ lined ++ given_line (given_of document bundle step.entry.number part.what) → judged ≡ given ++ flat_map condition_text (conditions_of bundle run part.what)
     → noted ≡ judged ++ no_condition_line (lacks_conditions bundle run part.what) → all ≡ noted ++ (change_line step.change ++ why_line (why_of step)) → all ≡ before ++ reason_text (reason_of document bundle step)
 reason_written document bundle run step part before lined given judged noted all is read line its_given conditions none outcome =
-    two before given all (event_line (event_facts bundle step.entry.number step.entry.effect) ++ given_line (given_of document bundle step.entry.number part.what)) (flat_map condition_text (conditions_of bundle run part.what) ++ (no_condition_line (lacks_conditions bundle run part.what) ++ (change_line step.change ++ why_line (why_of step))))
+    two before given all (event_line (printed_event naming.Clear (event_facts bundle step.entry.number step.entry.effect)) ++ given_line (given_of document bundle step.entry.number part.what)) (flat_map condition_text (conditions_of bundle run part.what) ++ (no_condition_line (lacks_conditions bundle run part.what) ++ (change_line step.change ++ why_line (why_of step))))
     (two before lined given _ _ line its_given) (three given judged noted all _ _ _ conditions none outcome)
     ∙ ap (λ reason. before ++ reason_text reason) (sym (reason_is document bundle run step part is read))
 

@@ -1,11 +1,8 @@
-pub mod Completers
 pub mod Events
-pub mod Histories
-pub mod Joined
 pub mod Lists
 pub mod Metrics
 pub mod Objects
 pub mod Reading
 pub mod Runs
-pub mod Settled
+pub mod Shown
 pub mod Trees

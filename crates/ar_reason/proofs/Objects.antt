@@ -1,59 +1,118 @@
 -- No object of reasons is deep.
-use Rattle.std.proofs.Common.{◌≡◌, ◌≤◌, ◌++◌, ℕ, suc, max, List, Option, Some, None, refl, arith}
-use Rattle.std.specs.Prelude.{option_map}
+use Rattle.std.proofs.Common.{◌≡◌, ◌≤◌, ◌++◌, ℕ, ℤ, pos, negsuc, suc, max, Bool, true, false, if◌then◌else◌, List, [], ◌∷◌, Option, Some, None, refl, arith}
+use Rattle.std.specs.Prelude.{codes, flat_map}
 use Rattle.std.specs.Option.{option_map_or}
 use Rattle.std.proofs.Math.Nat.{max-le}
-use Rattle.serde_json.specs.Data.{depth, null}
+use Rattle.serde_json.specs.Data.{Data, depth, items_depth, null}
 use Rattle.serde_json.specs.Read.{max_depth}
-use Rattle.ar_explain.specs.Lines.{Line, Outcome, failed, passed, unneeded, valued}
+use Rattle.serde_json.specs.View.{items_of}
+use Rattle.ar_exact.specs.Exact.{Exact, a_boolean, a_text, an_integer, exact_data, exact_of, no_form}
+use Rattle.ar_explain.specs.Apart.{Apart}
+use Rattle.ar_explain.specs.Lines.{Line, Outcome, failed, is_item, passed, unneeded, valued}
 use Rattle.ar_facts.proofs.Objects.{finding_flat, metric_flat}
 use Rattle.ar_object.proofs.Values.{above, count_flat, none_deep, one_deep, text_flat}
+use Rattle.ar_object.specs.Object.{array_of, count_data, count_or_null, integer_data, text_or_null}
 use Rattle.ar_facts.specs.Facts.{MetricFacts}
-use Rattle.ar_facts.specs.ReportData.{event_data}
-use Rattle.ar_object.specs.Object.{count_data, text_or_null}
-use Rattle.ar_reason.specs.Reason.{EvaluatedCondition, Reason, RunReasons}
-use Rattle.ar_reason.specs.ReasonData.{change_data, evaluated_data, failure_if_there, gap_data, given_error, given_misfit, given_value, operands_if_there, part_data, reason_data, reasons_data, run_reasons_data, value_if_there, waiting_data}
-use Rattle.ar_reason.specs.Settled.{settled_by}
-use Rattle.ar_reason.specs.Waiting.{run_waits_for, waits_for}
-use Rattle.ar_reason.specs.Why.{why_words}
-use Rattle.ar_reason.specs.declared.steps.Change.{Change}
+use Rattle.ar_facts.specs.Names.{phase_name}
+use Rattle.ar_facts.specs.ReportData.{event_data, metric_data}
+use Rattle.ar_limits.specs.Metric.{is_complete}
+use Rattle.ar_limits.specs.declared.phase.Phase.{Phase}
+use Rattle.ar_misfit.specs.Misfit.{Step, index, named}
+use Rattle.ar_misfit.specs.MisfitData.{step_data}
+use Rattle.ar_misfit.specs.MisfitText.{advice}
+use Rattle.ar_progress.specs.Excess.{limit_name}
+use Rattle.ar_progress.specs.Settled.{settled_by}
+use Rattle.ar_progress.specs.Waiting.{progress_of, waits_for}
+use Rattle.ar_progress.specs.declared.settled.Settled.{Settled}
+use Rattle.ar_progress.specs.declared.steps.Change.{Change}
+use Rattle.ar_progress.specs.declared.waiting.Progress.{Progress}
+use Rattle.ar_progress.specs.declared.why.Why.{Why}
+use Rattle.ar_progress.specs.declared.why.Why.TheVariants as whys
+use Rattle.ar_reason.specs.Reason.{EvaluatedCondition, Given, Reason, RunReasons, gave_error, gave_misfit, gave_nothing, gave_value}
+use Rattle.ar_reason.specs.ReasonData.{condition_answer, apart_data, apart_if_there, awaited, awaited_data, change_data, evaluated_data, failure_if_there, gap_data, given_error, given_misfit, given_shown, given_value, operands_if_there, part_data, progress_data, reason_data, reasons_data, run_reasons_data, run_waits_data, settled_data, shown_if_there, value_if_there, waiting_data, why_data, why_members}
 
 text_small : (found : Option (List ℕ)) (levels : ℕ) → depth (text_or_null found) ≤ levels
 text_small found levels = let is = text_flat found in omega arith
 
--- an object of five members, of seven, and of eight
-five_deep : (a b c d e levels : ℕ) → a ≤ levels → b ≤ levels → c ≤ levels → d ≤ levels → e ≤ levels → suc (max a (max b (max c (max d (max e 0))))) ≤ suc levels
-five_deep a b c d e levels in_a in_b in_c in_d in_e =
-    let none : 0 ≤ levels = omega arith in
-    above (max-le in_a (max-le in_b (max-le in_c (max-le in_d (max-le in_e none)))))
-
-seven_deep : (a b c d e f g levels : ℕ) → a ≤ levels → b ≤ levels → c ≤ levels → d ≤ levels → e ≤ levels → f ≤ levels → g ≤ levels → suc (max a (max b (max c (max d (max e (max f (max g 0))))))) ≤ suc levels
-seven_deep a b c d e f g levels in_a in_b in_c in_d in_e in_f in_g =
-    let none : 0 ≤ levels = omega arith in
-    above (max-le in_a (max-le in_b (max-le in_c (max-le in_d (max-le in_e (max-le in_f (max-le in_g none)))))))
-
-eight_deep : (a b c d e f g h levels : ℕ) → a ≤ levels → b ≤ levels → c ≤ levels → d ≤ levels → e ≤ levels → f ≤ levels → g ≤ levels → h ≤ levels
-    → suc (max a (max b (max c (max d (max e (max f (max g (max h 0)))))))) ≤ suc levels
-eight_deep a b c d e f g h levels in_a in_b in_c in_d in_e in_f in_g in_h =
-    let none : 0 ≤ levels = omega arith in
-    above (max-le in_a (max-le in_b (max-le in_c (max-le in_d (max-le in_e (max-le in_f (max-le in_g (max-le in_h none))))))))
+count_small : (found : Option ℕ) (levels : ℕ) → depth (count_or_null found) ≤ levels
+count_small found levels = let is = count_flat found in omega arith
 
 zero_small : (levels : ℕ) → 0 ≤ levels
 zero_small levels = omega arith
 
+-- objects of three members, and of more
+three_deep : (a b c levels : ℕ) → a ≤ levels → b ≤ levels → c ≤ levels → suc (max a (max b (max c 0))) ≤ suc levels
+three_deep a b c levels in_a in_b in_c = above (max-le in_a (max-le in_b (max-le in_c (zero_small levels))))
+
+five_deep : (a b c d e levels : ℕ) → a ≤ levels → b ≤ levels → c ≤ levels → d ≤ levels → e ≤ levels → suc (max a (max b (max c (max d (max e 0))))) ≤ suc levels
+five_deep a b c d e levels in_a in_b in_c in_d in_e =
+    above (max-le in_a (max-le in_b (max-le in_c (max-le in_d (max-le in_e (zero_small levels))))))
+
+six_deep : (a b c d e f levels : ℕ) → a ≤ levels → b ≤ levels → c ≤ levels → d ≤ levels → e ≤ levels → f ≤ levels → suc (max a (max b (max c (max d (max e (max f 0)))))) ≤ suc levels
+six_deep a b c d e f levels in_a in_b in_c in_d in_e in_f =
+    above (max-le in_a (max-le in_b (max-le in_c (max-le in_d (max-le in_e (max-le in_f (zero_small levels)))))))
+
+nine_deep : (a b c d e f g h i levels : ℕ) → a ≤ levels → b ≤ levels → c ≤ levels → d ≤ levels → e ≤ levels → f ≤ levels → g ≤ levels → h ≤ levels → i ≤ levels
+    → suc (max a (max b (max c (max d (max e (max f (max g (max h (max i 0))))))))) ≤ suc levels
+nine_deep a b c d e f g h i levels in_a in_b in_c in_d in_e in_f in_g in_h in_i =
+    above (max-le in_a (max-le in_b (max-le in_c (max-le in_d (max-le in_e (max-le in_f (max-le in_g (max-le in_h (max-le in_i (zero_small levels))))))))))
+
+ten_deep : (a b c d e f g h i j levels : ℕ) → a ≤ levels → b ≤ levels → c ≤ levels → d ≤ levels → e ≤ levels → f ≤ levels → g ≤ levels → h ≤ levels → i ≤ levels → j ≤ levels
+    → suc (max a (max b (max c (max d (max e (max f (max g (max h (max i (max j 0)))))))))) ≤ suc levels
+ten_deep a b c d e f g h i j levels in_a in_b in_c in_d in_e in_f in_g in_h in_i in_j =
+    above (max-le in_a (max-le in_b (max-le in_c (max-le in_d (max-le in_e (max-le in_f (max-le in_g (max-le in_h (max-le in_i (max-le in_j (zero_small levels)))))))))))
+
+-- ---- values
+
+integer_flat : (integer : ℤ) → depth (integer_data integer) ≡ 0
+integer_flat (pos n) = refl
+integer_flat (negsuc n) = refl
+
+exact_flat : (exact : Exact) → depth (exact_data exact) ≡ 0
+exact_flat no_form = refl
+exact_flat (a_boolean holds) = refl
+exact_flat (an_integer integer) = integer_flat integer
+exact_flat (a_text text) = refl
+
+exact_small : (exact : Exact) (levels : ℕ) → depth (exact_data exact) ≤ levels
+exact_small exact levels = let is = exact_flat exact in omega arith
+
+-- ---- the parts of a condition
+
+value_small : (said : Outcome) (levels : ℕ) → depth (value_if_there said) ≤ levels
+value_small (valued shown apart) levels = exact_small shown.exact levels
+value_small (is_item shown) levels = exact_small shown.exact levels
+value_small (failed failure on) levels = zero_small levels
+value_small unneeded levels = zero_small levels
+value_small (passed items held) levels = zero_small levels
+
+answer_small : (said : Outcome) (levels : ℕ) → depth (condition_answer said) ≤ levels
+answer_small (valued shown apart) levels = exact_small shown.exact levels
+answer_small (is_item shown) levels = zero_small levels
+answer_small (failed failure on) levels = zero_small levels
+answer_small unneeded levels = zero_small levels
+answer_small (passed items held) levels = zero_small levels
+
 gap_flat : (said : Outcome) → depth (gap_data said) ≤ 2
 gap_flat (passed items held) = omega arith
-gap_flat (valued text) = omega arith
+gap_flat (valued shown apart) = omega arith
+gap_flat (is_item shown) = omega arith
 gap_flat (failed failure on) = omega arith
 gap_flat unneeded = omega arith
 
+apart_small : (apart : Option Apart) → depth (option_map_or apart_data apart null) ≤ 2
+apart_small (Some apart) = omega arith
+apart_small None = omega arith
+
 part_flat : (line : Line) → depth (part_data line) ≤ 3
 part_flat line =
-    seven_deep _ _ _ 0 _ 0 _ 2 (gap_flat line.said) (text_small (failure_if_there line.said) 2) (above (none_deep count_data 1 (λ n. omega arith) line.items)) (zero_small 2) (text_small (operands_if_there line.said) 2) (zero_small 2) (text_small (value_if_there line.said) 2)
+    ten_deep 0 _ _ _ _ 0 _ 0 _ _ 2 (zero_small 2) (gap_flat line.said) (apart_small (apart_if_there line.said)) (text_small (failure_if_there line.said) 2) (above (none_deep count_data 1 (λ n. omega arith) line.items)) (zero_small 2) (text_small (operands_if_there line.said) 2) (zero_small 2) (text_small (shown_if_there line.said) 2) (value_small line.said 2)
 
 evaluated_flat : (condition : EvaluatedCondition) → depth (evaluated_data condition) ≤ 5
 evaluated_flat condition =
-    seven_deep _ 0 _ 0 _ _ 0 4 (text_small (value_if_there condition.answer) 4) (zero_small 4) (text_small (failure_if_there condition.answer) 4) (zero_small 4) (text_small (operands_if_there condition.answer) 4) (above (none_deep part_data 3 part_flat (condition.parts.lines ++ condition.parts.last))) (zero_small 4)
+    six_deep _ 0 0 _ _ 0 4 (answer_small condition.answer 4) (zero_small 4) (zero_small 4) (text_small (operands_if_there condition.answer) 4) (above (none_deep part_data 3 part_flat (condition.parts.lines ++ condition.parts.last))) (zero_small 4)
+
+-- ---- an event
 
 change_flat : (change : Option Change) → depth (option_map_or change_data change null) ≤ 6
 change_flat (Some change) = rw (count_flat change.limits.count) (omega arith)
@@ -62,18 +121,91 @@ change_flat None = omega arith
 finding_small : (reason : Reason) → depth (event_data reason.event) ≤ 6
 finding_small reason = let is = finding_flat reason.event reason.event.finding in omega arith
 
+error_small : (given : Given) → depth (given_error given) ≤ 6
+error_small gave_nothing = omega arith
+error_small (gave_error text) = omega arith
+error_small (gave_value value) = omega arith
+error_small (gave_misfit misfit) = omega arith
+
+shown_small : (given : Given) → depth (given_shown given) ≤ 6
+shown_small gave_nothing = omega arith
+shown_small (gave_error text) = omega arith
+shown_small (gave_value value) = omega arith
+shown_small (gave_misfit misfit) = omega arith
+
+given_small : (given : Given) → depth (given_value given) ≤ 6
+given_small gave_nothing = omega arith
+given_small (gave_error text) = omega arith
+given_small (gave_value value) = exact_small (exact_of value) 6
+given_small (gave_misfit misfit) = omega arith
+
+step_flat : (step : Step) → depth (step_data step) ≤ 4
+step_flat (index n) = omega arith
+step_flat (named name) = omega arith
+
+misfit_small : (number : ℕ) (given : Given) → depth (given_misfit number given) ≤ 6
+misfit_small number gave_nothing = omega arith
+misfit_small number (gave_error text) = omega arith
+misfit_small number (gave_value value) = omega arith
+misfit_small number (gave_misfit misfit) =
+    six_deep 0 0 0 _ _ 0 5 (zero_small 5) (zero_small 5) (zero_small 5) (text_small (advice misfit.fault misfit.expected) 5) (above (none_deep step_data 4 step_flat misfit.path)) (zero_small 5)
+
+members_small : (count event value : Option ℕ) (kind : List ℕ) (limit phase : Option (List ℕ)) → depth (why_members count event kind limit phase value) ≤ 6
+members_small count event value kind limit phase =
+    six_deep _ _ 0 _ _ _ 5 (count_small count 5) (count_small event 5) (zero_small 5) (text_small limit 5) (text_small phase 5) (count_small value 5)
+
+why_small : (why : Option Why) → depth (option_map_or why_data why null) ≤ 6
+why_small None = omega arith
+why_small (Some whys.Stopped) = members_small None None None (codes "stop") None None
+why_small (Some (whys.Exceeded phase excess)) =
+    members_small (Some excess.count) None (Some excess.value) (codes "limit") (Some (limit_name excess.limit)) (Some (phase_name phase))
+why_small (Some whys.AllComplete) = members_small None None None (codes "complete") None None
+why_small (Some (whys.Dry phase)) = members_small None None None (codes "dry") None (Some (phase_name phase))
+why_small (Some (whys.AfterClose number)) = members_small None (Some number) None (codes "runClosed") None None
+why_small (Some (whys.MetricWas phase since)) = members_small None since None (codes "metricComplete") None (Some (phase_name phase))
+
 reason_flat : (reason : Reason) → depth (reason_data reason) ≤ 7
 reason_flat reason =
-    eight_deep _ _ _ _ _ 0 _ _ 6 (above (none_deep evaluated_data 5 evaluated_flat reason.conditions)) (change_flat reason.change) (text_small (given_error reason.given) 6) (finding_small reason) (text_small (given_misfit reason.given) 6) (zero_small 6) (text_small (option_map why_words reason.why) 6) (text_small (given_value reason.given) 6)
+    nine_deep _ _ _ _ _ 0 _ _ _ 6 (above (none_deep evaluated_data 5 evaluated_flat reason.conditions)) (change_flat reason.change) (error_small reason.given) (finding_small reason) (misfit_small reason.event.number reason.given) (zero_small 6) (why_small reason.why) (shown_small reason.given) (given_small reason.given)
 
-waiting_flat : (closer : Option ℕ) (metric : MetricFacts) → depth (waiting_data closer metric) ≡ 3
-waiting_flat closer metric = rw (metric_flat metric, text_flat (settled_by closer metric.limits metric.counts), text_flat (waits_for metric.phase metric.limits metric.counts)) refl
+-- ---- a run
+
+progress_small : (progress : Option Progress) → depth (option_map_or progress_data progress null) ≤ 2
+progress_small None = omega arith
+progress_small (Some progress) = let is = count_flat progress.count in omega arith
+
+settled_small : (settled : Option Settled) → depth (option_map_or settled_data settled null) ≤ 2
+settled_small None = omega arith
+settled_small (Some settled) = three_deep _ 0 0 1 (count_small settled.count 1) (zero_small 1) (zero_small 1)
+
+metric_small : (metric : MetricFacts) → depth (metric_data metric) ≤ 2
+metric_small metric = let is = metric_flat metric in omega arith
+
+waiting_flat : (closer : Option ℕ) (metric : MetricFacts) → depth (waiting_data closer metric) ≤ 3
+waiting_flat closer metric =
+    three_deep _ _ _ 2 (metric_small metric) (settled_small (settled_by closer metric.limits metric.counts)) (progress_small (waits_for metric.phase metric.limits metric.counts))
+
+one_awaited : (metric : MetricFacts) (later : List Data) → items_depth (items_of later) ≤ 7 → items_depth (items_of (awaited metric ++ later)) ≤ 7
+one_awaited metric later small = by (is_complete metric.phase) where
+  by : (complete : Bool) → items_depth (items_of ((if complete then [] else awaited_data metric.name (progress_of metric.limits metric.counts) ∷ []) ++ later)) ≤ 7
+  by true = small
+  by false = max-le (three_deep _ 0 0 6 (count_small metric.limits.count 6) (zero_small 6) (zero_small 6)) small
+
+awaited_flat : (metrics : List MetricFacts) → items_depth (items_of (flat_map awaited metrics)) ≤ 7
+awaited_flat [] = omega arith
+awaited_flat (metric ∷ metrics) = one_awaited metric (flat_map awaited metrics) (awaited_flat metrics)
+
+waits_small : (phase : Phase) (metrics : List MetricFacts) → depth (run_waits_data phase metrics) ≤ 8
+waits_small phase metrics = by (is_complete phase) where
+  by : (closed : Bool) → depth (if closed then null else array_of (flat_map awaited metrics)) ≤ 8
+  by true = omega arith
+  by false = above (awaited_flat metrics)
 
 run_flat : (run : RunReasons) → depth (run_reasons_data run) ≤ 9
 run_flat run =
     let events = above (none_deep reason_data 7 reason_flat run.reasons) in
     let metrics = above (none_deep (waiting_data run.closer) 7 (λ metric. let is = waiting_flat run.closer metric in omega arith) run.metrics) in
-    five_deep _ _ 0 0 _ 8 events metrics (zero_small 8) (zero_small 8) (text_small (run_waits_for run.phase run.metrics) 8)
+    five_deep _ _ 0 0 _ 8 events metrics (zero_small 8) (zero_small 8) (waits_small run.phase run.metrics)
 
 more : {a : ℕ} → a ≤ 11 → a ≤ max_depth
 more less = omega arith

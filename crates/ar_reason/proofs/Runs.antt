@@ -16,12 +16,13 @@ use Rattle.ar_object.proofs.Texts.{Remains, next_value, none_remains}
 use Rattle.ar_object.specs.Written.{AddsValue, AddsValues, Output}
 use Rattle.ar_reason.specs.Private.Found.{AreFoundSteps}
 use Rattle.ar_reason.specs.Reason.{RunReasons, reason_of, reasons_from, run_reasons}
-use Rattle.ar_reason.specs.ReasonData.{reason_data, run_members, run_reasons_data, waiting_data}
-use Rattle.ar_reason.specs.Waiting.{run_waits_for}
+use Rattle.ar_quote.specs.Shown.{shown_name}
+use Rattle.ar_reason.specs.ReasonData.{reason_data, run_members, run_reasons_data, waiting_data, run_waits_data}
+use Rattle.ar_progress.specs.Waiting.{run_waits_for}
 use Rattle.ar_reason.specs.ReasonText.{line_if_there, metric_lines, reason_text, run_reasons_text}
-use Rattle.ar_reason.specs.Steps.{chosen_steps, closer_of, if_chosen, is_chosen, is_chosen_run, step_after, steps_after}
-use Rattle.ar_reason.specs.declared.chosen.Chosen.{Chosen}
-use Rattle.ar_reason.specs.declared.steps.Step.{Step}
+use Rattle.ar_progress.specs.Steps.{chosen_steps, closer_of, if_chosen, is_chosen, is_chosen_run, step_after, steps_after}
+use Rattle.ar_progress.specs.declared.chosen.Chosen.{Chosen}
+use Rattle.ar_progress.specs.declared.steps.Step.{Step}
 
 -- ---- what is known of the events that are chosen
 
@@ -50,15 +51,15 @@ reasons_are document bundle chosen run entries state steps replays is =
     rw (phase, phases, counts, is) refl
 
 pub text_is : (document : Data) (bundle : Bundle) (chosen : Chosen) (run : RunPart) (entries : List Entry) (state : Standing) (steps : List Step) (closer : Option ℕ) (before lined reasoned all : List ℕ) → Replays run.limits (events_of bundle (numbers_of entries)) state → steps ≡ chosen_steps bundle chosen run.limits entries → closer ≡ closer_of entries
-    → lined ≡ before ++ (run_line run.name state.phase ++ line_if_there (codes "  waits for: ") (run_waits_for state.phase (facts_of_metrics bundle.metrics run.limits state.phases state.counts))) → reasoned ≡ lined ++ flat_map reason_text (map (reason_of document bundle) steps) → all ≡ reasoned ++ flat_map (metric_lines closer) (facts_of_metrics bundle.metrics run.limits state.phases state.counts) → all ≡ before ++ run_reasons_text (run_reasons document bundle chosen run entries)
+    → lined ≡ before ++ (run_line (shown_name run.name) state.phase ++ line_if_there (codes "  waits for: ") (run_waits_for state.phase (facts_of_metrics bundle.metrics run.limits state.phases state.counts))) → reasoned ≡ lined ++ flat_map reason_text (map (reason_of document bundle) steps) → all ≡ reasoned ++ flat_map (metric_lines closer) (facts_of_metrics bundle.metrics run.limits state.phases state.counts) → all ≡ before ++ run_reasons_text (run_reasons document bundle chosen run entries)
 text_is document bundle chosen run entries state steps closer before lined reasoned all replays is closes line reasons metrics =
-    three before lined reasoned all (run_line run.name state.phase ++ line_if_there (codes "  waits for: ") (run_waits_for state.phase (facts_of_metrics bundle.metrics run.limits state.phases state.counts))) (flat_map reason_text (map (reason_of document bundle) steps)) (flat_map (metric_lines (closer_of entries)) (facts_of_metrics bundle.metrics run.limits state.phases state.counts)) line reasons (metrics ∙ ap (λ (closer : Option ℕ). reasoned ++ flat_map (metric_lines closer) (facts_of_metrics bundle.metrics run.limits state.phases state.counts)) closes)
+    three before lined reasoned all (run_line (shown_name run.name) state.phase ++ line_if_there (codes "  waits for: ") (run_waits_for state.phase (facts_of_metrics bundle.metrics run.limits state.phases state.counts))) (flat_map reason_text (map (reason_of document bundle) steps)) (flat_map (metric_lines (closer_of entries)) (facts_of_metrics bundle.metrics run.limits state.phases state.counts)) line reasons (metrics ∙ ap (λ (closer : Option ℕ). reasoned ++ flat_map (metric_lines closer) (facts_of_metrics bundle.metrics run.limits state.phases state.counts)) closes)
     ∙ ap (λ (facts : RunReasons). before ++ run_reasons_text facts) (sym (reasons_are document bundle chosen run entries state steps replays is))
 
 pub data_is : (document : Data) (bundle : Bundle) (chosen : Chosen) (run : RunPart) (entries : List Entry) (state : Standing) (steps : List Step) (closer : Option ℕ) → Replays run.limits (events_of bundle (numbers_of entries)) state → steps ≡ chosen_steps bundle chosen run.limits entries → closer ≡ closer_of entries
-    → run_members run.name state.phase (run_waits_for state.phase (facts_of_metrics bundle.metrics run.limits state.phases state.counts)) (map (waiting_data closer) (facts_of_metrics bundle.metrics run.limits state.phases state.counts)) (map reason_data (map (reason_of document bundle) steps)) ≡ run_reasons_data (run_reasons document bundle chosen run entries)
+    → run_members run.name state.phase (map (waiting_data closer) (facts_of_metrics bundle.metrics run.limits state.phases state.counts)) (map reason_data (map (reason_of document bundle) steps)) (run_waits_data state.phase (facts_of_metrics bundle.metrics run.limits state.phases state.counts)) ≡ run_reasons_data (run_reasons document bundle chosen run entries)
 data_is document bundle chosen run entries state steps closer replays is closes =
-    ap (λ (closer : Option ℕ). run_members run.name state.phase (run_waits_for state.phase (facts_of_metrics bundle.metrics run.limits state.phases state.counts)) (map (waiting_data closer) (facts_of_metrics bundle.metrics run.limits state.phases state.counts)) (map reason_data (map (reason_of document bundle) steps))) closes
+    ap (λ (closer : Option ℕ). run_members run.name state.phase (map (waiting_data closer) (facts_of_metrics bundle.metrics run.limits state.phases state.counts)) (map reason_data (map (reason_of document bundle) steps)) (run_waits_data state.phase (facts_of_metrics bundle.metrics run.limits state.phases state.counts))) closes
     ∙ ap run_reasons_data (sym (reasons_are document bundle chosen run entries state steps replays is))
 
 -- ---- one after another

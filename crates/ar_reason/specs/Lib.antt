@@ -1,11 +1,6 @@
-pub mod Counts
-pub mod Waiting
-pub mod Settled
-pub mod Laws
-pub mod Steps
-pub mod Why
 pub mod Reason
 pub mod Views
 pub mod ReasonText
 pub mod ReasonData
+pub mod ReasonLaws
 pub mod Private

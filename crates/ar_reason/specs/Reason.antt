@@ -7,7 +7,6 @@ use Rattle.serde_json.specs.Data.{Data}
 use Rattle.serde_json.specs.Find.{as_str, at, get}
 use Rattle.ar_value.specs.Terms.{Text}
 use Rattle.ar_value.specs.Value.{Value}
-use Rattle.ar_value.specs.Value as values
 use Rattle.ar_value.specs.View.{shape_view}
 use Rattle.ar_tree.specs.Meaning.{mean}
 use Rattle.ar_tree.specs.Typed.{Typed}
@@ -25,30 +24,28 @@ use Rattle.ar_bundle.specs.declared.bundle.RunPart.{RunPart}
 use Rattle.ar_bundle.specs.declared.bundle.What.{What}
 use Rattle.ar_bundle.specs.declared.bundle.What.TheVariants.{Measure, Stop}
 use Rattle.ar_bundle.specs.declared.history.Entry.{Entry}
+use Rattle.ar_explain.specs.Apart.{apart_on}
 use Rattle.ar_explain.specs.Operands.{failed_on}
-use Rattle.ar_explain.specs.Lines.{Explanation, Outcome, earlier_lines, explained, failed, outcome_of, passed, unneeded, valued}
-use Rattle.ar_misfit.specs.Misfit.{misfit}
-use Rattle.ar_misfit.specs.MisfitText.{misfit_text_of}
+use Rattle.ar_explain.specs.Lines.{Explanation, Outcome, earlier_lines, explained, failed, is_item, outcome_of, passed, unneeded, valued}
+use Rattle.ar_misfit.specs.Misfit.{Misfit, misfit}
 use Rattle.ar_facts.specs.Facts.{EventFacts, MetricFacts, event_facts, facts_of_metrics}
-use Rattle.ar_show.specs.Values.{shown_value}
-use Rattle.ar_reason.specs.Steps.{chosen_steps, closer_of, is_chosen_run}
-use Rattle.ar_reason.specs.Why.{why_of}
-use Rattle.ar_reason.specs.declared.chosen.Chosen.{Chosen}
-use Rattle.ar_reason.specs.declared.steps.Change.{Change}
-use Rattle.ar_reason.specs.declared.steps.Step.{Step}
-use Rattle.ar_reason.specs.declared.why.Why.{Why}
+use Rattle.ar_progress.specs.Steps.{chosen_steps, closer_of, is_chosen_run}
+use Rattle.ar_progress.specs.Why.{why_of}
+use Rattle.ar_progress.specs.declared.chosen.Chosen.{Chosen}
+use Rattle.ar_progress.specs.declared.steps.Change.{Change}
+use Rattle.ar_progress.specs.declared.steps.Step.{Step}
+use Rattle.ar_progress.specs.declared.why.Why.{Why}
 
 -- ---- what the provider of a metric gave
 
 pub data Given : Type 0 where
   -- nothing: the event is a stop, or the provider failed without a text
   gave_nothing : Given
-  -- an error with a text, which is shown so
+  -- an error with a text
   gave_error : (text : Text) → Given
-  -- a value, which is shown so
-  gave_value : (text : Text) → Given
-  -- what doesn't fit the metric's shape: where, and what was expected
-  gave_misfit : (text : Text) → Given
+  gave_value : Value → Given
+  -- what doesn't fit the metric's shape
+  gave_misfit : Misfit → Given
 
 -- a member of a measurement, as the document has it
 abbrev pub measured_member : (name : Text) → (document : Data) → (number : EventNumber) → Option Data
@@ -56,25 +53,30 @@ measured_member name document number =
     option_and_then (get name) (option_and_then (at number) (get (codes "measurements") document))
 
 abbrev pub error_of : Option Text → Given
-error_of (Some text) = gave_error (shown_value (values.text text))
+error_of (Some text) = gave_error text
 error_of None = gave_nothing
 
 abbrev pub error_given : (found : Option Data) → Given
 error_given found = error_of (option_and_then as_str found)
 
-abbrev pub misfit_words : (found : Option Data) → (metric : Option MetricPart) → Text
-misfit_words (Some found) (Some metric) = misfit_text_of (misfit (shape_view metric.shape) found)
-misfit_words found metric = []
+abbrev pub misfit_there : (found : Option Data) → (metric : Option MetricPart) → Option Misfit
+misfit_there (Some found) (Some metric) = misfit (shape_view metric.shape) found
+misfit_there found metric = None
 
-abbrev pub given_by : (misfit_there : Text) → (error_there : Given) → Sample → Given
+-- a value that was refused has a misfit
+abbrev pub given_unfit : Option Misfit → Given
+given_unfit (Some misfit) = gave_misfit misfit
+given_unfit None = gave_nothing
+
+abbrev pub given_by : (misfit_there : Option Misfit) → (error_there : Given) → Sample → Given
 given_by misfit_there error_there provider = error_there
-given_by misfit_there error_there (unfit fault) = gave_misfit misfit_there
-given_by misfit_there error_there (measured found) = gave_value (shown_value found)
+given_by misfit_there error_there (unfit fault) = given_unfit misfit_there
+given_by misfit_there error_there (measured found) = gave_value found
 
 abbrev pub given_of : (document : Data) → Bundle → (number : EventNumber) → What → Given
 given_of document bundle number (Measure metric sample) =
     given_by
-    (misfit_words (measured_member (codes "value") document number) (slice_get bundle.metrics metric))
+    (misfit_there (measured_member (codes "value") document number) (slice_get bundle.metrics metric))
     (error_given (measured_member (codes "error") document number)) (sample_view sample)
 given_of document bundle number Stop = gave_nothing
 
@@ -95,7 +97,7 @@ evaluated_with which text found tree = record {
   text = text;
   tree = tree;
   parts = explained (earlier_lines found None tree);
-  answer = outcome_of (mean found None tree) (failed_on found None tree);
+  answer = outcome_of (mean found None tree) (failed_on found None tree) (apart_on found None tree);
 }
 
 -- the conditions of a bundle have trees, so that all of them are there
@@ -110,7 +112,8 @@ evaluated_if_there which found (Some condition) =
 
 abbrev pub is_failure : Outcome → Bool
 is_failure (failed failure on) = true
-is_failure (valued text) = false
+is_failure (valued shown apart) = false
+is_failure (is_item shown) = false
 is_failure unneeded = false
 is_failure (passed items held) = false
 

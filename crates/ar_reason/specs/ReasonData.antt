@@ -1,28 +1,49 @@
 -- Reasons as JSON (RFC 8259): one object. Its members are in the byte order of their names.
-use Rattle.std.specs.Prelude.{Bool, true, false, List, ◌++◌, codes, map, Option, Some, None, option_map}
+use Rattle.std.specs.Prelude.{ℕ, ◌-◌, ◌^◌, min, Bool, true, false, if◌then◌else◌, List, [], ◌∷◌, ◌++◌, codes, decimal, flat_map, map, Option, Some, None}
 use Rattle.std.specs.Option.{option_map_or}
 use Rattle.serde_json.specs.Data.{Data, boolean, member, no_members, null, object, string}
 use Rattle.ar_value.specs.Terms.{Text}
 use Rattle.ar_bundle.specs.Event.{EventNumber}
+use Rattle.ar_limits.specs.Metric.{is_complete}
 use Rattle.ar_limits.specs.declared.phase.Phase.{Phase}
-use Rattle.ar_explain.specs.Lines.{Explanation, Line, Outcome, failed, passed, unneeded, valued}
+use Rattle.ar_tree.specs.Typed.{Typed}
+use Rattle.ar_tree.specs.Typed as typed
+use Rattle.ar_value.specs.declared.operator.UnaryOperator.TheVariants as unary
+use Rattle.ar_explain.specs.Apart.{Apart}
+use Rattle.ar_explain.specs.Lines.{Explanation, Line, Outcome, failed, is_item, passed, unneeded, valued}
 use Rattle.ar_facts.specs.Facts.{MetricFacts}
 use Rattle.ar_facts.specs.Names.{phase_name}
-use Rattle.ar_facts.specs.ReportData.{counts_data, event_data, limits_data, metric_data, named_list}
-use Rattle.ar_object.specs.Object.{array_of, count_data, text_or_null}
+use Rattle.ar_facts.specs.ReportData.{counts_data, event_data, limits_data, metric_data}
+use Rattle.ar_misfit.specs.MisfitData.{misfit_data}
+use Rattle.ar_object.specs.Object.{array_of, count_data, count_or_null, text_or_null}
+use Rattle.ar_progress.specs.Excess.{limit_name}
+use Rattle.ar_progress.specs.Settled.{settled_by}
+use Rattle.ar_progress.specs.Waiting.{progress_of, waits_for}
+use Rattle.ar_progress.specs.declared.excess.Excess.{Excess}
+use Rattle.ar_progress.specs.declared.settled.Settled.{Settled}
+use Rattle.ar_progress.specs.declared.steps.Change.{Change}
+use Rattle.ar_progress.specs.declared.waiting.Progress.{Progress}
+use Rattle.ar_progress.specs.declared.why.Why.{Why}
+use Rattle.ar_progress.specs.declared.why.Why.TheVariants as whys
+use Rattle.ar_exact.specs.Exact.{exact_data, exact_of}
 use Rattle.ar_show.specs.PartText.{shown_part}
+use Rattle.ar_show.specs.Values.{shown_value}
 use Rattle.ar_reason.specs.Reason.{EvaluatedCondition, Given, Reason, RunReasons, gave_error, gave_misfit, gave_value}
 use Rattle.ar_reason.specs.ReasonText.{failure_name}
-use Rattle.ar_reason.specs.Settled.{settled_by}
-use Rattle.ar_reason.specs.Waiting.{run_waits_for, waits_for}
-use Rattle.ar_reason.specs.Why.{why_words}
-use Rattle.ar_reason.specs.declared.steps.Change.{Change}
 
 -- ---- the parts of a condition
 
-abbrev pub value_if_there : Outcome → Option Text
-value_if_there (valued text) = Some text
-value_if_there said = None
+-- a value as lines show it
+abbrev pub shown_if_there : Outcome → Option Text
+shown_if_there (valued shown apart) = Some shown.text
+shown_if_there (is_item shown) = Some shown.text
+shown_if_there said = None
+
+-- the value, where JSON has it exactly
+abbrev pub value_if_there : Outcome → Data
+value_if_there (valued shown apart) = exact_data shown.exact
+value_if_there (is_item shown) = exact_data shown.exact
+value_if_there said = null
 
 abbrev pub failure_if_there : Outcome → Option Text
 failure_if_there (failed failure on) = Some (failure_name failure)
@@ -33,9 +54,15 @@ abbrev pub operands_if_there : Outcome → Option Text
 operands_if_there (failed failure on) = on
 operands_if_there said = None
 
+-- where two texts differ that are shown alike
+abbrev pub apart_if_there : Outcome → Option Apart
+apart_if_there (valued shown apart) = apart
+apart_if_there said = None
+
 abbrev pub was_needed : Outcome → Bool
 was_needed unneeded = false
-was_needed (valued text) = true
+was_needed (valued shown apart) = true
+was_needed (is_item shown) = true
 was_needed (failed failure on) = true
 was_needed (passed items held) = true
 
@@ -45,43 +72,77 @@ gap_data (passed items held) = object
     (member (codes "hold") (count_data held) (member (codes "items") (count_data items) no_members))
 gap_data said = null
 
+abbrev pub apart_data : Apart → Data
+apart_data apart = object
+    (member (codes "byte") (count_data apart.byte)
+    (member (codes "left") (string apart.left)
+    (member (codes "right") (string apart.right) no_members)))
+
+-- a failed part that converts its operand to a decimal, which the part's text doesn't show
+abbrev pub converts : Typed → Outcome → Bool
+converts (typed.unary unary.ToDecimal operand) (failed failure on) = true
+converts part said = false
+
+-- the item itself has the text `#`
+abbrev pub part_name : Typed → Outcome → Text
+part_name part (is_item shown) = codes "#"
+part_name part said = shown_part part
+
 abbrev pub part_data : Line → Data
 part_data line = object
+    (member (codes "asDecimal") (boolean (converts line.part line.said))
     (member (codes "between") (gap_data line.said)
+    (member (codes "differ") (option_map_or apart_data (apart_if_there line.said) null)
     (member (codes "failure") (text_or_null (failure_if_there line.said))
     (member (codes "items") (array_of (map count_data line.items))
     (member (codes "needed") (boolean (was_needed line.said))
     (member (codes "on") (text_or_null (operands_if_there line.said))
-    (member (codes "part") (string (shown_part line.part))
-    (member (codes "value") (text_or_null (value_if_there line.said)) no_members)))))))
+    (member (codes "part") (string (part_name line.part line.said))
+    (member (codes "shown") (text_or_null (shown_if_there line.said))
+    (member (codes "value") (value_if_there line.said) no_members))))))))))
+
+-- the whole condition's boolean, or the name of its failure
+abbrev pub condition_answer : Outcome → Data
+condition_answer (valued shown apart) = exact_data shown.exact
+condition_answer (failed failure on) = string (failure_name failure)
+condition_answer said = null
 
 -- `leftOut`: how many parts come after the first 500
 abbrev pub evaluation_data : (which text : Text) → Explanation → (answer : Outcome) → Data
 evaluation_data which text parts answer = object
-    (member (codes "answer") (text_or_null (value_if_there answer))
+    (member (codes "answer") (condition_answer answer)
     (member (codes "condition") (string which)
-    (member (codes "failure") (text_or_null (failure_if_there answer))
     (member (codes "leftOut") (count_data parts.left_out)
     (member (codes "on") (text_or_null (operands_if_there answer))
     (member (codes "parts") (array_of (map part_data (parts.lines ++ parts.last)))
-    (member (codes "text") (string text) no_members)))))))
+    (member (codes "text") (string text) no_members))))))
 
 abbrev pub evaluated_data : EvaluatedCondition → Data
 evaluated_data condition = evaluation_data condition.which condition.text condition.parts condition.answer
 
 -- ---- an event
 
-abbrev pub given_value : Given → Option Text
-given_value (gave_value text) = Some text
-given_value given = None
+-- the value, where JSON has it exactly
+abbrev pub given_value : Given → Data
+given_value (gave_value value) = exact_data (exact_of value)
+given_value given = null
 
-abbrev pub given_error : Given → Option Text
-given_error (gave_error text) = Some text
-given_error given = None
+-- the value as lines show it
+abbrev pub given_shown : Given → Data
+given_shown (gave_value value) = string (shown_value value)
+given_shown given = null
 
-abbrev pub given_misfit : Given → Option Text
-given_misfit (gave_misfit text) = Some text
-given_misfit given = None
+abbrev pub given_error : Given → Data
+given_error (gave_error text) = string text
+given_error given = null
+
+-- the pointer to the value of a measurement
+abbrev pub value_pointer : EventNumber → Text
+value_pointer number = codes "/measurements/" ++ (decimal number ++ codes "/value")
+
+abbrev pub given_misfit : EventNumber → Given → Data
+given_misfit number (gave_misfit misfit) = misfit_data (value_pointer number) misfit
+given_misfit number given = null
 
 abbrev pub change_data : Change → Data
 change_data change = object
@@ -89,9 +150,34 @@ change_data change = object
     (member (codes "before") (counts_data change.before.counts)
     (member (codes "limits") (limits_data change.limits) no_members)))
 
+-- why an event closed its run, didn't, or came late: a kind with its numbers, null where the kind has none
+abbrev pub why_members : (count event : Option ℕ) → (kind : Text) → (limit phase : Option Text) → (value : Option ℕ)
+    → Data
+why_members count event kind limit phase value = object
+    (member (codes "count") (count_or_null count)
+    (member (codes "event") (count_or_null event)
+    (member (codes "kind") (string kind)
+    (member (codes "limit") (text_or_null limit)
+    (member (codes "phase") (text_or_null phase)
+    (member (codes "value") (count_or_null value) no_members))))))
+
+-- the count `count` exceeded the limit, which allows `value`
+abbrev pub excess_data : Phase → Excess → Data
+excess_data phase excess = why_members (Some excess.count) None (codes "limit")
+    (Some (limit_name excess.limit)) (Some (phase_name phase)) (Some excess.value)
+
+abbrev pub why_data : Why → Data
+why_data whys.Stopped = why_members None None (codes "stop") None None None
+why_data (whys.Exceeded phase excess) = excess_data phase excess
+why_data whys.AllComplete = why_members None None (codes "complete") None None None
+why_data (whys.Dry phase) = why_members None None (codes "dry") None (Some (phase_name phase)) None
+why_data (whys.AfterClose number) = why_members None (Some number) (codes "runClosed") None None None
+why_data (whys.MetricWas phase since) =
+    why_members None since (codes "metricComplete") None (Some (phase_name phase)) None
+
 abbrev pub reason_members : (conditions : List Data)
-    → (counts error event misfit no_condition reason value : Data) → Data
-reason_members conditions counts error event misfit no_condition reason value = object
+    → (counts error event misfit no_condition reason shown value : Data) → Data
+reason_members conditions counts error event misfit no_condition reason shown value = object
     (member (codes "conditions") (array_of conditions)
     (member (codes "counts") counts
     (member (codes "error") error
@@ -99,36 +185,71 @@ reason_members conditions counts error event misfit no_condition reason value = 
     (member (codes "misfit") misfit
     (member (codes "noCondition") no_condition
     (member (codes "reason") reason
-    (member (codes "value") value no_members))))))))
+    (member (codes "shown") shown
+    (member (codes "value") value no_members)))))))))
 
 abbrev pub reason_data : Reason → Data
 reason_data reason =
     reason_members (map evaluated_data reason.conditions) (option_map_or change_data reason.change null)
-    (text_or_null (given_error reason.given)) (event_data reason.event) (text_or_null (given_misfit reason.given))
-    (boolean reason.no_condition)
-    (text_or_null (option_map why_words reason.why)) (text_or_null (given_value reason.given))
+    (given_error reason.given) (event_data reason.event) (given_misfit reason.event.number reason.given)
+    (boolean reason.no_condition) (option_map_or why_data reason.why null) (given_shown reason.given)
+    (given_value reason.given)
 
 -- ---- a run
+
+-- of more than 64 bits, the greatest number that these have
+abbrev pub measured_data : (measured : ℕ) → Data
+measured_data measured = count_data (min measured (2 ^ 64 - 1))
+
+abbrev pub progress_data : Progress → Data
+progress_data progress = object
+    (member (codes "count") (count_or_null progress.count)
+    (member (codes "measured") (measured_data progress.measured) no_members))
+
+abbrev pub settled_data : Settled → Data
+settled_data settled = object
+    (member (codes "count") (count_or_null settled.count)
+    (member (codes "event") (count_data settled.closer)
+    (member (codes "measured") (measured_data settled.measured) no_members)))
 
 -- `closer`: the event that closed the run, if one did
 abbrev pub waiting_data : (closer : Option EventNumber) → MetricFacts → Data
 waiting_data closer metric = object
     (member (codes "metric") (metric_data metric)
-    (member (codes "settled") (text_or_null (settled_by closer metric.limits metric.counts))
-    (member (codes "waitsFor") (text_or_null (waits_for metric.phase metric.limits metric.counts)) no_members)))
+    (member (codes "settled") (option_map_or settled_data (settled_by closer metric.limits metric.counts) null)
+    (member (codes "waitsFor") (option_map_or progress_data (waits_for metric.phase metric.limits metric.counts) null)
+    no_members)))
 
-abbrev pub run_members : (name : Text) → Phase → (waits : Option Text) → (metrics events : List Data) → Data
-run_members name phase waits metrics events = object
+-- a metric that a run waits for
+abbrev pub awaited_data : (name : Text) → Progress → Data
+awaited_data name progress = object
+    (member (codes "count") (count_or_null progress.count)
+    (member (codes "measured") (measured_data progress.measured)
+    (member (codes "metric") (string name) no_members)))
+
+abbrev pub awaited : MetricFacts → List Data
+awaited metric =
+    if is_complete metric.phase then []
+    else awaited_data metric.name (progress_of metric.limits metric.counts) ∷ []
+
+-- nothing where the run is closed
+abbrev pub run_waits_data : Phase → List MetricFacts → Data
+run_waits_data phase metrics = if is_complete phase then null else array_of (flat_map awaited metrics)
+
+abbrev pub run_members : (name : Text) → Phase → (metrics events : List Data) → (waits : Data) → Data
+run_members name phase metrics events waits = object
     (member (codes "events") (array_of events)
     (member (codes "metrics") (array_of metrics)
     (member (codes "name") (string name)
     (member (codes "phase") (string (phase_name phase))
-    (member (codes "waitsFor") (text_or_null waits) no_members)))))
+    (member (codes "waitsFor") waits no_members)))))
 
 abbrev pub run_reasons_data : RunReasons → Data
 run_reasons_data run =
-    run_members run.name run.phase (run_waits_for run.phase run.metrics)
-    (map (waiting_data run.closer) run.metrics) (map reason_data run.reasons)
+    run_members run.name run.phase (map (waiting_data run.closer) run.metrics) (map reason_data run.reasons)
+    (run_waits_data run.phase run.metrics)
 
 abbrev pub reasons_data : List RunReasons → Data
-reasons_data runs = named_list (codes "runs") (map run_reasons_data runs)
+reasons_data runs = object
+    (member (codes "runs") (array_of (map run_reasons_data runs))
+    (member (codes "version") (count_data 2) no_members))

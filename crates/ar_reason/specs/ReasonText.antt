@@ -1,26 +1,34 @@
 -- The text of reasons: the line of each run, the lines of its events, and those of its metrics.
-use Rattle.std.specs.Prelude.{ℕ, ◌==◌, ◌≡◌, refl, Bool, if◌then◌else◌, List, [], ◌∷◌, ◌++◌, codes, decimal, flat_map, Option, Some, None}
+use Rattle.std.specs.Prelude.{ℕ, ◌==◌, ◌≡◌, refl, Bool, if◌then◌else◌, List, [], ◌∷◌, ◌++◌, codes, decimal, flat_map, Option, Some, None, option_map}
 use Rattle.std.specs.Fmt.{digits}
 use Rattle.ar_value.specs.Fault.{fault_name}
 use Rattle.ar_value.specs.Operators.{Failure, faulted, ill_kinded}
 use Rattle.ar_value.specs.Terms.{Text}
+use Rattle.ar_value.specs.Value as values
 use Rattle.ar_bundle.specs.Event.{EventNumber}
 use Rattle.ar_limits.specs.declared.phase.Phase.{Phase}
 use Rattle.ar_tree.specs.Typed.{Typed}
 use Rattle.ar_tree.specs.Typed as typed
-use Rattle.ar_explain.specs.Lines.{Explanation, Line, Outcome, failed, passed, passed_line, unneeded, valued}
+use Rattle.ar_value.specs.declared.operator.UnaryOperator.TheVariants as unary
+use Rattle.ar_explain.specs.Apart.{Apart}
+use Rattle.ar_explain.specs.Lines.{Explanation, Line, Outcome, failed, is_item, passed, passed_line, unneeded, valued}
 use Rattle.ar_facts.specs.Facts.{MetricFacts}
 use Rattle.ar_facts.specs.Names.{phase_name}
-use Rattle.ar_facts.specs.Report.{event_line, metric_line, run_line}
+use Rattle.ar_facts.specs.Report.{event_line, metric_line, printed_event, printed_metric, run_line}
+use Rattle.ar_facts.specs.declared.text.Naming.TheVariants as naming
+use Rattle.ar_quote.specs.Shown.{shown_name}
 use Rattle.ar_show.specs.PartText.{shown_part}
+use Rattle.ar_misfit.specs.MisfitText.{misfit_text}
+use Rattle.ar_show.specs.Values.{shown_value}
 use Rattle.ar_show.specs.Words.{units}
-use Rattle.ar_reason.specs.Counts.{changed_counts}
+use Rattle.ar_progress.specs.Counts.{changed_counts}
 use Rattle.ar_reason.specs.Reason.{EvaluatedCondition, Given, Reason, RunReasons, gave_error, gave_misfit, gave_nothing, gave_value}
-use Rattle.ar_reason.specs.Settled.{settled_by}
-use Rattle.ar_reason.specs.Waiting.{run_waits_for, waits_for}
-use Rattle.ar_reason.specs.Why.{why_words}
-use Rattle.ar_reason.specs.declared.steps.Change.{Change}
-use Rattle.ar_reason.specs.declared.why.Why.{Why}
+use Rattle.ar_progress.specs.Settled.{settled_by, settled_text}
+use Rattle.ar_progress.specs.Waiting.{run_waits_for, waiting_text, waits_for}
+use Rattle.ar_progress.specs.Why.{why_words}
+use Rattle.ar_progress.specs.declared.steps.Change.{Change}
+use Rattle.ar_progress.specs.declared.waiting.Progress.{Progress}
+use Rattle.ar_progress.specs.declared.why.Why.{Why}
 
 -- ---- the lines of a condition
 
@@ -46,8 +54,15 @@ held_text items held =
     if held == 0 then codes "none holds" else if held == items then codes "each holds"
     else decimal held ++ (codes " " ++ hold_word held)
 
+-- where two texts differ that are shown alike
+abbrev pub apart_text : Option Apart → Text
+apart_text None = []
+apart_text (Some apart) =
+    codes "; byte " ++ (decimal apart.byte ++ (codes " differs: " ++ (apart.left ++ (codes " and " ++ apart.right))))
+
 abbrev pub said_text : Outcome → Text
-said_text (valued text) = codes " = " ++ text
+said_text (valued shown apart) = codes " = " ++ (shown.text ++ apart_text apart)
+said_text (is_item shown) = codes " = " ++ shown.text
 said_text (failed failure on) = codes ": " ++ (failure_name failure ++ operands_text on)
 said_text unneeded = codes ": not needed"
 said_text (passed items held) = between_text (codes "item") items ++ (codes ", " ++ held_text items held)
@@ -56,10 +71,16 @@ said_text (passed items held) = between_text (codes "item") items ++ (codes ", "
 unfoldable pub item_text : ℕ → Text
 item_text number = codes "item " ++ (decimal number ++ codes ": ")
 
+-- that a part converts its operand, which its text doesn't show
+abbrev pub conversion_text : Typed → Text
+conversion_text (typed.unary unary.ToDecimal operand) = codes " as a decimal"
+conversion_text part = []
+
 -- the part itself; where only items of it are counted it isn't written again
 abbrev pub said_part : Typed → Outcome → Text
-said_part part (valued text) = shown_part part
-said_part part (failed failure on) = shown_part part
+said_part part (valued shown apart) = shown_part part
+said_part part (is_item shown) = codes "#"
+said_part part (failed failure on) = shown_part part ++ conversion_text part
 said_part part unneeded = shown_part part
 said_part part (passed items held) = []
 
@@ -86,9 +107,9 @@ condition_text condition =
 
 abbrev pub given_line : Given → Text
 given_line gave_nothing = []
-given_line (gave_value text) = codes "  value: " ++ (text ++ codes "\n")
-given_line (gave_error text) = codes "  error: " ++ (text ++ codes "\n")
-given_line (gave_misfit text) = codes "  misfit: " ++ (text ++ codes "\n")
+given_line (gave_value value) = codes "  value: " ++ (shown_value value ++ codes "\n")
+given_line (gave_error text) = codes "  error: " ++ (shown_value (values.text text) ++ codes "\n")
+given_line (gave_misfit misfit) = codes "  misfit: " ++ (misfit_text misfit ++ codes "\n")
 
 -- in the place of conditions
 abbrev pub no_condition_line : (no_condition : Bool) → Text
@@ -110,14 +131,15 @@ outcome_lines reason = change_line reason.change ++ why_line reason.why
 
 abbrev pub reason_text : Reason → Text
 reason_text reason =
-    (event_line reason.event ++ given_line reason.given)
+    (event_line (printed_event naming.Clear reason.event) ++ given_line reason.given)
     ++ (flat_map condition_text reason.conditions ++ (no_condition_line reason.no_condition ++ outcome_lines reason))
 
 -- ---- the lines of a run
 
-abbrev pub waits_line : Phase → (waits : Option Text) → Text
+abbrev pub waits_line : Phase → (waits : Option Progress) → Text
 waits_line phase None = []
-waits_line phase (Some text) = codes "  " ++ (phase_name phase ++ (codes ": " ++ (text ++ codes "\n")))
+waits_line phase (Some progress) =
+    codes "  " ++ (phase_name phase ++ (codes ": " ++ (waiting_text progress ++ codes "\n")))
 
 -- a line that begins so, where there are words for it
 abbrev pub line_if_there : (before : Text) → (words : Option Text) → Text
@@ -127,12 +149,14 @@ line_if_there before (Some words) = before ++ (words ++ codes "\n")
 -- `closer`: the event that closed the run, if one did
 abbrev pub metric_lines : (closer : Option EventNumber) → MetricFacts → Text
 metric_lines closer metric =
-    metric_line metric ++ (waits_line metric.phase (waits_for metric.phase metric.limits metric.counts)
-    ++ line_if_there (codes "  ") (settled_by closer metric.limits metric.counts))
+    metric_line (printed_metric naming.Clear metric)
+    ++ (waits_line metric.phase (waits_for metric.phase metric.limits metric.counts)
+    ++ line_if_there (codes "  ") (option_map settled_text (settled_by closer metric.limits metric.counts)))
 
 abbrev pub run_reasons_text : RunReasons → Text
 run_reasons_text run =
-    (run_line run.name run.phase ++ line_if_there (codes "  waits for: ") (run_waits_for run.phase run.metrics))
+    (run_line (shown_name run.name) run.phase
+    ++ line_if_there (codes "  waits for: ") (run_waits_for run.phase run.metrics))
     ++ (flat_map reason_text run.reasons ++ flat_map (metric_lines run.closer) run.metrics)
 
 abbrev pub reasons_text : List RunReasons → Text

@@ -1,256 +1,56 @@
 //! Reasons as one JSON object.
 
-ghost use Rattle.std.specs.Prelude.{◌≡◌, ◌++◌, ◌≤◌, IfOk, OnOk, Some, codes, length, map, option_map, slice_get, string_bytes};
-ghost use Rattle.std.specs.List.{AllByRecursion, list_any};
+ghost use Rattle.std.specs.Prelude.{◌≡◌, ◌++◌, ◌≤◌, IfOk, OnOk, Some, codes, flat_map, length, map, option_map, slice_get, string_bytes};
+ghost use Rattle.std.specs.List.{AllByRecursion};
 ghost use Rattle.std.specs.Option.{option_map_or};
 ghost use Rattle.serde_json.specs.Data.{null};
 ghost use Rattle.serde_json.specs.View.{view};
 ghost use Rattle.ar_value.specs.View.{value_view};
 ghost use Rattle.ar_limits.specs.Replay.{Replays, most_events};
+ghost use Rattle.ar_limits.specs.declared.phase.Phase.{Phase};
 ghost use Rattle.ar_bundle.specs.Bundle.{events_of, finding_at};
 ghost use Rattle.ar_bundle.specs.Finished.{AreFinished};
 ghost use Rattle.ar_bundle.specs.Lawful.{IsFound, numbers_of};
 ghost use Rattle.ar_bundle.specs.Sound.{IsRun};
 ghost use Rattle.ar_judge.specs.Verdict.{sample_view};
-ghost use Rattle.ar_explain.specs.Lines.{passed};
-ghost use Rattle.ar_explain.specs.Views.{explanation_view, line_view, said_view};
 ghost use Rattle.ar_facts.specs.Facts.{event_facts, facts_of_metrics, metric_facts};
 ghost use Rattle.ar_object.specs.Line.{IsJsonLine};
-ghost use Rattle.ar_object.specs.Object.{array_of, count_data, text_or_null};
+ghost use Rattle.ar_object.specs.Object.{array_of};
 ghost use Rattle.ar_object.specs.Written.{AddsMember, AddsValue, AddsValues};
-ghost use Rattle.ar_tree.specs.Views.{typed_view};
-ghost use Rattle.ar_show.specs.PartText.{shown_part};
-ghost use Rattle.ar_reason.specs.Reason.{conditions_by, conditions_of, conditions_on, evaluated_if_there, evaluated_with, has_failed, lacks_conditions, reason_of, reason_with, reasons_of, run_reasons};
-ghost use Rattle.ar_reason.specs.ReasonData.{change_data, evaluated_data, evaluation_data, failure_if_there, gap_data, given_error, given_misfit, given_value, operands_if_there, part_data, reason_data, reasons_data, run_reasons_data, value_if_there, waiting_data, was_needed};
+ghost use Rattle.ar_progress.specs.Why.{why_of};
+ghost use Rattle.ar_show.specs.Values.{shown_value};
+ghost use Rattle.ar_reason.specs.Reason.{conditions_by, conditions_of, lacks_conditions, reason_of, reason_with, reasons_of, run_reasons};
+ghost use Rattle.ar_reason.specs.ReasonData.{awaited, awaited_data, change_data, evaluated_data, given_error, given_misfit, given_shown, given_value, measured_data, progress_data, reason_data, reasons_data, run_reasons_data, run_waits_data, settled_data, value_pointer, waiting_data};
 ghost use Rattle.ar_reason.specs.Views.{given_view};
-ghost use Rattle.ar_reason.specs.Waiting.{waits_for};
-ghost use Rattle.ar_reason.specs.Why.{why_of, why_words};
 ghost use Rattle.ar_reason.specs.Private.Found.{AreFoundSteps};
-ghost use Rattle.ar_reason.specs.Private.Trees.{condition_tree, trees_of, run_trees, judge_trees_view};
+ghost use Rattle.ar_reason.specs.Private.Trees.{trees_of, run_trees, judge_trees_view};
 
-use crate::chosen::Chosen;
-use crate::evaluated::{JudgeTrees, NamedTree, trees_at, trees_of};
+use crate::evaluated::{JudgeTrees, trees_at, trees_of};
 use crate::given::{Given, given_of};
 use crate::lines::{judge_at, lacks_conditions};
-use crate::parts::{failure_name, is_failure};
-use crate::steps::{Change, Step, is_chosen_run, traced};
-use crate::waiting::{push_waiting, run_waits_for, settled_by};
-use crate::why::{push_why, why_of};
+use crate::part_data::write_conditions;
+use crate::why_data::put_why;
 use ar_bundle::{Bundle, Entry, Finished, MetricPart, RunPart, What};
-use ar_explain::{Evaluation, Explanation, Line, Said, tell};
+use ar_exact::exact_of;
 use ar_facts::{phase_name, write_counts, write_event, write_limits, write_metric};
-use ar_judge::{Judge, Sample, SharedCondition, Which};
+use ar_judge::{Judge, Sample};
 use ar_limits::{Counts, Limits, Phase, RunState};
-use ar_object::{JsonText, VERSION};
-use ar_show::push_part;
-use ar_tree::Typed;
+use ar_machine::operand::OperandRef;
+use ar_machine::operand::borrowed::value_ref;
+use ar_misfit::write_misfit;
+use ar_object::JsonText;
+use ar_progress::{
+    Change, Chosen, Progress, Settled, Step, is_chosen_run, progress_of, settled_by, traced,
+    waits_for, why_of,
+};
+use ar_show::push_value;
 use ar_value::value::Value;
 use serde_json::Value as Json;
 use std::alloc::{AllocError, Global};
+use std::fmt::Write;
 
-// ---- the parts of a condition
-
-fn value_if_there(said: &Said) -> Option<&str>
-    ensures { option_map (λ text. text.now) result ≡ value_if_there (said_view said.now) }
-{
-    match said {
-        Said::Valued(text) => Some(text.as_str()),
-        Said::Failed(..) | Said::Unneeded | Said::Passed { .. } => None,
-    }
-}
-
-fn failure_if_there(said: &Said) -> Option<&'static str>
-    ensures { option_map (λ text. text.now) result ≡ failure_if_there (said_view said.now) }
-{
-    match said {
-        Said::Failed(failure, _) => Some(failure_name(*failure)),
-        Said::Valued(_) | Said::Unneeded | Said::Passed { .. } => None,
-    }
-}
-
-/// On which operands a failure arose, if it arose in the part.
-fn operands_if_there(said: &Said) -> Option<&str>
-    ensures { option_map (λ text. text.now) result ≡ operands_if_there (said_view said.now) }
-{
-    match said {
-        Said::Failed(_, Some(on)) => Some(on.as_str()),
-        Said::Failed(_, None) | Said::Valued(_) | Said::Unneeded | Said::Passed { .. } => None,
-    }
-}
-
-fn was_needed(said: &Said) -> bool
-    ensures { result ≡ was_needed (said_view said.now) }
-{
-    !matches!(said, Said::Unneeded)
-}
-
-fn shown(alloc: Global, part: &Typed) -> Result<String, AllocError>
-    ensures { IfOk result (λ text. string_bytes text ≡ shown_part (typed_view part.now)) }
-{
-    let mut text = String::new(alloc);
-    push_part(&mut text, part)?;
-    Ok(text)
-}
-
-fn write_gap(json: &mut JsonText, items: usize, held: usize)
-    ensures { AddsValue (gap_data (passed items held)) json.old.written json.new.written }
-{
-    json.begin_object();
-    json.put_count("hold", held as u64);
-    json.put_count("items", items as u64);
-    json.end_object()
-}
-
-/// Writes how many items aren't shown, or null.
-fn put_gap(json: &mut JsonText, said: &Said)
-    ensures { AddsMember (codes "between") (gap_data (said_view said.now)) json.old.written json.new.written }
-{
-    match said {
-        Said::Passed { items, held } => {
-            json.put_key("between");
-            write_gap(json, *items, *held)
-        }
-        Said::Valued(_) | Said::Failed(..) | Said::Unneeded => json.put_null("between"),
-    }
-}
-
-/// Writes the items that a part has lines of.
-fn put_items(json: &mut JsonText, items: &[usize])
-    ensures { AddsMember (codes "items") (array_of (map count_data items.now)) json.old.written json.new.written }
-{
-    json.begin_list("items");
-    for item in items {
-        json.put_count_value(*item as u64);
-    }
-    json.end_list()
-}
-
-fn write_part(alloc: Global, json: &mut JsonText, line: &Line<'_>) -> Result<(), AllocError>
-    ensures { OnOk result (AddsValue (part_data (line_view line.now)) json.old.written json.new.written) }
-{
-    let part = shown(alloc, line.part)?;
-    json.begin_object();
-    put_gap(json, &line.said);
-    json.put_text_if_there("failure", failure_if_there(&line.said));
-    put_items(json, &line.items);
-    json.put_flag("needed", was_needed(&line.said));
-    json.put_text_if_there("on", operands_if_there(&line.said));
-    json.put_text("part", &part);
-    json.put_text_if_there("value", value_if_there(&line.said));
-    json.end_object();
-    Ok(())
-}
-
-fn write_parts(alloc: Global, json: &mut JsonText, lines: &[Line<'_>]) -> Result<(), AllocError>
-    ensures { OnOk result
-        (AddsValues (map part_data (map line_view lines.now)) json.old.written json.new.written) }
-{
-    for line in lines {
-        write_part(alloc, json, line)?;
-    }
-    Ok(())
-}
-
-/// Writes the first parts, then the last ones.
-fn put_parts(alloc: Global, json: &mut JsonText, parts: &Explanation<'_>) -> Result<(), AllocError>
-    ensures { OnOk result (AddsMember (codes "parts") (array_of (map part_data
-        ((explanation_view parts.now).lines ++ (explanation_view parts.now).last)))
-        json.old.written json.new.written) }
-{
-    let (first, second) = parts.last.as_slices();
-    json.begin_list("parts");
-    write_parts(alloc, json, &parts.lines)?;
-    write_parts(alloc, json, first)?;
-    write_parts(alloc, json, second)?;
-    json.end_list();
-    Ok(())
-}
-
-/// Writes a condition with the parts and the answer of its evaluation.
-fn write_evaluation(
-    alloc: Global,
-    json: &mut JsonText,
-    which: &str,
-    text: &str,
-    evaluation: &Evaluation<'_>,
-) -> Result<(), AllocError>
-    ensures { OnOk result (AddsValue (evaluation_data which.now text.now (explanation_view evaluation.now.parts)
-        (said_view evaluation.now.answer)) json.old.written json.new.written) }
-{
-    json.begin_object();
-    json.put_text_if_there("answer", value_if_there(&evaluation.answer));
-    json.put_text("condition", which);
-    json.put_text_if_there("failure", failure_if_there(&evaluation.answer));
-    json.put_count("leftOut", evaluation.parts.left_out);
-    json.put_text_if_there("on", operands_if_there(&evaluation.answer));
-    put_parts(alloc, json, &evaluation.parts)?;
-    json.put_text("text", text);
-    json.end_object();
-    Ok(())
-}
-
-/// Writes a condition's tree on a value, and returns whether the condition has failed there.
-fn write_tree(
-    alloc: Global,
-    json: &mut JsonText,
-    condition: &NamedTree<'_>,
-    value: &Value,
-) -> Result<bool, AllocError>
-    ensures json { OnOk result (AddsValue (evaluated_data (evaluated_with condition.now.which.now
-        condition.now.text.now (value_view value.now) (typed_view condition.now.tree.now)))
-        json.old.written json.new.written) }
-    ensures fails { IfOk result (λ failed. failed ≡ has_failed (evaluated_with condition.now.which.now
-        condition.now.text.now (value_view value.now) (typed_view condition.now.tree.now))) }
-{
-    let evaluation = tell(alloc, condition.tree, value)?;
-    write_evaluation(alloc, json, condition.which, condition.text, &evaluation)?;
-    Ok(is_failure(&evaluation.answer))
-}
-
-/// Writes a condition with its tree on a value, where it is there, and returns whether it has failed.
-fn write_condition(
-    alloc: Global,
-    json: &mut JsonText,
-    which: &str,
-    condition: Option<&SharedCondition>,
-    tree: &Option<Typed>,
-    value: &Value,
-) -> Result<bool, AllocError>
-    requires { option_map typed_view tree.now
-        ≡ condition_tree (option_map (λ condition. condition.now) condition) }
-    ensures json { OnOk result (AddsValues (map evaluated_data (evaluated_if_there which.now (value_view value.now)
-        (option_map (λ condition. condition.now) condition.entry))) json.old.written json.new.written) }
-    ensures fails { IfOk result (λ failed. failed ≡ list_any has_failed (evaluated_if_there which.now
-        (value_view value.now) (option_map (λ condition. condition.now) condition.entry))) }
-{
-    match (condition, tree) {
-        (Some(condition), Some(tree)) => {
-            let text = condition.get().text();
-            write_tree(alloc, json, &NamedTree { which, text, tree }, value)
-        }
-        (_, None) | (None, _) => Ok(false),
-    }
-}
-
-/// Writes what a judge's conditions say of a value.
-fn write_conditions(
-    alloc: Global,
-    json: &mut JsonText,
-    judge: &Judge,
-    trees: &JudgeTrees,
-    value: &Value,
-) -> Result<(), AllocError>
-    requires { judge_trees_view trees.now ≡ trees_of judge.now }
-    ensures { OnOk result (AddsValues (map evaluated_data (conditions_on judge.now (value_view value.now)))
-        json.old.written json.new.written) }
-{
-    let success = judge.condition(Which::Success);
-    if !write_condition(alloc, json, "success", success, &trees.success, value)? {
-        let failure = judge.condition(Which::Failure);
-        write_condition(alloc, json, "failure", failure, &trees.failure, value)?;
-    }
-    Ok(())
-}
+/// The version of the form of the object.
+const FORM: u64 = 2;
 
 // ---- events
 
@@ -296,31 +96,77 @@ fn write_evaluated(
     }
 }
 
-fn given_value(given: &Given) -> Option<&str>
-    ensures { option_map (λ text. text.now) result ≡ given_value (given_view given.now) }
+/// Writes the text of a provider's error, or null.
+fn put_error(json: &mut JsonText, given: &Given<'_>)
+    ensures { AddsMember (codes "error") (given_error (given_view given.now)) json.old.written json.new.written }
 {
     match given {
-        Given::Value(text) => Some(text.as_str()),
-        Given::Nothing | Given::Error(_) | Given::Misfit(_) => None,
+        Given::Error(text) => json.put_text("error", text),
+        Given::Nothing | Given::Misfit(_) | Given::Value(_) => json.put_null("error"),
     }
 }
 
-fn given_error(given: &Given) -> Option<&str>
-    ensures { option_map (λ text. text.now) result ≡ given_error (given_view given.now) }
+/// The pointer to the value of a measurement.
+fn value_pointer(alloc: Global, number: u64) -> Result<String, AllocError>
+    ensures { IfOk result (λ pointer. string_bytes pointer ≡ value_pointer number) }
 {
-    match given {
-        Given::Error(text) => Some(text.as_str()),
-        Given::Nothing | Given::Misfit(_) | Given::Value(_) => None,
-    }
+    let mut pointer = String::new(alloc);
+    write!(pointer, "/measurements/{number}/value")?;
+    Ok(pointer)
 }
 
-fn given_misfit(given: &Given) -> Option<&str>
-    ensures { option_map (λ text. text.now) result ≡ given_misfit (given_view given.now) }
+/// Writes where a measured value doesn't fit its shape, or null.
+fn put_misfit(
+    alloc: Global,
+    json: &mut JsonText,
+    number: u64,
+    given: &Given<'_>,
+) -> Result<(), AllocError>
+    ensures { OnOk result (AddsMember (codes "misfit") (given_misfit number (given_view given.now))
+        json.old.written json.new.written) }
 {
-    match given {
-        Given::Misfit(text) => Some(text.as_str()),
-        Given::Nothing | Given::Error(_) | Given::Value(_) => None,
-    }
+    let Given::Misfit(misfit) = given else {
+        json.put_null("misfit");
+        return Ok(());
+    };
+    let pointer = value_pointer(alloc, number)?;
+    json.put_key("misfit");
+    write_misfit(alloc, json, &pointer, misfit)
+}
+
+fn value_text(alloc: Global, value: &Value) -> Result<String, AllocError>
+    ensures { IfOk result (λ text. string_bytes text ≡ shown_value (value_view value.now)) }
+{
+    let mut text = String::new(alloc);
+    push_value(&mut text, OperandRef::Borrowed(value_ref(value)))?;
+    Ok(text)
+}
+
+/// Writes a measured value as lines show it, or null.
+fn put_shown(alloc: Global, json: &mut JsonText, given: &Given<'_>) -> Result<(), AllocError>
+    ensures { OnOk result (AddsMember (codes "shown") (given_shown (given_view given.now))
+        json.old.written json.new.written) }
+{
+    let Given::Value(value) = given else {
+        json.put_null("shown");
+        return Ok(());
+    };
+    let text = value_text(alloc, value)?;
+    json.put_text("shown", &text);
+    Ok(())
+}
+
+/// Writes a measured value where JSON has it, or null.
+fn put_value(alloc: Global, json: &mut JsonText, given: &Given<'_>) -> Result<(), AllocError>
+    ensures { OnOk result (AddsMember (codes "value") (given_value (given_view given.now))
+        json.old.written json.new.written) }
+{
+    let Given::Value(value) = given else {
+        json.put_null("value");
+        return Ok(());
+    };
+    let exact = exact_of(alloc, OperandRef::Borrowed(value_ref(value)))?;
+    exact.put(alloc, json, "value")
 }
 
 fn write_change(json: &mut JsonText, change: Change)
@@ -347,32 +193,6 @@ fn put_change(json: &mut JsonText, change: Option<Change>)
     write_change(json, change)
 }
 
-/// Writes words, or null where there are none.
-fn put_words(json: &mut JsonText, name: &str, words: Option<String>)
-    ensures { AddsMember name.now (text_or_null (option_map string_bytes words))
-        json.old.written json.new.written }
-{
-    match words {
-        Some(words) => json.put_text(name, &words),
-        None => json.put_null(name),
-    }
-}
-
-/// Writes why an event closed its run or came late, or null.
-fn put_why(alloc: Global, json: &mut JsonText, step: Step) -> Result<(), AllocError>
-    ensures { OnOk result (AddsMember (codes "reason") (text_or_null (option_map why_words (why_of step)))
-        json.old.written json.new.written) }
-{
-    let Some(why) = why_of(step) else {
-        json.put_null("reason");
-        return Ok(());
-    };
-    let mut words = String::new(alloc);
-    push_why(&mut words, why)?;
-    json.put_text("reason", &words);
-    Ok(())
-}
-
 /// Writes what led to an event of a run, for which the provider gave this.
 fn write_reason_of(
     alloc: Global,
@@ -382,7 +202,7 @@ fn write_reason_of(
     trees: &[JudgeTrees],
     step: Step,
     what: &What,
-    given: &Given,
+    given: &Given<'_>,
 ) -> Result<(), AllocError>
     requires found { finding_at bundle.now step.entry.number ≡ Some step.entry.finding }
     requires trees { map judge_trees_view trees.now ≡ run_trees bundle.now run }
@@ -396,13 +216,14 @@ fn write_reason_of(
     write_evaluated(alloc, json, bundle, run, trees, what)?;
     json.end_list();
     put_change(json, step.change);
-    json.put_text_if_there("error", given_error(given));
+    put_error(json, given);
     json.put_key("event");
     write_event(json, bundle, step.entry);
-    json.put_text_if_there("misfit", given_misfit(given));
+    put_misfit(alloc, json, step.entry.number, given)?;
     json.put_flag("noCondition", lacks_conditions(bundle, run, what));
-    put_why(alloc, json, step)?;
-    json.put_text_if_there("value", given_value(given));
+    put_why(json, why_of(step));
+    put_shown(alloc, json, given)?;
+    put_value(alloc, json, given)?;
     json.end_object();
     Ok(())
 }
@@ -454,71 +275,170 @@ fn put_reasons(
 
 // ---- metrics
 
-/// Writes what a metric waits for, or null where it is complete.
-fn put_waits(
-    alloc: Global,
-    json: &mut JsonText,
-    phase: Phase,
-    limits: Limits,
-    counts: Counts,
-) -> Result<(), AllocError>
-    ensures { OnOk result (AddsMember (codes "waitsFor") (text_or_null (waits_for phase limits counts))
-        json.old.written json.new.written) }
+/// A number of measurements, or the greatest that has 64 bits.
+fn put_measured(json: &mut JsonText, measured: u128)
+    ensures { AddsMember (codes "measured") (measured_data measured) json.old.written json.new.written }
 {
-    if phase.is_complete() {
-        json.put_null("waitsFor");
-        return Ok(());
-    }
-    let mut words = String::new(alloc);
-    push_waiting(&mut words, limits, counts)?;
-    json.put_text("waitsFor", &words);
-    Ok(())
+    let most = u128::from(u64::MAX);
+    json.put_count("measured", measured.min(most) as u64)
+}
+
+fn write_progress(json: &mut JsonText, progress: Progress)
+    ensures { AddsValue (progress_data progress) json.old.written json.new.written }
+{
+    json.begin_object();
+    json.put_count_if_there("count", progress.count);
+    put_measured(json, progress.measured);
+    json.end_object()
+}
+
+/// Writes what a metric waits for, or null where it is complete.
+fn put_waits(json: &mut JsonText, waits: Option<Progress>)
+    ensures { AddsMember (codes "waitsFor") (option_map_or progress_data waits null)
+        json.old.written json.new.written }
+{
+    let Some(progress) = waits else {
+        return json.put_null("waitsFor");
+    };
+    json.put_key("waitsFor");
+    write_progress(json, progress)
+}
+
+fn write_settled(json: &mut JsonText, settled: Settled)
+    ensures { AddsValue (settled_data settled) json.old.written json.new.written }
+{
+    json.begin_object();
+    json.put_count_if_there("count", settled.count);
+    json.put_count("event", settled.closer);
+    put_measured(json, settled.measured);
+    json.end_object()
+}
+
+/// Writes by which event the close of its run settled a metric, or null.
+fn put_settled(json: &mut JsonText, settled: Option<Settled>)
+    ensures { AddsMember (codes "settled") (option_map_or settled_data settled null)
+        json.old.written json.new.written }
+{
+    let Some(settled) = settled else {
+        return json.put_null("settled");
+    };
+    json.put_key("settled");
+    write_settled(json, settled)
 }
 
 /// Writes a metric, whose run this event closed, if one did.
 fn write_waiting(
-    alloc: Global,
     json: &mut JsonText,
     metric: &MetricPart,
     limits: Limits,
     phase: Phase,
     counts: Counts,
     closer: Option<u64>,
-) -> Result<(), AllocError>
-    ensures { OnOk result (AddsValue (waiting_data closer (metric_facts metric.now limits phase counts))
-        json.old.written json.new.written) }
+)
+    ensures { AddsValue (waiting_data closer (metric_facts metric.now limits phase counts))
+        json.old.written json.new.written }
 {
     json.begin_object();
     json.put_key("metric");
     write_metric(json, metric, limits, phase, counts);
-    put_words(json, "settled", settled_by(alloc, closer, limits, counts)?);
-    put_waits(alloc, json, phase, limits, counts)?;
-    json.end_object();
-    Ok(())
+    put_settled(json, settled_by(closer, limits, counts));
+    put_waits(json, waits_for(phase, limits, counts));
+    json.end_object()
 }
 
 /// Writes a run's metrics, as the run is.
 fn put_metrics(
-    alloc: Global,
     json: &mut JsonText,
     metrics: &[MetricPart],
     limits: &[Limits],
     state: &RunState,
     closer: Option<u64>,
-) -> Result<(), AllocError>
+)
     requires limits { length limits.now ≡ length metrics.now }
     requires metrics { length state.now.limits ≡ length metrics.now }
-    ensures { OnOk result (AddsMember (codes "metrics") (array_of (map (waiting_data closer)
+    ensures { AddsMember (codes "metrics") (array_of (map (waiting_data closer)
         (facts_of_metrics metrics.now limits.now state.now.phases state.now.counts)))
-        json.old.written json.new.written) }
+        json.old.written json.new.written }
 {
     json.begin_list("metrics");
     for (number, metric) in metrics.iter().enumerate() {
         let (phase, counts) = (state.metric_phase(number), state.counts(number));
-        write_waiting(alloc, json, metric, limits[number], phase, counts, closer)?;
+        write_waiting(json, metric, limits[number], phase, counts, closer);
     }
-    json.end_list();
-    Ok(())
+    json.end_list()
+}
+
+/// Writes a metric that its run waits for.
+fn write_awaited(json: &mut JsonText, name: &str, progress: Progress)
+    ensures { AddsValue (awaited_data name.now progress) json.old.written json.new.written }
+{
+    json.begin_object();
+    json.put_count_if_there("count", progress.count);
+    put_measured(json, progress.measured);
+    json.put_text("metric", name);
+    json.end_object()
+}
+
+/// Writes a metric, unless it is complete.
+#[tactic(auto, using(ar_object::proofs::Texts::no_values))]
+fn write_if_awaited(
+    json: &mut JsonText,
+    metric: &MetricPart,
+    limits: Limits,
+    phase: Phase,
+    counts: Counts,
+)
+    ensures { AddsValues (awaited (metric_facts metric.now limits phase counts)) json.old.written json.new.written }
+{
+    if !phase.is_complete() {
+        write_awaited(json, metric.name.as_str(), progress_of(limits, counts))
+    }
+}
+
+/// Writes the metrics that aren't complete.
+fn write_all_awaited(
+    json: &mut JsonText,
+    metrics: &[MetricPart],
+    limits: &[Limits],
+    state: &RunState,
+)
+    requires limits { length limits.now ≡ length metrics.now }
+    requires metrics { length state.now.limits ≡ length metrics.now }
+    ensures { AddsValues (flat_map awaited
+        (facts_of_metrics metrics.now limits.now state.now.phases state.now.counts))
+        json.old.written json.new.written }
+{
+    for (number, metric) in metrics.iter().enumerate() {
+        let (phase, counts) = (state.metric_phase(number), state.counts(number));
+        write_if_awaited(json, metric, limits[number], phase, counts);
+    }
+}
+
+fn put_awaited(json: &mut JsonText, metrics: &[MetricPart], limits: &[Limits], state: &RunState)
+    requires limits { length limits.now ≡ length metrics.now }
+    requires metrics { length state.now.limits ≡ length metrics.now }
+    ensures { AddsMember (codes "waitsFor") (array_of (flat_map awaited
+        (facts_of_metrics metrics.now limits.now state.now.phases state.now.counts)))
+        json.old.written json.new.written }
+{
+    json.begin_list("waitsFor");
+    write_all_awaited(json, metrics, limits, state);
+    json.end_list()
+}
+
+/// Writes what a run waits for, or null where it is closed.
+fn put_run_waits(json: &mut JsonText, metrics: &[MetricPart], limits: &[Limits], state: &RunState)
+    requires limits { length limits.now ≡ length metrics.now }
+    requires metrics { length state.now.limits ≡ length metrics.now }
+    ensures { AddsMember (codes "waitsFor") (run_waits_data state.now.phase
+        (facts_of_metrics metrics.now limits.now state.now.phases state.now.counts))
+        json.old.written json.new.written }
+{
+    if state.phase().is_complete() {
+        json.put_null("waitsFor")
+    } else {
+        put_awaited(json, metrics, limits, state)
+    }
 }
 
 // ---- runs
@@ -547,13 +467,12 @@ fn write_run(
     let trees = trees_of(alloc, run.judges.as_slice())?;
     let (metrics, limits) = (bundle.metrics(), run.limits.as_slice());
     let found = traced(alloc, bundle, chosen, run, entries)?;
-    let waits = run_waits_for(alloc, metrics, limits, state)?;
     json.begin_object();
     put_reasons(alloc, json, document, bundle, number, &trees, &found.steps)?;
-    put_metrics(alloc, json, metrics, limits, state, found.closer)?;
+    put_metrics(json, metrics, limits, state, found.closer);
     json.put_text("name", run.name.as_str());
     json.put_text("phase", phase_name(state.phase()));
-    put_words(json, "waitsFor", waits);
+    put_run_waits(json, metrics, limits, state);
     json.end_object();
     Ok(())
 }
@@ -607,7 +526,7 @@ pub fn reasons_json(
     let mut json = JsonText::new(alloc);
     json.begin_object();
     put_runs(alloc, &mut json, document, bundle, finished, chosen)?;
-    json.put_count("version", VERSION);
+    json.put_count("version", FORM);
     json.end_object();
     json.finish()
 }

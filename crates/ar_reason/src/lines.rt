@@ -11,26 +11,37 @@ ghost use Rattle.ar_bundle.specs.Sound.{IsRun};
 ghost use Rattle.ar_judge.specs.Verdict.{sample_view};
 ghost use Rattle.ar_facts.specs.Facts.{facts_of_metrics, metric_facts};
 ghost use Rattle.ar_facts.specs.Report.{run_line};
+ghost use Rattle.ar_value.specs.Value as values;
+ghost use Rattle.ar_value.specs.View.{value_view};
+ghost use Rattle.ar_misfit.specs.MisfitText.{misfit_text};
+ghost use Rattle.ar_misfit.specs.Views.{misfit_view};
+ghost use Rattle.ar_quote.specs.Shown.{shown_name};
+ghost use Rattle.ar_show.specs.Values.{shown_value};
 ghost use Rattle.ar_reason.specs.Reason.{conditions_by, conditions_of, lacks_conditions, reason_of, reasons_of, run_reasons};
 ghost use Rattle.ar_reason.specs.ReasonText.{change_line, condition_text, given_line, line_if_there, metric_lines, no_condition_line, outcome_lines, reason_text, reasons_text, run_reasons_text, waits_line, why_line};
 ghost use Rattle.ar_reason.specs.Views.{given_view};
-ghost use Rattle.ar_reason.specs.Waiting.{run_waits_for, waits_for};
-ghost use Rattle.ar_reason.specs.Why.{why_of};
+ghost use Rattle.ar_progress.specs.Settled.{settled_text};
+ghost use Rattle.ar_progress.specs.Waiting.{run_waits_for};
+ghost use Rattle.ar_progress.specs.Why.{why_of};
 ghost use Rattle.ar_reason.specs.Private.Found.{AreFoundSteps};
 ghost use Rattle.ar_reason.specs.Private.Trees.{trees_of, run_trees, judge_trees_view};
 
-use crate::chosen::Chosen;
-use crate::counts::push_counts;
 use crate::evaluated::{JudgeTrees, trees_at, trees_of};
 use crate::given::{Given, given_of};
 use crate::parts::push_conditions;
-use crate::steps::{Change, Step, is_chosen_run, traced};
-use crate::waiting::{push_waiting, run_waits_for, settled_by};
-use crate::why::{Why, push_why, why_of};
 use ar_bundle::{Bundle, Entry, Finished, MetricPart, RunPart, What};
-use ar_facts::{phase_name, put_event, put_metric, put_run_line};
+use ar_facts::{Naming, phase_name, put_event, put_metric, put_run_line};
 use ar_judge::{Judge, Sample, Which};
 use ar_limits::{Counts, Limits, Phase, RunState};
+use ar_machine::operand::OperandRef;
+use ar_machine::operand::borrowed::{ValueRef, value_ref};
+use ar_misfit::{Misfit, push_misfit};
+use ar_progress::{
+    Change, Chosen, Progress, Settled, Step, Why, is_chosen_run, push_counts, push_settled,
+    push_waiting, push_why, run_waits_for, settled_by, traced, waits_for, why_of,
+};
+use ar_show::push_value;
+use ar_value::value::Value;
 use serde_json::Value as Json;
 use std::alloc::{AllocError, Global};
 
@@ -44,14 +55,41 @@ fn push_line(out: &mut String, name: &str, text: &str) -> Result<(), AllocError>
     out.push_str("\n")
 }
 
-fn push_given(out: &mut String, given: &Given) -> Result<(), AllocError>
+fn push_measured(out: &mut String, value: &Value) -> Result<(), AllocError>
+    ensures { OnOk result (string_bytes out.new ≡ string_bytes out.old
+        ++ (codes "  value: " ++ (shown_value (value_view value.now) ++ codes "\n"))) }
+{
+    out.push_str("  value: ")?;
+    push_value(out, OperandRef::Borrowed(value_ref(value)))?;
+    out.push_str("\n")
+}
+
+fn push_error(out: &mut String, text: &str) -> Result<(), AllocError>
+    ensures { OnOk result (string_bytes out.new ≡ string_bytes out.old
+        ++ (codes "  error: " ++ (shown_value (values.text text.now) ++ codes "\n"))) }
+{
+    out.push_str("  error: ")?;
+    push_value(out, OperandRef::Borrowed(ValueRef::Text(text)))?;
+    out.push_str("\n")
+}
+
+fn push_misfit_line(out: &mut String, misfit: &Misfit<'_>) -> Result<(), AllocError>
+    ensures { OnOk result (string_bytes out.new ≡ string_bytes out.old
+        ++ (codes "  misfit: " ++ (misfit_text (misfit_view misfit.now) ++ codes "\n"))) }
+{
+    out.push_str("  misfit: ")?;
+    push_misfit(out, misfit)?;
+    out.push_str("\n")
+}
+
+fn push_given(out: &mut String, given: &Given<'_>) -> Result<(), AllocError>
     ensures { OnOk result (string_bytes out.new ≡ string_bytes out.old ++ given_line (given_view given.now)) }
 {
     match given {
         Given::Nothing => Ok(()),
-        Given::Value(text) => push_line(out, "  value: ", text),
-        Given::Error(text) => push_line(out, "  error: ", text),
-        Given::Misfit(text) => push_line(out, "  misfit: ", text),
+        Given::Value(value) => push_measured(out, value),
+        Given::Error(text) => push_error(out, text),
+        Given::Misfit(misfit) => push_misfit_line(out, misfit),
     }
 }
 
@@ -182,7 +220,7 @@ fn push_reason(
     let number = step.entry.number;
     let part = &bundle.entries()[number as usize];
     let given = given_of(alloc, document, bundle, number, &part.what)?;
-    put_event(out, bundle, step.entry)?;
+    put_event(out, Naming::Clear, bundle, step.entry)?;
     push_given(out, &given)?;
     push_evaluated(alloc, out, bundle, run, trees, &part.what)?;
     push_no_condition(out, lacks_conditions(bundle, run, &part.what))?;
@@ -223,28 +261,34 @@ fn push_if_there(out: &mut String, before: &str, words: Option<String>) -> Resul
     }
 }
 
-fn push_waits(
-    out: &mut String,
-    phase: Phase,
-    limits: Limits,
-    counts: Counts,
-) -> Result<(), AllocError>
-    ensures { OnOk result (string_bytes out.new ≡ string_bytes out.old
-        ++ waits_line phase (waits_for phase limits counts)) }
+fn push_waits(out: &mut String, phase: Phase, waits: Option<Progress>) -> Result<(), AllocError>
+    ensures { OnOk result (string_bytes out.new ≡ string_bytes out.old ++ waits_line phase waits) }
 {
-    if phase.is_complete() {
+    let Some(progress) = waits else {
         return Ok(());
-    }
+    };
     out.push_str("  ")?;
     out.push_str(phase_name(phase))?;
     out.push_str(": ")?;
-    push_waiting(out, limits, counts)?;
+    push_waiting(out, progress)?;
+    out.push_str("\n")
+}
+
+/// That the close of a run settled a metric, if it did.
+fn push_settled_line(out: &mut String, settled: Option<Settled>) -> Result<(), AllocError>
+    ensures { OnOk result (string_bytes out.new
+        ≡ string_bytes out.old ++ line_if_there (codes "  ") (option_map settled_text settled)) }
+{
+    let Some(settled) = settled else {
+        return Ok(());
+    };
+    out.push_str("  ")?;
+    push_settled(out, settled)?;
     out.push_str("\n")
 }
 
 /// The lines of a metric, whose run this event closed, if one did.
 fn push_metric(
-    alloc: Global,
     out: &mut String,
     metric: &MetricPart,
     limits: Limits,
@@ -255,16 +299,14 @@ fn push_metric(
     ensures { OnOk result (string_bytes out.new ≡ string_bytes out.old
         ++ metric_lines closer (metric_facts metric.now limits phase counts)) }
 {
-    let settled = settled_by(alloc, closer, limits, counts)?;
-    put_metric(out, metric, limits, phase, counts)?;
-    push_waits(out, phase, limits, counts)?;
-    push_if_there(out, "  ", settled)
+    put_metric(out, Naming::Clear, metric, limits, phase, counts)?;
+    push_waits(out, phase, waits_for(phase, limits, counts))?;
+    push_settled_line(out, settled_by(closer, limits, counts))
 }
 
 /// The lines of a run's metrics, as the run is.
 #[tactic(auto, using(crate::proofs::Metrics::next_metric, crate::proofs::Metrics::no_metric_left))]
 fn push_metrics(
-    alloc: Global,
     out: &mut String,
     metrics: &[MetricPart],
     limits: &[Limits],
@@ -279,7 +321,7 @@ fn push_metrics(
 {
     for (number, metric) in metrics.iter().enumerate() {
         let (phase, counts) = (state.metric_phase(number), state.counts(number));
-        push_metric(alloc, out, metric, limits[number], phase, counts, closer)?;
+        push_metric(out, metric, limits[number], phase, counts, closer)?;
     }
     Ok(())
 }
@@ -296,12 +338,13 @@ fn push_head(
 ) -> Result<(), AllocError>
     requires limits { length run.now.limits ≡ length metrics.now }
     requires metrics { length state.now.limits ≡ length metrics.now }
-    ensures { OnOk result (string_bytes out.new ≡ string_bytes out.old ++ (run_line run.now.name state.now.phase
+    ensures { OnOk result (string_bytes out.new ≡ string_bytes out.old
+        ++ (run_line (shown_name run.now.name) state.now.phase
         ++ line_if_there (codes "  waits for: ") (run_waits_for state.now.phase
         (facts_of_metrics metrics.now run.now.limits state.now.phases state.now.counts)))) }
 {
     let waits = run_waits_for(alloc, metrics, run.limits.as_slice(), state)?;
-    put_run_line(out, run, state.phase())?;
+    put_run_line(out, Naming::Clear, run, state.phase())?;
     push_if_there(out, "  waits for: ", waits)
 }
 
@@ -331,7 +374,7 @@ fn push_run(
     let found = traced(alloc, bundle, chosen, run, entries)?;
     push_head(alloc, out, metrics, run, state)?;
     push_reasons(alloc, out, document, bundle, number, &trees, &found.steps)?;
-    push_metrics(alloc, out, metrics, limits, state, found.closer)
+    push_metrics(out, metrics, limits, state, found.closer)
 }
 
 /// What led to the verdict and the effect of each event that is asked for, in lines.

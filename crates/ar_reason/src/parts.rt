@@ -5,19 +5,19 @@ ghost use Rattle.std.specs.List.{list_any};
 ghost use Rattle.ar_value.specs.View.{value_view};
 ghost use Rattle.ar_operand.specs.Failures.{failure_of};
 ghost use Rattle.ar_tree.specs.Views.{typed_view};
-ghost use Rattle.ar_explain.specs.Views.{explanation_view, line_view, said_view};
+ghost use Rattle.ar_explain.specs.Views.{apart_view, explanation_view, line_view, said_view};
 ghost use Rattle.ar_show.specs.PartText.{shown_part};
-ghost use Rattle.ar_show.specs.Words.{plural};
 ghost use Rattle.ar_reason.specs.Reason.{conditions_on, evaluated_if_there, evaluated_with, has_failed, is_failure};
 ghost use Rattle.ar_reason.specs.Private.Trees.{condition_tree, trees_of, judge_trees_view};
-ghost use Rattle.ar_reason.specs.ReasonText.{condition_text, between_text, failure_name, held_text, hold_word, item_text, left_out_line, operands_text, part_line, parts_text, said_part, said_text};
+ghost use Rattle.ar_reason.specs.ReasonText.{apart_text, condition_text, conversion_text, between_text, failure_name, held_text, hold_word, item_text, left_out_line, operands_text, part_line, parts_text, said_part, said_text};
 
 use crate::evaluated::{JudgeTrees, NamedTree};
-use ar_explain::{Explanation, Line, Said, tell};
+use ar_explain::{Apart, Explanation, Line, Said, tell};
 use ar_judge::{Judge, SharedCondition, Which};
 use ar_operand::operand::Failure;
-use ar_show::push_part;
+use ar_show::{plural, push_part};
 use ar_tree::Typed;
+use ar_value::operator::UnaryOperator;
 use ar_value::value::Value;
 use std::alloc::{AllocError, Global};
 use std::collections::VecDeque;
@@ -46,15 +46,8 @@ fn push_operands(out: &mut String, on: &Option<String>) -> Result<(), AllocError
     }
 }
 
-/// What the word for one thing has at its end where there are `number` of them.
-fn plural(number: u64) -> &'static str
-    ensures { result.now ≡ plural number }
-{
-    if number == 1 { "" } else { "s" }
-}
-
 /// How many things come between two others.
-fn push_between(out: &mut String, what: &str, number: u64) -> Result<(), AllocError>
+fn push_between(out: &mut String, what: &str, number: usize) -> Result<(), AllocError>
     ensures { OnOk result (string_bytes out.new ≡ string_bytes out.old ++ between_text what.now number) }
 {
     write!(out, "{number} {what}{} between", plural(number))
@@ -83,18 +76,38 @@ fn push_gap(out: &mut String, items: usize, held: usize) -> Result<(), AllocErro
     ensures { OnOk result (string_bytes out.new ≡ string_bytes out.old
         ++ (between_text (codes "item") items ++ (codes ", " ++ held_text items held))) }
 {
-    push_between(out, "item", items as u64)?;
+    push_between(out, "item", items)?;
     out.push_str(", ")?;
     push_held(out, items, held)
+}
+
+/// Where two texts differ that are shown alike, where there are such.
+fn push_apart(out: &mut String, apart: &Option<Apart>) -> Result<(), AllocError>
+    ensures { OnOk result (string_bytes out.new
+        ≡ string_bytes out.old ++ apart_text (option_map apart_view apart.now)) }
+{
+    match apart {
+        None => Ok(()),
+        Some(apart) => write!(
+            out,
+            "; byte {} differs: {} and {}",
+            apart.byte, apart.left, apart.right
+        ),
+    }
 }
 
 fn push_said(out: &mut String, said: &Said) -> Result<(), AllocError>
     ensures { OnOk result (string_bytes out.new ≡ string_bytes out.old ++ said_text (said_view said.now)) }
 {
     match said {
-        Said::Valued(text) => {
+        Said::Valued(shown, apart) => {
             out.push_str(" = ")?;
-            out.push_str(text)
+            out.push_str(&shown.text)?;
+            push_apart(out, apart)
+        }
+        Said::Item(shown) => {
+            out.push_str(" = ")?;
+            out.push_str(&shown.text)
         }
         Said::Failed(failure, on) => {
             out.push_str(": ")?;
@@ -106,6 +119,27 @@ fn push_said(out: &mut String, said: &Said) -> Result<(), AllocError>
     }
 }
 
+/// That a part converts its operand, which its text doesn't show.
+fn conversion_text(part: &Typed) -> &'static str
+    ensures { result.now ≡ conversion_text (typed_view part.now) }
+{
+    match part {
+        Typed::Unary {
+            operator: UnaryOperator::ToDecimal,
+            ..
+        } => " as a decimal",
+        _ => "",
+    }
+}
+
+fn push_failed_part(out: &mut String, part: &Typed) -> Result<(), AllocError>
+    ensures { OnOk result (string_bytes out.new ≡ string_bytes out.old
+        ++ (shown_part (typed_view part.now) ++ conversion_text (typed_view part.now))) }
+{
+    push_part(out, part)?;
+    out.push_str(conversion_text(part))
+}
+
 /// The part itself, but where only items of it are counted.
 fn push_said_part(out: &mut String, part: &Typed, said: &Said) -> Result<(), AllocError>
     ensures { OnOk result
@@ -113,7 +147,9 @@ fn push_said_part(out: &mut String, part: &Typed, said: &Said) -> Result<(), All
 {
     match said {
         Said::Passed { .. } => Ok(()),
-        Said::Valued(_) | Said::Failed(..) | Said::Unneeded => push_part(out, part),
+        Said::Item(_) => out.push_str("#"),
+        Said::Failed(..) => push_failed_part(out, part),
+        Said::Valued(..) | Said::Unneeded => push_part(out, part),
     }
 }
 
@@ -164,7 +200,7 @@ fn push_lines_between(out: &mut String, number: u64) -> Result<(), AllocError>
         ++ (codes "    " ++ (between_text (codes "line") number ++ codes "\n"))) }
 {
     out.push_str("    ")?;
-    push_between(out, "line", number)?;
+    push_between(out, "line", number as usize)?;
     out.push_str("\n")
 }
 

@@ -1,2 +1,2 @@
-pub mod Determined
+pub mod ReadBack
 pub mod Shown

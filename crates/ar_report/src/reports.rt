@@ -12,7 +12,7 @@ ghost use Rattle.ar_bundle.specs.Lawful.{AreHistoriesSoFar, numbers_of};
 ghost use Rattle.ar_facts.specs.Report.{event_line, metric_line, report_text, run_text};
 
 use ar_bundle::{Bundle, Entry, Finished, Histories, MetricPart, RunPart};
-use ar_facts::{put_event, put_metric, put_run_line};
+use ar_facts::{Naming, put_event, put_metric, put_run_line};
 use ar_limits::{Limits, RunState};
 use std::alloc::{AllocError, Global};
 
@@ -32,6 +32,7 @@ fn put_metrics(
     for (number, metric) in metrics.iter().enumerate() {
         put_metric(
             out,
+            Naming::Verbatim,
             metric,
             limits[number],
             state.metric_phase(number),
@@ -49,7 +50,7 @@ fn put_events(out: &mut String, bundle: &Bundle, entries: &[Entry]) -> Result<()
         (string_bytes out.new ≡ string_bytes out.old ++ flat_map event_line (facts_of_entries bundle.now entries.now)) }
 {
     for entry in entries {
-        put_event(out, bundle, *entry)?;
+        put_event(out, Naming::Verbatim, bundle, *entry)?;
     }
     Ok(())
 }
@@ -110,7 +111,7 @@ fn put_run(
         (string_bytes out.new
         ≡ string_bytes out.old ++ run_text (run_facts bundle.now run.now (numbers_of entries.now))) }
 {
-    put_run_line(out, run, state.phase())?;
+    put_run_line(out, Naming::Verbatim, run, state.phase())?;
     put_metrics(out, bundle.metrics(), run.limits.as_slice(), state)?;
     put_events(out, bundle, entries)
 }

@@ -25,4 +25,4 @@ mod words;
 pub use parts::push_part;
 pub use signs::push_field_name;
 pub use values::push_value;
-pub use words::push_boolean;
+pub use words::{plural, push_boolean};

@@ -21,7 +21,7 @@ pub(crate) fn push_between(out: &mut String, first: bool) -> Result<(), AllocErr
 }
 
 /// What the word for one thing has at its end where there are `number` of them.
-pub(crate) fn plural(number: usize) -> &'static str
+pub fn plural(number: usize) -> &'static str
     ensures { result.now ≡ plural number }
 {
     if number == 1 { "" } else { "s" }

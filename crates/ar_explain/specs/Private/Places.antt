@@ -16,12 +16,11 @@ use Rattle.ar_machine.specs.Operand.{value_of}
 use Rattle.ar_operand.specs.Operand.{Meets, failure_of, operand_view}
 use Rattle.ar_operand.specs.declared.operand.Failure.{Failure as FailureCode}
 use Rattle.ar_explain.specs.Apart.{Apart, apart_on, operands_apart}
-use Rattle.ar_explain.specs.Lines.{Explanation, Line, Outcome, Seen, body_lines, each_item_lines, earlier_lines, failed, is_item, items_lines, none_seen, passed, unneeded, valued, with_own}
+use Rattle.ar_explain.specs.Lines.{Explanation, Line, Outcome, Seen, body_lines, each_item_lines, earlier_lines, failed, is_item, items_lines, none_seen, passed, unneeded, valued, with_own, shown_of}
 use Rattle.ar_explain.specs.Operands.{failed_on, item_failed_on, two_operands, on_value, refused_or}
 use Rattle.ar_explain.specs.Private.Apart.{texts_apart}
 use Rattle.ar_explain.specs.Private.Failed.{ComesTo, MeetsOn}
 use Rattle.ar_explain.specs.Private.Keeping.{with_lines}
-use Rattle.ar_show.specs.Values.{shown_value}
 use Rattle.ar_explain.specs.Trace.{if_value}
 use Rattle.ar_explain.specs.Views.{explanation_view}
 use Rattle.ar_explain.specs.declared.explanation.Explanation.{Explanation as ExplanationCode}
@@ -135,10 +134,10 @@ over_lines predicate many place body =
 -- ---- what is said
 
 abbrev pub said_by : Remark → Outcome
-said_by (remarks.Value operand texts) = valued (shown_value (operand_view operand.now)) (texts_apart texts)
+said_by (remarks.Value operand texts) = valued (shown_of (operand_view operand.now)) (texts_apart texts)
 said_by (remarks.Failure failure on) = failed (failure_of failure) (option_map (λ text. text.now) on)
 said_by remarks.Unneeded = unneeded
-said_by (remarks.Item value) = is_item (shown_value (value_of value))
+said_by (remarks.Item value) = is_item (shown_of (value_of value))
 said_by (remarks.Passed seen) = passed seen.items seen.held
 
 -- what was met, as a meaning

@@ -1,0 +1,13 @@
+pub mod Changes
+pub mod Closers
+pub mod Closes
+pub mod Completed
+pub mod Completers
+pub mod Counted
+pub mod Entries
+pub mod Exceeding
+pub mod Fronts
+pub mod Histories
+pub mod Lateness
+pub mod Reasons
+pub mod Waits

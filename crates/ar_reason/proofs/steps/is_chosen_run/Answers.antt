@@ -1,9 +1,0 @@
-use Rattle.std.proofs.Common.{arith}
-use Rattle.std.proofs.lemmas.Grind.{elements}
-use Rattle.ar_reason.proofs.steps.is_chosen_run.Goals as goal
-
-pub returns-in-Some : goal.returns-in-Some
-returns-in-Some c = grind (arith, elements) steps 2000000
-
-pub returns-in-None : goal.returns-in-None
-returns-in-None c = grind (arith, elements) steps 2000000
