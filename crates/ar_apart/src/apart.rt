@@ -6,14 +6,14 @@ ghost use Rattle.ar_value.specs.Value.{text};
 ghost use Rattle.ar_machine.specs.Operand.{value_of};
 ghost use Rattle.ar_quote.specs.Quote.{quoted_round};
 ghost use Rattle.ar_show.specs.Values.{shown_value};
-ghost use Rattle.ar_explain.specs.Apart.{apart_of, character_at, character_length, character_start, first_difference, look_alike, operands_apart};
-ghost use Rattle.ar_explain.specs.Private.Apart.{texts_apart};
-ghost use Rattle.ar_explain.specs.Views.{apart_view};
+ghost use Rattle.ar_apart.specs.Apart.{apart_of, character_at, character_length, character_start, first_difference, look_alike, operands_apart};
+ghost use Rattle.ar_apart.specs.Views.{texts_apart};
+ghost use Rattle.ar_apart.specs.Views.{apart_view};
 
-use crate::explanation::text_of;
 use ar_machine::operand::OperandRef;
 use ar_machine::operand::borrowed::ValueRef;
 use ar_quote::{TokenAt, push_round};
+use ar_show::push_value;
 use std::alloc::{AllocError, Global};
 
 /// A text of at most that many bytes is shown whole.
@@ -31,7 +31,7 @@ pub struct Apart {
 
 /// The operands of a binary operator that are texts.
 #[derive(Clone, Copy)]
-pub(crate) struct Texts<'v> {
+pub struct Texts<'v> {
     pub left: &'v str,
     pub right: &'v str,
 }
@@ -98,7 +98,9 @@ fn apart_of(alloc: Global, texts: Texts<'_>) -> Result<Apart, AllocError>
 fn shown(alloc: Global, letters: &str) -> Result<String, AllocError>
     ensures { IfOk result (λ shown. string_bytes shown ≡ shown_value (text letters.now)) }
 {
-    text_of(alloc, OperandRef::Borrowed(ValueRef::Text(letters)))
+    let mut shown = String::new(alloc);
+    push_value(&mut shown, OperandRef::Borrowed(ValueRef::Text(letters)))?;
+    Ok(shown)
 }
 
 /// Whether texts differ and are shown alike.
@@ -118,10 +120,11 @@ fn look_alike(alloc: Global, texts: Texts<'_>) -> Result<bool, AllocError>
 }
 
 /// Where texts differ that are shown alike.
-pub(crate) fn texts_apart(
-    alloc: Global,
-    texts: Option<Texts<'_>>,
-) -> Result<Option<Apart>, AllocError>
+///
+/// # Errors
+///
+/// Out of memory alone.
+pub fn texts_apart(alloc: Global, texts: Option<Texts<'_>>) -> Result<Option<Apart>, AllocError>
     ensures { IfOk result (λ apart. option_map apart_view apart ≡ texts_apart texts.entry) }
 {
     let Some(texts) = texts else { return Ok(None) };
@@ -133,7 +136,7 @@ pub(crate) fn texts_apart(
 }
 
 /// Two operands that are texts.
-pub(crate) fn texts_of<'v>(left: ValueRef<'v>, right: ValueRef<'v>) -> Option<Texts<'v>>
+pub fn texts_of<'v>(left: ValueRef<'v>, right: ValueRef<'v>) -> Option<Texts<'v>>
     ensures { texts_apart result ≡ operands_apart (value_of left.entry) (value_of right.entry) }
 {
     match left {
