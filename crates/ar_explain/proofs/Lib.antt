@@ -10,7 +10,6 @@ pub mod Unneeded
 pub mod ItemLines
 pub mod Children
 pub mod Keeping
-pub mod Differences
 pub mod Walks
 pub mod Loops
 pub mod LastItems

@@ -10,7 +10,7 @@ use Rattle.ar_value.specs.declared.operator.UnaryOperator.{UnaryOperator}
 use Rattle.ar_tree.specs.Meaning.{mean}
 use Rattle.ar_tree.specs.Typed.{Typed, Typeds}
 use Rattle.ar_tree.specs.Typed as typed
-use Rattle.ar_explain.specs.Apart.{apart_on}
+use Rattle.ar_explain.specs.Operands.{apart_on}
 use Rattle.ar_explain.specs.Lines.{Line, Seen, after_item, body_lines, each_item_lines, earlier_lines, gap_lines, has_own_line, is_empty, is_missing, is_shown, items_lines, all_lines, lines_on_item, none_seen, operand_own_lines, own_line, passed_line, unneeded_line, with_own}
 use Rattle.ar_explain.specs.Operands.{failed_on}
 use Rattle.ar_explain.specs.Sources.{SayInOrder, Says, lines_of_meanings, says_meaning}

@@ -13,7 +13,8 @@ use Rattle.ar_tree.specs.Meaning.{mean}
 use Rattle.ar_tree.specs.Typed.{Typed, Typeds}
 use Rattle.ar_tree.specs.Typed as typed
 use Rattle.ar_explain.specs.Lines.{Line, Seen, after_item, body_lines, each_item_lines, earlier_lines, gap_lines, is_empty, is_missing, is_shown, item_line, has_own_line, items_lines, operand_own_lines, all_lines, lines_on_item, none_seen, own_line, outcome_of, passed_line, unneeded_line, with_own}
-use Rattle.ar_explain.specs.Apart.{Apart, apart_on}
+use Rattle.ar_apart.specs.Apart.{Apart}
+use Rattle.ar_explain.specs.Operands.{apart_on}
 use Rattle.ar_explain.specs.Operands.{failed_on}
 use Rattle.ar_explain.specs.Sources.{IsFrom, OneHas, Says, ShowsItem, says_item}
 use Rattle.ar_explain.specs.Trace.{TraceEntry, continues, each_item, if_value, in_child, items_trace, on_item, root_entry, trace}

@@ -15,11 +15,12 @@ use Rattle.ar_tree.specs.Typed as typed
 use Rattle.ar_operand.specs.Operand.{Meets, failure_of, operand_view}
 use Rattle.ar_operand.specs.declared.operand.Operand.{Operand}
 use Rattle.ar_operand.specs.declared.operand.Failure.{Failure as FailureCode}
-use Rattle.ar_explain.specs.Apart.{Apart, apart_on}
+use Rattle.ar_apart.specs.Apart.{Apart}
+use Rattle.ar_explain.specs.Operands.{apart_on}
 use Rattle.ar_explain.specs.Lines.{Explanation, Line, Outcome, Seen, earlier_lines, explained, gap_lines, is_shown, item_line, item_lines, lines_on_item, operand_own_lines, own_lines, outcome_of}
 use Rattle.ar_explain.specs.Operands.{failed_on, on_value, one_operand}
 use Rattle.ar_explain.specs.Private.Failed.{ComesTo, MeetsOn, came, came_apart, came_on, found_view, on_of}
-use Rattle.ar_explain.specs.Private.Apart.{texts_apart}
+use Rattle.ar_apart.specs.Views.{texts_apart}
 use Rattle.ar_explain.specs.Private.Keeping.{with_lines}
 use Rattle.ar_explain.specs.Private.Places.{Explains, ExplainsFound, ExplainsOn, Place, apart_at, as_meant, at_item, earlier_at, failed_at, holds_meant, holds_on, lines_at, lines_on, meant, with_lines_at}
 use Rattle.ar_explain.specs.Trace.{if_value}

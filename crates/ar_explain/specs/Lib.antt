@@ -1,7 +1,6 @@
 pub mod Trace
 pub mod Parts
 pub mod Operands
-pub mod Apart
 pub mod Lines
 pub mod Sources
 pub mod Views

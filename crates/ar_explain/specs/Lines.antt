@@ -29,7 +29,8 @@ use Rattle.ar_tree.specs.Typed as typed
 use Rattle.ar_quote.specs.Shown.{quoted}
 use Rattle.ar_exact.specs.Exact.{Exact, a_boolean, exact_of}
 use Rattle.ar_show.specs.Values.{shown_text, shown_value}
-use Rattle.ar_explain.specs.Apart.{Apart, apart_of, apart_on}
+use Rattle.ar_apart.specs.Apart.{Apart, apart_of}
+use Rattle.ar_explain.specs.Operands.{apart_on}
 use Rattle.ar_explain.specs.Operands.{failed_on, one_operand, two_operands}
 use Rattle.ar_explain.specs.Trace.{continues, if_value}
 

@@ -10,6 +10,7 @@ use Rattle.ar_value.specs.declared.operator.BinaryOperator.TheVariants as binary
 use Rattle.ar_tree.specs.Meaning.{mean}
 use Rattle.ar_tree.specs.Typed.{Typed, Typeds}
 use Rattle.ar_tree.specs.Typed as typed
+use Rattle.ar_apart.specs.Apart.{Apart, operands_apart}
 use Rattle.ar_show.specs.Values.{shown_value}
 use Rattle.ar_show.specs.Words.{units}
 
@@ -62,6 +63,15 @@ failed_on result here (typed.choice condition then_branch else_branch) = None
 failed_on result here (typed.listed scalar items) = item_failed_on result here items
 failed_on result here (typed.predicate predicate many body) =
     on_value (mean result here many) (λ value. refused_or (items_in value) value None)
+
+-- ---- texts that are shown alike
+
+-- of the operands of a binary operator
+abbrev pub apart_on : Value → Option Value → Typed → Option Apart
+apart_on result here (typed.binary operator left right) =
+    on_value (mean result here left)
+    (λ first. on_value (mean result here right) (λ second. operands_apart first second))
+apart_on result here tree = None
 
 -- ---- worked rows
 

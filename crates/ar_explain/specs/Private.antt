@@ -1,5 +1,4 @@
 -- Definitions of private contracts, which follow the code: a reader need not believe them.
-pub mod Apart
 pub mod Keeping
 pub mod Failed
 pub mod Places

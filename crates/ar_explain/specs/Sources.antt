@@ -7,7 +7,7 @@ use Rattle.ar_value.specs.declared.operator.Predicate.{Predicate}
 use Rattle.ar_tree.specs.Meaning.{mean}
 use Rattle.ar_tree.specs.Typed.{Typed}
 use Rattle.ar_tree.specs.Typed as typed
-use Rattle.ar_explain.specs.Apart.{apart_on}
+use Rattle.ar_explain.specs.Operands.{apart_on}
 use Rattle.ar_explain.specs.Lines.{Line, Outcome, body_lines, earlier_lines, failed, is_item, lines_on_item, outcome_of, passed, passed_line, shown_of, unneeded, unneeded_line, valued, with_own}
 use Rattle.ar_explain.specs.Operands.{failed_on}
 use Rattle.ar_explain.specs.Parts.{here_at, is_evaluated_on, part_at, same_path}

@@ -1,8 +1,7 @@
 -- What explanations in memory say.
 use Rattle.std.specs.Prelude.{map, option_map, string_bytes}
 use Rattle.ar_tree.specs.Views.{typed_view}
-use Rattle.ar_explain.specs.Apart.{Apart}
-use Rattle.ar_explain.specs.declared.apart.Apart.{Apart as ApartCode}
+use Rattle.ar_apart.specs.Views.{apart_view}
 use Rattle.ar_operand.specs.Failures.{failure_of}
 use Rattle.ar_explain.specs.Lines.{Explanation, Line, Outcome, Shown, failed, is_item, passed, unneeded, valued}
 use Rattle.ar_explain.specs.declared.explanation.Explanation.{Explanation as ExplanationCode}
@@ -11,10 +10,6 @@ use Rattle.ar_exact.specs.Views.{exact_view}
 use Rattle.ar_explain.specs.declared.explanation.Said.{Said as SaidCode}
 use Rattle.ar_explain.specs.declared.explanation.Shown.{Shown as ShownCode}
 use Rattle.ar_explain.specs.declared.explanation.Said.TheVariants as said
-
-abbrev pub apart_view : ApartCode → Apart
-apart_view apart =
-    record { byte = apart.byte; left = string_bytes apart.left; right = string_bytes apart.right }
 
 abbrev pub shown_view : ShownCode → Shown
 shown_view shown = record { text = string_bytes shown.text; exact = exact_view shown.exact }

@@ -9,12 +9,12 @@ ghost use Rattle.ar_value.specs.Terms.{Text};
 ghost use Rattle.ar_machine.specs.Operand.{operand_value, value_of};
 ghost use Rattle.ar_operand.specs.Operand.{Meets, operand_view};
 ghost use Rattle.ar_explain.specs.Operands.{one_operand, two_operands, refused_or};
-ghost use Rattle.ar_explain.specs.Apart.{operands_apart};
-ghost use Rattle.ar_explain.specs.Private.Apart.{texts_apart};
+ghost use Rattle.ar_apart.specs.Apart.{operands_apart};
+ghost use Rattle.ar_apart.specs.Views.{texts_apart};
 ghost use Rattle.ar_explain.specs.Private.Failed.{ComesTo, MeetsOn, found_view};
 
-use crate::apart::{Texts, texts_of};
 use crate::failed::{Failed, one_text, two_text};
+use ar_apart::{Texts, texts_of};
 use ar_machine::operand::OperandRef;
 use ar_machine::operand::borrowed::ValueRef;
 use ar_operand::apply::{apply_binary, apply_unary};

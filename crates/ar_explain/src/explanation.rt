@@ -9,10 +9,10 @@ ghost use Rattle.ar_show.specs.Values.{shown_value};
 ghost use Rattle.ar_explain.specs.Lines.{shown_of};
 ghost use Rattle.ar_explain.specs.Views.{explanation_view, line_view, said_view, shown_view};
 
-use crate::apart::{Apart, Texts, texts_apart};
 use crate::applied::operand_ref;
 use crate::place::Place;
 use crate::seen::Seen;
+use ar_apart::{Apart, Texts, texts_apart};
 use ar_exact::{Exact, exact_of};
 use ar_machine::operand::OperandRef;
 use ar_machine::operand::borrowed::ValueRef;

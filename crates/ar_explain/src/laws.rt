@@ -6,7 +6,7 @@ ghost use Rattle.ar_value.specs.Value.{Items, Value, item, list};
 ghost use Rattle.ar_value.specs.declared.operator.Predicate.{Predicate};
 ghost use Rattle.ar_tree.specs.Meaning.{mean};
 ghost use Rattle.ar_tree.specs.Typed.{Typed};
-ghost use Rattle.ar_explain.specs.Apart.{apart_on};
+ghost use Rattle.ar_explain.specs.Operands.{apart_on};
 ghost use Rattle.ar_explain.specs.Lines.{Line, all_lines, earlier_lines, own_line};
 ghost use Rattle.ar_explain.specs.Operands.{failed_on};
 ghost use Rattle.ar_explain.specs.Parts.{Fails, IsEntryOf, child, is_evaluated, with_part};

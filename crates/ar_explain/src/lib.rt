@@ -12,7 +12,7 @@
 //! operands in words.
 //!
 //! The definitions are `specs/Trace` (the trace of a typed tree), `specs/Parts` (parts by paths, and what an entry
-//! has), `specs/Operands` (on which operands a part fails), `specs/Apart` (where texts differ), `specs/Lines` (what is
+//! has), `specs/Operands` (on which operands a part fails, and which are texts that look alike, by `ar_apart`), `specs/Lines` (what is
 //! said) and `specs/Sources` (which entry a line is of); `specs/Views` says what explanations in memory say. The laws
 //! say which parts a trace has, what its entries and the lines with values and failures say, that these lines are in
 //! its order, and that just parts without an entry weren't needed. `specs/Private` follows the code.
@@ -24,10 +24,9 @@
 //! - [`explanation`]: lines, and those that are kept, with the texts of values by `ar_show`
 //! - `walk`: the walk over a condition; `place`: where a part is evaluated; `news`: which parts have lines of their
 //!   own; `looked`: items that predicates look at; `seen`: how many of those aren't shown; `applied`: what operators
-//!   make of operands; `failed`: operands in words, where a failure arises; `apart`: where texts differ
+//!   make of operands; `failed`: operands in words, where a failure arises
 #![tactic(auto)]
 
-mod apart;
 mod applied;
 pub mod explanation;
 mod failed;
@@ -38,6 +37,5 @@ mod place;
 mod seen;
 mod walk;
 
-pub use apart::Apart;
 pub use explanation::{Evaluation, Explanation, Line, Said, Shown};
 pub use walk::tell;

@@ -12,7 +12,7 @@ ghost use Rattle.ar_tree.specs.Typed as typed;
 ghost use Rattle.ar_tree.specs.Views.{typed_view};
 ghost use Rattle.ar_operand.specs.Operand.{Meets, operand_view};
 ghost use Rattle.ar_explain.specs.Lines.{each_item_lines, earlier_lines, explained, item_lines, lines_on_item, none_seen, outcome_of, unneeded_line};
-ghost use Rattle.ar_explain.specs.Apart.{apart_on};
+ghost use Rattle.ar_explain.specs.Operands.{apart_on};
 ghost use Rattle.ar_explain.specs.Operands.{failed_on};
 ghost use Rattle.ar_explain.specs.Private.Failed.{MeetsOn};
 ghost use Rattle.ar_explain.specs.Private.Keeping.{with_lines};

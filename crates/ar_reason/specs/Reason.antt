@@ -24,7 +24,7 @@ use Rattle.ar_bundle.specs.declared.bundle.RunPart.{RunPart}
 use Rattle.ar_bundle.specs.declared.bundle.What.{What}
 use Rattle.ar_bundle.specs.declared.bundle.What.TheVariants.{Measure, Stop}
 use Rattle.ar_bundle.specs.declared.history.Entry.{Entry}
-use Rattle.ar_explain.specs.Apart.{apart_on}
+use Rattle.ar_explain.specs.Operands.{apart_on}
 use Rattle.ar_explain.specs.Operands.{failed_on}
 use Rattle.ar_explain.specs.Lines.{Explanation, Outcome, earlier_lines, explained, failed, is_item, outcome_of, passed, unneeded, valued}
 use Rattle.ar_misfit.specs.Misfit.{Misfit, misfit}

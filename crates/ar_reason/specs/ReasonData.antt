@@ -9,7 +9,7 @@ use Rattle.ar_limits.specs.declared.phase.Phase.{Phase}
 use Rattle.ar_tree.specs.Typed.{Typed}
 use Rattle.ar_tree.specs.Typed as typed
 use Rattle.ar_value.specs.declared.operator.UnaryOperator.TheVariants as unary
-use Rattle.ar_explain.specs.Apart.{Apart}
+use Rattle.ar_apart.specs.Apart.{Apart}
 use Rattle.ar_explain.specs.Lines.{Explanation, Line, Outcome, failed, is_item, passed, unneeded, valued}
 use Rattle.ar_facts.specs.Facts.{MetricFacts}
 use Rattle.ar_facts.specs.Names.{phase_name}

@@ -6,7 +6,8 @@ ghost use Rattle.std.specs.Option.{option_map_or};
 ghost use Rattle.serde_json.specs.Data.{null};
 ghost use Rattle.ar_value.specs.View.{value_view};
 ghost use Rattle.ar_explain.specs.Lines.{passed};
-ghost use Rattle.ar_explain.specs.Views.{apart_view, explanation_view, line_view, said_view};
+ghost use Rattle.ar_apart.specs.Views.{apart_view};
+ghost use Rattle.ar_explain.specs.Views.{explanation_view, line_view, said_view};
 ghost use Rattle.ar_object.specs.Object.{array_of, count_data};
 ghost use Rattle.ar_object.specs.Written.{AddsMember, AddsValue, AddsValues};
 ghost use Rattle.ar_tree.specs.Views.{typed_view};
@@ -17,7 +18,8 @@ ghost use Rattle.ar_reason.specs.Private.Trees.{condition_tree, trees_of, judge_
 
 use crate::evaluated::{JudgeTrees, NamedTree};
 use crate::parts::{failure_name, is_failure};
-use ar_explain::{Apart, Evaluation, Explanation, Line, Said, tell};
+use ar_apart::Apart;
+use ar_explain::{Evaluation, Explanation, Line, Said, tell};
 use ar_judge::{Judge, SharedCondition, Which};
 use ar_object::JsonText;
 use ar_show::push_part;

@@ -5,14 +5,16 @@ ghost use Rattle.std.specs.List.{list_any};
 ghost use Rattle.ar_value.specs.View.{value_view};
 ghost use Rattle.ar_operand.specs.Failures.{failure_of};
 ghost use Rattle.ar_tree.specs.Views.{typed_view};
-ghost use Rattle.ar_explain.specs.Views.{apart_view, explanation_view, line_view, said_view};
+ghost use Rattle.ar_apart.specs.Views.{apart_view};
+ghost use Rattle.ar_explain.specs.Views.{explanation_view, line_view, said_view};
 ghost use Rattle.ar_show.specs.PartText.{shown_part};
 ghost use Rattle.ar_reason.specs.Reason.{conditions_on, evaluated_if_there, evaluated_with, has_failed, is_failure};
 ghost use Rattle.ar_reason.specs.Private.Trees.{condition_tree, trees_of, judge_trees_view};
 ghost use Rattle.ar_reason.specs.ReasonText.{apart_text, condition_text, conversion_text, between_text, failure_name, held_text, hold_word, item_text, left_out_line, operands_text, part_line, parts_text, said_part, said_text};
 
 use crate::evaluated::{JudgeTrees, NamedTree};
-use ar_explain::{Apart, Explanation, Line, Said, tell};
+use ar_apart::Apart;
+use ar_explain::{Explanation, Line, Said, tell};
 use ar_judge::{Judge, SharedCondition, Which};
 use ar_operand::operand::Failure;
 use ar_show::{plural, push_part};

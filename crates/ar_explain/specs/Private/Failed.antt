@@ -5,8 +5,8 @@ use Rattle.ar_value.specs.Terms.{Text}
 use Rattle.ar_value.specs.Value.{Value}
 use Rattle.ar_operand.specs.Failures.{failure_of}
 use Rattle.ar_operand.specs.Operand.{operand_view}
-use Rattle.ar_explain.specs.Apart.{Apart}
-use Rattle.ar_explain.specs.Private.Apart.{texts_apart}
+use Rattle.ar_apart.specs.Apart.{Apart}
+use Rattle.ar_apart.specs.Views.{texts_apart}
 use Rattle.ar_explain.specs.declared.applied.Found.{Found as FoundCode}
 use Rattle.ar_explain.specs.declared.failed.Failed.{Failed as FailedCode}
 

@@ -15,10 +15,11 @@ use Rattle.ar_tree.specs.declared.typed.Typed.{Typed as TypedCode}
 use Rattle.ar_machine.specs.Operand.{value_of}
 use Rattle.ar_operand.specs.Operand.{Meets, failure_of, operand_view}
 use Rattle.ar_operand.specs.declared.operand.Failure.{Failure as FailureCode}
-use Rattle.ar_explain.specs.Apart.{Apart, apart_on, operands_apart}
+use Rattle.ar_apart.specs.Apart.{Apart, operands_apart}
+use Rattle.ar_explain.specs.Operands.{apart_on}
 use Rattle.ar_explain.specs.Lines.{Explanation, Line, Outcome, Seen, body_lines, each_item_lines, earlier_lines, failed, is_item, items_lines, none_seen, passed, unneeded, valued, with_own, shown_of}
 use Rattle.ar_explain.specs.Operands.{failed_on, item_failed_on, two_operands, on_value, refused_or}
-use Rattle.ar_explain.specs.Private.Apart.{texts_apart}
+use Rattle.ar_apart.specs.Views.{texts_apart}
 use Rattle.ar_explain.specs.Private.Failed.{ComesTo, MeetsOn}
 use Rattle.ar_explain.specs.Private.Keeping.{with_lines}
 use Rattle.ar_explain.specs.Trace.{if_value}

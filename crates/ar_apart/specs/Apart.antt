@@ -6,14 +6,10 @@ use Rattle.std.specs.List.{common_prefix_len, prefix_len}
 use Rattle.std.specs.Str.{bytes_eq, chars}
 use Rattle.ar_value.specs.Terms.{Text}
 use Rattle.ar_value.specs.Value.{Value, text, nil}
-use Rattle.ar_tree.specs.Meaning.{mean}
-use Rattle.ar_tree.specs.Typed.{Typed}
-use Rattle.ar_tree.specs.Typed as typed
 use Rattle.ar_quote.specs.Quote.{quoted_round}
 use Rattle.ar_quote.specs.Shown.{quoted}
 use Rattle.ar_quote.specs.Tokens.{TokenAt, found, is_inner, is_offset}
 use Rattle.ar_show.specs.Values.{shown_text, shown_value}
-use Rattle.ar_explain.specs.Operands.{on_value}
 
 -- ---- where two texts differ
 
@@ -71,13 +67,6 @@ apart_from left right = None
 abbrev pub operands_apart : Value → Value → Option Apart
 operands_apart (text left) right = apart_from left right
 operands_apart left right = None
-
--- of the operands of a binary operator
-abbrev pub apart_on : Value → Option Value → Typed → Option Apart
-apart_on result here (typed.binary operator left right) =
-    on_value (mean result here left)
-    (λ first. on_value (mean result here right) (λ second. operands_apart first second))
-apart_on result here tree = None
 
 -- ---- worked rows
 

@@ -1,7 +1,7 @@
 use Rattle.std.proofs.Common.{◌≡◌}
-use Rattle.ar_explain.specs.Apart.{first_difference}
-use Rattle.ar_explain.proofs.Differences.{left_to}
-use Rattle.ar_explain.proofs.apart.first_difference.Given as goal
+use Rattle.ar_apart.specs.Apart.{first_difference}
+use Rattle.ar_apart.proofs.Differences.{left_to}
+use Rattle.ar_apart.proofs.apart.first_difference.Given as goal
 
 -- the bytes so far are the same
 abbrev pub invariant-loop-index : goal.invariant-loop-index

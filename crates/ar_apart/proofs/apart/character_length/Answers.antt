@@ -1,5 +1,5 @@
-use Rattle.ar_explain.proofs.Differences.{length_is}
-use Rattle.ar_explain.proofs.apart.character_length.Goals as goal
+use Rattle.ar_apart.proofs.Differences.{length_is}
+use Rattle.ar_apart.proofs.apart.character_length.Goals as goal
 
 pub returns-clause-exact : goal.returns-clause-exact
 returns-clause-exact c =

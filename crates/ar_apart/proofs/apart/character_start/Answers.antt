@@ -1,5 +1,5 @@
-use Rattle.ar_explain.proofs.Differences.{start_is}
-use Rattle.ar_explain.proofs.apart.character_start.Goals as goal
+use Rattle.ar_apart.proofs.Differences.{start_is}
+use Rattle.ar_apart.proofs.apart.character_start.Goals as goal
 
 pub returns-clause-exact : goal.returns-clause-exact
 returns-clause-exact c =

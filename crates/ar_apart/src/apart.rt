@@ -3,13 +3,12 @@
 ghost use Rattle.std.specs.Prelude.{◌≡◌, IfOk, option_map, string_bytes};
 ghost use Rattle.std.specs.Str.{IsCharBoundary};
 ghost use Rattle.ar_value.specs.Value.{text};
-ghost use Rattle.ar_machine.specs.Operand.{operand_value, value_of};
+ghost use Rattle.ar_machine.specs.Operand.{value_of};
 ghost use Rattle.ar_quote.specs.Quote.{quoted_round};
-ghost use Rattle.ar_quote.specs.Tokens.{found};
 ghost use Rattle.ar_show.specs.Values.{shown_value};
-ghost use Rattle.ar_explain.specs.Apart.{apart_of, character_at, character_length, character_start, first_difference, first_of, look_alike, operands_apart};
-ghost use Rattle.ar_explain.specs.Private.Apart.{texts_apart};
-ghost use Rattle.ar_explain.specs.Views.{apart_view};
+ghost use Rattle.ar_apart.specs.Apart.{apart_of, character_at, character_length, character_start, first_difference, look_alike, operands_apart};
+ghost use Rattle.ar_apart.specs.Views.{texts_apart};
+ghost use Rattle.ar_apart.specs.Views.{apart_view};
 
 use ar_machine::operand::OperandRef;
 use ar_machine::operand::borrowed::ValueRef;
@@ -32,7 +31,7 @@ pub struct Apart {
 
 /// The operands of a binary operator that are texts.
 #[derive(Clone, Copy)]
-pub(crate) struct Texts<'v> {
+pub struct Texts<'v> {
     pub left: &'v str,
     pub right: &'v str,
 }
@@ -121,10 +120,11 @@ fn look_alike(alloc: Global, texts: Texts<'_>) -> Result<bool, AllocError>
 }
 
 /// Where texts differ that are shown alike.
-pub(crate) fn texts_apart(
-    alloc: Global,
-    texts: Option<Texts<'_>>,
-) -> Result<Option<Apart>, AllocError>
+///
+/// # Errors
+///
+/// Out of memory alone.
+pub fn texts_apart(alloc: Global, texts: Option<Texts<'_>>) -> Result<Option<Apart>, AllocError>
     ensures { IfOk result (λ apart. option_map apart_view apart ≡ texts_apart texts.entry) }
 {
     let Some(texts) = texts else { return Ok(None) };
@@ -136,7 +136,7 @@ pub(crate) fn texts_apart(
 }
 
 /// Two operands that are texts.
-pub(crate) fn texts_of<'v>(left: ValueRef<'v>, right: ValueRef<'v>) -> Option<Texts<'v>>
+pub fn texts_of<'v>(left: ValueRef<'v>, right: ValueRef<'v>) -> Option<Texts<'v>>
     ensures { texts_apart result ≡ operands_apart (value_of left.entry) (value_of right.entry) }
 {
     match left {

@@ -15,8 +15,13 @@ use Rattle.ar_quote.specs.Tokens.{is_inner, is_offset}
 use Rattle.ar_quote.proofs.Ended.{names_end}
 use Rattle.ar_show.specs.Values.{shown_text, shown_value}
 use Rattle.ar_show.specs.Words.{left_out}
-use Rattle.ar_explain.proofs.Keeping.{le_of, lt_of}
-use Rattle.ar_explain.specs.Apart.{character_length, character_start, first_difference, look_alike, operands_apart}
+use Rattle.ar_apart.specs.Apart.{character_length, character_start, first_difference, look_alike, operands_apart}
+
+lt_of : (m n : ℕ) → nat_lt n m ≡ true → n < m
+lt_of m n e = grind (arith, nat_tests)
+
+le_of : (m n : ℕ) → nat_lt n m ≡ false → m ≤ n
+le_of m n e = grind (arith, nat_tests)
 
 -- ---- the first difference
 
