@@ -10,7 +10,6 @@ use Rattle.ar_tree.specs.Typed as typed
 use Rattle.ar_value.specs.declared.operator.UnaryOperator.TheVariants as unary
 use Rattle.ar_apart.specs.Apart.{Apart}
 use Rattle.ar_explain.specs.Lines.{Explanation, Line, Outcome, failed, is_item, passed, passed_line, unneeded, valued}
-use Rattle.ar_quote.specs.Shown.{shown_name}
 use Rattle.ar_show.specs.PartText.{shown_part}
 use Rattle.ar_show.specs.Values.{shown_value}
 use Rattle.ar_show.specs.Words.{units}
