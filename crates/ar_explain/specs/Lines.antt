@@ -427,7 +427,12 @@ is_long_text =
     typed.binary (binary.Equal families.Text) typed.result (typed.literal (literals.Text (long_text (codes "b"))))
 
 texts_shown_alike : map row_of (all_lines (text (long_text (codes "c"))) None is_long_text)
-    ≡ ([], is_long_text, valued (record { text = codes "false"; exact = a_boolean false }) (Some (apart_of (long_text (codes "c")) (long_text (codes "b"))))) ∷ []
+    ≡ (
+      [],
+      is_long_text,
+      valued (record { text = codes "false"; exact = a_boolean false })
+          (Some (apart_of (long_text (codes "c")) (long_text (codes "b")))),
+    ) ∷ []
 unfolding shown_value shown_text quoted digits chars lib.Utf8.encode
 texts_shown_alike = refl
 

@@ -65,7 +65,7 @@ pub record IsOfBody (result : Value) (here : Option Value) (tree : Typed) (line 
   pub of_predicate : part_at around tree ≡ Some (typed.predicate predicate many line.part)
   pub value : Value
   pub of_item : here_at result here tree (around ++ 1 ∷ []) line.items ≡ Ok (Some value)
-  pub of_value : line.said ≡ is_item (shown_value value)
+  pub of_value : line.said ≡ is_item (shown_of value)
 
 abbrev pub IsOfBodyIfItem : Value → Option Value → Typed → Line → Type 0
 IsOfBodyIfItem result here tree line = says_item line.said ≡ true → IsOfBody result here tree line

@@ -24,7 +24,7 @@ use Rattle.ar_json.specs.Reading.{read}
 use Rattle.ar_json.specs.declared.value_reading.ShapeFault.{ShapeFault}
 use Rattle.ar_misfit.proofs.Faults.{misfit_refused, no_misfit_read}
 use Rattle.ar_misfit.specs.Misfit.{misfit}
-use Rattle.ar_reason.specs.Reason.{EvaluatedCondition, after_success, evaluated, evaluated_if_there, evaluated_with, has_failed, is_failure}
+use Rattle.ar_evaluation.specs.Evaluated.{EvaluatedCondition, after_success, evaluated, evaluated_if_there, evaluated_with, has_failed, is_failure}
 use Rattle.ar_reason.specs.ReasonLaws.{MisfitIsOfVerdict, VerdictIsByShown, said_among}
 
 -- ---- a condition with a tree, or none
