@@ -7,7 +7,6 @@ use Rattle.serde_json.specs.Data.{Data, depth, items_depth, null}
 use Rattle.serde_json.specs.Read.{max_depth}
 use Rattle.serde_json.specs.View.{items_of}
 use Rattle.ar_exact.specs.Exact.{Exact, a_boolean, a_text, an_integer, exact_data, exact_of, no_form}
-use Rattle.ar_apart.specs.Apart.{Apart}
 use Rattle.ar_explain.specs.Lines.{Line, Outcome, failed, is_item, passed, unneeded, valued}
 use Rattle.ar_facts.proofs.Objects.{finding_flat, metric_flat}
 use Rattle.ar_object.proofs.Values.{above, count_flat, none_deep, one_deep, text_flat}

@@ -1,4 +1,5 @@
 -- What led to the verdict and the effect of each event of runs that is asked for.
+use Rattle.ar_evaluation.specs.Evaluated.{EvaluatedCondition, conditions_on}
 use Rattle.ar_judge.specs.Condition.{Condition}
 use Rattle.std.specs.Prelude.{ℕ, suc, ◌&&◌, Bool, true, false, if◌then◌else◌, List, [], ◌∷◌, ◌++◌, codes, is_none, map, slice_get, Option, Some, None, option_and_then, Result, Ok, Err}
 use Rattle.std.specs.List.{list_any}

@@ -1,4 +1,5 @@
 -- The text of reasons: the line of each run, the lines of its events, and those of its metrics.
+use Rattle.ar_evaluation.specs.EvaluatedText.{condition_text}
 use Rattle.std.specs.Prelude.{ℕ, ◌==◌, ◌≡◌, refl, Bool, if◌then◌else◌, List, [], ◌∷◌, ◌++◌, codes, decimal, flat_map, Option, Some, None, option_map}
 use Rattle.std.specs.Fmt.{digits}
 use Rattle.ar_value.specs.Fault.{fault_name}
@@ -10,7 +11,6 @@ use Rattle.ar_limits.specs.declared.phase.Phase.{Phase}
 use Rattle.ar_tree.specs.Typed.{Typed}
 use Rattle.ar_tree.specs.Typed as typed
 use Rattle.ar_value.specs.declared.operator.UnaryOperator.TheVariants as unary
-use Rattle.ar_apart.specs.Apart.{Apart}
 use Rattle.ar_explain.specs.Lines.{Explanation, Line, Outcome, failed, is_item, passed, passed_line, unneeded, valued}
 use Rattle.ar_facts.specs.Facts.{MetricFacts}
 use Rattle.ar_facts.specs.Names.{phase_name}
