@@ -165,7 +165,7 @@ fn unary_on_list<'v>(
     }
 }
 
-#[tactic(auto, using(crate::proofs::Differences::list_isnt_alike))]
+#[tactic(auto, using(ar_apart::proofs::Differences::list_isnt_alike))]
 pub(crate) fn binary_on<'v>(
     alloc: Global,
     operator: BinaryOperator,
