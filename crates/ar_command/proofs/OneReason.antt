@@ -33,7 +33,8 @@ use Rattle.ar_command_line.specs.declared.command_line.Command.TheVariants as co
 use Rattle.ar_command_line.specs.declared.command_line.Format.{Format}
 use Rattle.ar_document.specs.Entries.{Entry, entry_view, what_view}
 use Rattle.ar_document.specs.Opening.{Metric, metric_view}
-use Rattle.ar_reason.specs.Reason.{conditions_by, conditions_of, error_given, evaluated_if_there, given_by, given_of, is_unconditional, is_measured, lacks_conditions, measured_member, misfit_there, reason_if_there, reason_of, reasons_from, reasons_of, run_reasons}
+use Rattle.ar_evaluation.specs.Evaluated.{evaluated_if_there}
+use Rattle.ar_reason.specs.Reason.{conditions_by, conditions_of, error_given, given_by, given_of, is_unconditional, is_measured, lacks_conditions, measured_member, misfit_there, reason_if_there, reason_of, reasons_from, reasons_of, run_reasons}
 use Rattle.ar_reason.specs.ReasonData.{reasons_data}
 use Rattle.ar_reason.specs.ReasonText.{reasons_text}
 use Rattle.ar_progress.specs.Steps.{change_after, chosen_steps, closer_of, is_chosen_run, leaves_complete, measures, own_completer, step_after, steps_after}

@@ -9,10 +9,11 @@ use Rattle.ar_bundle.specs.Lawful.{IsFound}
 use Rattle.ar_bundle.specs.declared.bundle.EventPart.{EventPart}
 use Rattle.ar_facts.proofs.Lines.{found_inside, three, two}
 use Rattle.ar_facts.specs.Facts.{event_facts}
-use Rattle.ar_reason.proofs.Lists.{next_text, no_text_left}
+use Rattle.ar_evaluation.proofs.Lists.{next_text, no_text_left}
 use Rattle.ar_reason.specs.Private.Found.{AreFoundSteps}
 use Rattle.ar_reason.specs.Reason.{conditions_of, given_of, lacks_conditions, reason_if_there, reason_of, reason_with}
-use Rattle.ar_reason.specs.ReasonText.{change_line, condition_text, given_line, no_condition_line, reason_text, why_line}
+use Rattle.ar_evaluation.specs.EvaluatedText.{condition_text}
+use Rattle.ar_reason.specs.ReasonText.{change_line, given_line, no_condition_line, reason_text, why_line}
 use Rattle.ar_progress.specs.Why.{why_of}
 use Rattle.ar_facts.specs.Report.{event_line, printed_event}
 use Rattle.ar_facts.specs.declared.text.Naming.TheVariants as naming

@@ -1,5 +1,4 @@
 pub mod Events
-pub mod Lists
 pub mod Metrics
 pub mod Objects
 pub mod Reading

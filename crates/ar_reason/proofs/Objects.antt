@@ -28,89 +28,11 @@ use Rattle.ar_progress.specs.declared.steps.Change.{Change}
 use Rattle.ar_progress.specs.declared.waiting.Progress.{Progress}
 use Rattle.ar_progress.specs.declared.why.Why.{Why}
 use Rattle.ar_progress.specs.declared.why.Why.TheVariants as whys
-use Rattle.ar_reason.specs.Reason.{EvaluatedCondition, Given, Reason, RunReasons, gave_error, gave_misfit, gave_nothing, gave_value}
-use Rattle.ar_reason.specs.ReasonData.{condition_answer, apart_data, apart_if_there, awaited, awaited_data, change_data, evaluated_data, failure_if_there, gap_data, given_error, given_misfit, given_shown, given_value, operands_if_there, part_data, progress_data, reason_data, reasons_data, run_reasons_data, run_waits_data, settled_data, shown_if_there, value_if_there, waiting_data, why_data, why_members}
-
-text_small : (found : Option (List ℕ)) (levels : ℕ) → depth (text_or_null found) ≤ levels
-text_small found levels = let is = text_flat found in omega arith
-
-count_small : (found : Option ℕ) (levels : ℕ) → depth (count_or_null found) ≤ levels
-count_small found levels = let is = count_flat found in omega arith
-
-zero_small : (levels : ℕ) → 0 ≤ levels
-zero_small levels = omega arith
-
--- objects of three members, and of more
-three_deep : (a b c levels : ℕ) → a ≤ levels → b ≤ levels → c ≤ levels → suc (max a (max b (max c 0))) ≤ suc levels
-three_deep a b c levels in_a in_b in_c = above (max-le in_a (max-le in_b (max-le in_c (zero_small levels))))
-
-five_deep : (a b c d e levels : ℕ) → a ≤ levels → b ≤ levels → c ≤ levels → d ≤ levels → e ≤ levels → suc (max a (max b (max c (max d (max e 0))))) ≤ suc levels
-five_deep a b c d e levels in_a in_b in_c in_d in_e =
-    above (max-le in_a (max-le in_b (max-le in_c (max-le in_d (max-le in_e (zero_small levels))))))
-
-six_deep : (a b c d e f levels : ℕ) → a ≤ levels → b ≤ levels → c ≤ levels → d ≤ levels → e ≤ levels → f ≤ levels → suc (max a (max b (max c (max d (max e (max f 0)))))) ≤ suc levels
-six_deep a b c d e f levels in_a in_b in_c in_d in_e in_f =
-    above (max-le in_a (max-le in_b (max-le in_c (max-le in_d (max-le in_e (max-le in_f (zero_small levels)))))))
-
-nine_deep : (a b c d e f g h i levels : ℕ) → a ≤ levels → b ≤ levels → c ≤ levels → d ≤ levels → e ≤ levels → f ≤ levels → g ≤ levels → h ≤ levels → i ≤ levels
-    → suc (max a (max b (max c (max d (max e (max f (max g (max h (max i 0))))))))) ≤ suc levels
-nine_deep a b c d e f g h i levels in_a in_b in_c in_d in_e in_f in_g in_h in_i =
-    above (max-le in_a (max-le in_b (max-le in_c (max-le in_d (max-le in_e (max-le in_f (max-le in_g (max-le in_h (max-le in_i (zero_small levels))))))))))
-
-ten_deep : (a b c d e f g h i j levels : ℕ) → a ≤ levels → b ≤ levels → c ≤ levels → d ≤ levels → e ≤ levels → f ≤ levels → g ≤ levels → h ≤ levels → i ≤ levels → j ≤ levels
-    → suc (max a (max b (max c (max d (max e (max f (max g (max h (max i (max j 0)))))))))) ≤ suc levels
-ten_deep a b c d e f g h i j levels in_a in_b in_c in_d in_e in_f in_g in_h in_i in_j =
-    above (max-le in_a (max-le in_b (max-le in_c (max-le in_d (max-le in_e (max-le in_f (max-le in_g (max-le in_h (max-le in_i (max-le in_j (zero_small levels)))))))))))
-
--- ---- values
-
-integer_flat : (integer : ℤ) → depth (integer_data integer) ≡ 0
-integer_flat (pos n) = refl
-integer_flat (negsuc n) = refl
-
-exact_flat : (exact : Exact) → depth (exact_data exact) ≡ 0
-exact_flat no_form = refl
-exact_flat (a_boolean holds) = refl
-exact_flat (an_integer integer) = integer_flat integer
-exact_flat (a_text text) = refl
-
-exact_small : (exact : Exact) (levels : ℕ) → depth (exact_data exact) ≤ levels
-exact_small exact levels = let is = exact_flat exact in omega arith
-
--- ---- the parts of a condition
-
-value_small : (said : Outcome) (levels : ℕ) → depth (value_if_there said) ≤ levels
-value_small (valued shown apart) levels = exact_small shown.exact levels
-value_small (is_item shown) levels = exact_small shown.exact levels
-value_small (failed failure on) levels = zero_small levels
-value_small unneeded levels = zero_small levels
-value_small (passed items held) levels = zero_small levels
-
-answer_small : (said : Outcome) (levels : ℕ) → depth (condition_answer said) ≤ levels
-answer_small (valued shown apart) levels = exact_small shown.exact levels
-answer_small (is_item shown) levels = zero_small levels
-answer_small (failed failure on) levels = zero_small levels
-answer_small unneeded levels = zero_small levels
-answer_small (passed items held) levels = zero_small levels
-
-gap_flat : (said : Outcome) → depth (gap_data said) ≤ 2
-gap_flat (passed items held) = omega arith
-gap_flat (valued shown apart) = omega arith
-gap_flat (is_item shown) = omega arith
-gap_flat (failed failure on) = omega arith
-gap_flat unneeded = omega arith
-
-apart_small : (apart : Option Apart) → depth (option_map_or apart_data apart null) ≤ 2
-apart_small (Some apart) = omega arith
-apart_small None = omega arith
-
-part_flat : (line : Line) → depth (part_data line) ≤ 3
-part_flat line =
-    ten_deep 0 _ _ _ _ 0 _ 0 _ _ 2 (zero_small 2) (gap_flat line.said) (apart_small (apart_if_there line.said)) (text_small (failure_if_there line.said) 2) (above (none_deep count_data 1 (λ n. omega arith) line.items)) (zero_small 2) (text_small (operands_if_there line.said) 2) (zero_small 2) (text_small (shown_if_there line.said) 2) (value_small line.said 2)
-
-evaluated_flat : (condition : EvaluatedCondition) → depth (evaluated_data condition) ≤ 5
-evaluated_flat condition =
-    six_deep _ 0 0 _ _ 0 4 (answer_small condition.answer 4) (zero_small 4) (zero_small 4) (text_small (operands_if_there condition.answer) 4) (above (none_deep part_data 3 part_flat (condition.parts.lines ++ condition.parts.last))) (zero_small 4)
+use Rattle.ar_evaluation.specs.Evaluated.{EvaluatedCondition}
+use Rattle.ar_reason.specs.Reason.{Given, Reason, RunReasons, gave_error, gave_misfit, gave_nothing, gave_value}
+use Rattle.ar_evaluation.specs.EvaluatedData.{condition_answer, apart_data, apart_if_there, evaluated_data, failure_if_there, gap_data, operands_if_there, part_data, shown_if_there, value_if_there}
+use Rattle.ar_reason.specs.ReasonData.{awaited, awaited_data, change_data, given_error, given_misfit, given_shown, given_value, progress_data, reason_data, reasons_data, run_reasons_data, run_waits_data, settled_data, waiting_data, why_data, why_members}
+use Rattle.ar_evaluation.proofs.Objects.{text_small, count_small, zero_small, three_deep, five_deep, six_deep, nine_deep, exact_small, evaluated_flat}
 
 -- ---- an event
 

@@ -9,6 +9,7 @@ use Rattle.ar_value.specs.Value.{Value}
 use Rattle.ar_value.specs.View.{shape_view}
 use Rattle.ar_tree.specs.Meaning.{answer_of, mean}
 use Rattle.ar_tree.specs.Typed.{Typed}
+use Rattle.ar_explain.specs.Apart.{Apart, apart_on}
 use Rattle.ar_explain.specs.Lines.{outcome_of}
 use Rattle.ar_explain.specs.Operands.{failed_on}
 use Rattle.ar_judge.proofs.Trees.{tree_by_parser}
@@ -23,7 +24,7 @@ use Rattle.ar_json.specs.Reading.{read}
 use Rattle.ar_json.specs.declared.value_reading.ShapeFault.{ShapeFault}
 use Rattle.ar_misfit.proofs.Faults.{misfit_refused, no_misfit_read}
 use Rattle.ar_misfit.specs.Misfit.{misfit}
-use Rattle.ar_reason.specs.Reason.{EvaluatedCondition, after_success, evaluated, evaluated_if_there, evaluated_with, has_failed, is_failure}
+use Rattle.ar_evaluation.specs.Evaluated.{EvaluatedCondition, after_success, evaluated, evaluated_if_there, evaluated_with, has_failed, is_failure}
 use Rattle.ar_reason.specs.ReasonLaws.{MisfitIsOfVerdict, VerdictIsByShown, said_among}
 
 -- ---- a condition with a tree, or none
@@ -62,10 +63,10 @@ written shape (Some text) (Some condition) found built =
 -- ---- what decides
 
 -- where the success condition fails, the failure condition doesn't matter
-fails_alone : (meaning : Meaning) (on : Option Text) (failure : Said) → is_failure (outcome_of meaning on) ≡ true → verdict_by (spoken (answer_of meaning)) failure ≡ verdict_by (spoken (answer_of meaning)) absent
-fails_alone (Ok value) on failure fails = absurd cc
-fails_alone (Err (faulted fault)) on failure fails = refl
-fails_alone (Err ill_kinded) on failure fails = refl
+fails_alone : (meaning : Meaning) (on : Option Text) (apart : Option Apart) (failure : Said) → is_failure (outcome_of meaning on apart) ≡ true → verdict_by (spoken (answer_of meaning)) failure ≡ verdict_by (spoken (answer_of meaning)) absent
+fails_alone (Ok value) on apart failure fails = absurd cc
+fails_alone (Err (faulted fault)) on apart failure fails = refl
+fails_alone (Err ill_kinded) on apart failure fails = refl
 
 either_false : (does : Bool) → (does || false) ≡ true → does ≡ true
 either_false true is = refl
@@ -81,7 +82,7 @@ by_shown found (Some success) failure = by_test (list_any has_failed (shown (cod
       ≡ verdict_by (said_among (codes "success") found (if fails then shown (codes "success") found (Some success) else shown (codes "success") found (Some success) ++ shown (codes "failure") found failure))
       (said_among (codes "failure") found (if fails then shown (codes "success") found (Some success) else shown (codes "success") found (Some success) ++ shown (codes "failure") found failure))
   by_test true is =
-      fails_alone (mean found None success.tree) (failed_on found None success.tree) (meant found failure) (either_false (is_failure (outcome_of (mean found None success.tree) (failed_on found None success.tree))) is)
+      fails_alone (mean found None success.tree) (failed_on found None success.tree) (apart_on found None success.tree) (meant found failure) (either_false (is_failure (outcome_of (mean found None success.tree) (failed_on found None success.tree) (apart_on found None success.tree))) is)
   by_test false is = by_other failure where
     by_other : (failure : Option Written)
         → verdict_by (meant found (Some success)) (meant found failure)

@@ -8,19 +8,9 @@ use Rattle.ar_bundle.specs.Bundle.{Bundle, judge_at}
 use Rattle.ar_bundle.specs.declared.bundle.RunPart.{RunPart}
 use Rattle.ar_facts.proofs.Lines.{no_item, none_left, read_at}
 use Rattle.ar_judge.specs.Verdict.{Judge}
-use Rattle.ar_reason.specs.Private.Trees.{JudgeTrees, trees_of, run_trees, judge_trees_view}
-use Rattle.ar_reason.specs.declared.evaluated.JudgeTrees.{JudgeTrees as TreesCode}
-
-pub next_judge : (judges : List Judge) (index : ℕ) (judge : Judge) (trees : List TreesCode) (new : TreesCode) (total : List JudgeTrees) → index < length judges → judge ≡ slice_index_or judges index judge → judge_trees_view new ≡ trees_of judge
-    → map judge_trees_view trees ++ map trees_of (drop index judges) ≡ total → map judge_trees_view (trees ++ new ∷ []) ++ map trees_of (drop (index + 1) judges) ≡ total
-next_judge judges index judge trees new total inside read is so_far =
-    ap (λ (seen : List JudgeTrees). seen ++ map trees_of (drop (index + 1) judges)) (map_push judge_trees_view trees new)
-    ∙ (append_assoc (map judge_trees_view trees) (judge_trees_view new ∷ []) (map trees_of (drop (index + 1) judges))
-    ∙ (ap (λ (first : JudgeTrees). map judge_trees_view trees ++ first ∷ map trees_of (drop (index + 1) judges)) is
-    ∙ (ap (λ (left : List Judge). map judge_trees_view trees ++ map trees_of left) (sym (read_at judges index judge inside read)) ∙ so_far)))
-
-pub no_judge_left : (judges : List Judge) (index : ℕ) (trees : List TreesCode) (total : List JudgeTrees) → length judges ≤ index → map judge_trees_view trees ++ map trees_of (drop index judges) ≡ total → map judge_trees_view trees ≡ total
-no_judge_left judges index trees total past so_far = no_item trees_of (drop index judges) (map judge_trees_view trees) total (none_left judges index past) so_far
+use Rattle.ar_evaluation.specs.Private.Trees.{JudgeTrees, trees_of, judge_trees_view}
+use Rattle.ar_reason.specs.Private.Trees.{run_trees}
+use Rattle.ar_evaluation.specs.declared.trees.JudgeTrees.{JudgeTrees as TreesCode}
 
 -- the trees of a metric's conditions are those of its judge
 pub trees_at : (bundle : Bundle) (run metric : ℕ) (trees : List TreesCode) → map judge_trees_view trees ≡ run_trees bundle run → option_map judge_trees_view (slice_get trees metric) ≡ option_map trees_of (judge_at bundle run metric)

@@ -12,7 +12,7 @@ use Rattle.ar_judge.specs.Verdict.{IsJudge, Judge, Said, absent, measured, misfi
 use Rattle.ar_judge.specs.declared.verdict.Cause.TheVariants as causes
 use Rattle.ar_judge.specs.declared.verdict.Verdict.TheVariants.{Error}
 use Rattle.ar_misfit.specs.Misfit.{Misfit, misfit}
-use Rattle.ar_reason.specs.Reason.{EvaluatedCondition, conditions_on}
+use Rattle.ar_evaluation.specs.Evaluated.{EvaluatedCondition, conditions_on}
 
 -- ---- conditions
 

@@ -21,12 +21,9 @@
 #![tactic(auto)]
 
 mod data;
-mod evaluated;
 mod given;
 pub mod laws;
 mod lines;
-mod part_data;
-mod parts;
 mod why_data;
 
 pub use data::reasons_json;

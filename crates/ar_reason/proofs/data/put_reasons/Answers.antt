@@ -2,7 +2,7 @@ use Rattle.std.proofs.Common.{arith, rules}
 use Rattle.serde_json.specs.View.{view}
 use Rattle.ar_object.proofs.Texts.{all_remain, list_member}
 use Rattle.ar_reason.proofs.Events.{is_found_read}
-use Rattle.ar_reason.proofs.Lists.{next_object, no_object_left}
+use Rattle.ar_evaluation.proofs.Lists.{next_object, no_object_left}
 use Rattle.ar_reason.specs.Reason.{reason_of}
 use Rattle.ar_reason.specs.ReasonData.{reason_data}
 use Rattle.ar_reason.proofs.data.put_reasons.Goals as goal

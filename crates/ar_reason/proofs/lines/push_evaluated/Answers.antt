@@ -1,6 +1,6 @@
 use Rattle.std.proofs.Common.{◌∙◌, ap, sym}
 use Rattle.ar_reason.proofs.Trees.{trees_at}
-use Rattle.ar_reason.specs.Private.Trees.{judge_trees_view, trees_of}
+use Rattle.ar_evaluation.specs.Private.Trees.{judge_trees_view, trees_of}
 use Rattle.std.specs.Prelude.{option_map}
 use Rattle.ar_reason.proofs.lines.push_evaluated.Goals as goal
 

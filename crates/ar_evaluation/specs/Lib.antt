@@ -1,0 +1,4 @@
+pub mod Evaluated
+pub mod EvaluatedText
+pub mod EvaluatedData
+pub mod Private

@@ -1,0 +1,2 @@
+-- Definitions of private contracts and of proofs alone, which follow the code: a reader need not believe them.
+pub mod Trees

@@ -1,6 +1,0 @@
-use Rattle.std.proofs.Common.{arith}
-use Rattle.std.proofs.lemmas.Grind.{common_steps}
-use Rattle.ar_reason.proofs.parts.push_operands.Goals as goal
-
-pub returns-in_ok-push_str-in-Some : goal.returns-in_ok-push_str-in-Some
-returns-in_ok-push_str-in-Some c = grind (arith, common_steps) steps 2000000

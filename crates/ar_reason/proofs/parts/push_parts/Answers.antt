@@ -1,6 +1,0 @@
-use Rattle.std.proofs.Common.{arith}
-use Rattle.std.proofs.lemmas.Grind.{common_steps}
-use Rattle.ar_reason.proofs.parts.push_parts.Goals as goal
-
-pub returns : goal.returns
-returns c = grind (arith, common_steps) steps 2000000
