@@ -1,9 +1,7 @@
 -- The trees of judges, one after another.
-use Rattle.std.proofs.Common.{◌≡◌, ◌<◌, ◌≤◌, ℕ, ◌+◌, List, [], ◌∷◌, ◌++◌, drop, length, map, Option, None, Some, refl, sym, ◌∙◌, ap, append_assoc}
-use Rattle.std.specs.Prelude.{option_and_then, option_map, slice_get, slice_index_or}
-use Rattle.std.specs.Option.{option_map_or}
+use Rattle.std.proofs.Common.{◌≡◌, ◌<◌, ◌≤◌, ℕ, ◌+◌, List, [], ◌∷◌, ◌++◌, drop, length, map, sym, ◌∙◌, ap, append_assoc}
+use Rattle.std.specs.Prelude.{slice_index_or}
 use Rattle.std.proofs.lemmas.List.{map_push}
-use Rattle.std.proofs.lemmas.Option.{slice_get-map}
 use Rattle.ar_facts.proofs.Lines.{no_item, none_left, read_at}
 use Rattle.ar_judge.specs.Verdict.{Judge}
 use Rattle.ar_evaluation.specs.Private.Trees.{JudgeTrees, trees_of, judge_trees_view}

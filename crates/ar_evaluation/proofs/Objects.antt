@@ -1,16 +1,13 @@
 -- No object of an evaluated condition is deep.
-use Rattle.std.proofs.Common.{◌≡◌, ◌≤◌, ◌++◌, ℕ, ℤ, pos, negsuc, suc, max, Bool, true, false, if◌then◌else◌, List, [], ◌∷◌, Option, Some, None, refl, arith}
-use Rattle.std.specs.Prelude.{codes, flat_map}
+use Rattle.std.proofs.Common.{◌≡◌, ◌≤◌, ◌++◌, ℕ, ℤ, pos, negsuc, suc, max, List, Option, Some, None, refl, arith}
 use Rattle.std.specs.Option.{option_map_or}
 use Rattle.std.proofs.Math.Nat.{max-le}
-use Rattle.serde_json.specs.Data.{Data, depth, items_depth, null}
-use Rattle.serde_json.specs.Read.{max_depth}
-use Rattle.serde_json.specs.View.{items_of}
-use Rattle.ar_exact.specs.Exact.{Exact, a_boolean, a_text, an_integer, exact_data, exact_of, no_form}
+use Rattle.serde_json.specs.Data.{depth, null}
+use Rattle.ar_exact.specs.Exact.{Exact, a_boolean, a_text, an_integer, exact_data, no_form}
 use Rattle.ar_apart.specs.Apart.{Apart}
 use Rattle.ar_explain.specs.Lines.{Line, Outcome, failed, is_item, passed, unneeded, valued}
-use Rattle.ar_object.proofs.Values.{above, count_flat, none_deep, one_deep, text_flat}
-use Rattle.ar_object.specs.Object.{array_of, count_data, count_or_null, integer_data, text_or_null}
+use Rattle.ar_object.proofs.Values.{above, count_flat, none_deep, text_flat}
+use Rattle.ar_object.specs.Object.{count_data, count_or_null, integer_data, text_or_null}
 use Rattle.ar_evaluation.specs.Evaluated.{EvaluatedCondition}
 use Rattle.ar_evaluation.specs.EvaluatedData.{condition_answer, apart_data, apart_if_there, evaluated_data, failure_if_there, gap_data, operands_if_there, part_data, shown_if_there, value_if_there}
 

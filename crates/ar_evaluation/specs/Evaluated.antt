@@ -1,17 +1,14 @@
 -- What came of the conditions of a metric on a value.
 use Rattle.ar_judge.specs.Condition.{Condition}
-use Rattle.std.specs.Prelude.{ℕ, suc, ◌&&◌, Bool, true, false, if◌then◌else◌, List, [], ◌∷◌, ◌++◌, codes, is_none, map, slice_get, Option, Some, None, option_and_then, Result, Ok, Err}
+use Rattle.std.specs.Prelude.{Bool, true, false, if◌then◌else◌, List, [], ◌∷◌, ◌++◌, codes, Option, Some, None, Result, Ok, Err}
 use Rattle.std.specs.List.{list_any}
-use Rattle.std.specs.Option.{option_map_or}
-use Rattle.serde_json.specs.Data.{Data}
-use Rattle.serde_json.specs.Find.{as_str, at, get}
 use Rattle.ar_value.specs.Terms.{Text}
 use Rattle.ar_value.specs.Value.{Value}
 use Rattle.ar_value.specs.View.{shape_view}
 use Rattle.ar_tree.specs.Meaning.{mean}
 use Rattle.ar_tree.specs.Typed.{Typed}
 use Rattle.ar_judge.specs.Saying.{typed_text}
-use Rattle.ar_judge.specs.Verdict.{Judge, Sample, measured, misfit as unfit, provider, sample_view}
+use Rattle.ar_judge.specs.Verdict.{Judge}
 use Rattle.ar_judge.specs.declared.error.BuildCause.{BuildCause}
 use Rattle.ar_explain.specs.Operands.{apart_on}
 use Rattle.ar_explain.specs.Operands.{failed_on}

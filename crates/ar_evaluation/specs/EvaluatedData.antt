@@ -1,5 +1,5 @@
 -- A condition that was evaluated as JSON (RFC 8259): one object. Its members are in the byte order of their names.
-use Rattle.std.specs.Prelude.{ℕ, ◌-◌, ◌^◌, min, Bool, true, false, if◌then◌else◌, List, [], ◌∷◌, ◌++◌, codes, decimal, flat_map, map, Option, Some, None}
+use Rattle.std.specs.Prelude.{Bool, true, false, ◌++◌, codes, map, Option, Some, None}
 use Rattle.std.specs.Option.{option_map_or}
 use Rattle.serde_json.specs.Data.{Data, boolean, member, no_members, null, object, string}
 use Rattle.ar_value.specs.Terms.{Text}
@@ -8,10 +8,9 @@ use Rattle.ar_tree.specs.Typed as typed
 use Rattle.ar_value.specs.declared.operator.UnaryOperator.TheVariants as unary
 use Rattle.ar_apart.specs.Apart.{Apart}
 use Rattle.ar_explain.specs.Lines.{Explanation, Line, Outcome, failed, is_item, passed, unneeded, valued}
-use Rattle.ar_object.specs.Object.{array_of, count_data, count_or_null, text_or_null}
-use Rattle.ar_exact.specs.Exact.{exact_data, exact_of}
+use Rattle.ar_object.specs.Object.{array_of, count_data, text_or_null}
+use Rattle.ar_exact.specs.Exact.{exact_data}
 use Rattle.ar_show.specs.PartText.{shown_part}
-use Rattle.ar_show.specs.Values.{shown_value}
 use Rattle.ar_evaluation.specs.Evaluated.{EvaluatedCondition}
 use Rattle.ar_evaluation.specs.EvaluatedText.{failure_name}
 

@@ -1,18 +1,15 @@
 -- The lines of a condition that was evaluated: itself, its parts in the order of evaluation, and its answer.
-use Rattle.std.specs.Prelude.{ℕ, ◌==◌, ◌≡◌, refl, Bool, if◌then◌else◌, List, [], ◌∷◌, ◌++◌, codes, decimal, flat_map, Option, Some, None, option_map}
+use Rattle.std.specs.Prelude.{ℕ, ◌==◌, ◌≡◌, refl, if◌then◌else◌, [], ◌∷◌, ◌++◌, codes, decimal, flat_map, Option, Some, None}
 use Rattle.std.specs.Fmt.{digits}
 use Rattle.ar_value.specs.Fault.{fault_name}
 use Rattle.ar_value.specs.Operators.{Failure, faulted, ill_kinded}
 use Rattle.ar_value.specs.Terms.{Text}
-use Rattle.ar_value.specs.Value as values
 use Rattle.ar_tree.specs.Typed.{Typed}
 use Rattle.ar_tree.specs.Typed as typed
 use Rattle.ar_value.specs.declared.operator.UnaryOperator.TheVariants as unary
 use Rattle.ar_apart.specs.Apart.{Apart}
 use Rattle.ar_explain.specs.Lines.{Explanation, Line, Outcome, failed, is_item, passed, passed_line, unneeded, valued}
-use Rattle.ar_quote.specs.Shown.{shown_name}
 use Rattle.ar_show.specs.PartText.{shown_part}
-use Rattle.ar_show.specs.Values.{shown_value}
 use Rattle.ar_show.specs.Words.{units}
 use Rattle.ar_evaluation.specs.Evaluated.{EvaluatedCondition}
 

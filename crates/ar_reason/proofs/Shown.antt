@@ -9,9 +9,9 @@ use Rattle.ar_value.specs.Value.{Value}
 use Rattle.ar_value.specs.View.{shape_view}
 use Rattle.ar_tree.specs.Meaning.{answer_of, mean}
 use Rattle.ar_tree.specs.Typed.{Typed}
-use Rattle.ar_explain.specs.Apart.{Apart, apart_on}
+use Rattle.ar_apart.specs.Apart.{Apart}
 use Rattle.ar_explain.specs.Lines.{outcome_of}
-use Rattle.ar_explain.specs.Operands.{failed_on}
+use Rattle.ar_explain.specs.Operands.{apart_on, failed_on}
 use Rattle.ar_judge.proofs.Trees.{tree_by_parser}
 use Rattle.ar_judge.specs.Condition.{Condition}
 use Rattle.ar_judge.specs.Saying.{said_by, typed_text}

@@ -1,6 +1,5 @@
 -- The trees of conditions, each where the condition is there and its text has a tree.
-use Rattle.std.specs.Prelude.{ℕ, List, [], map, Option, Some, None, Result, Ok, Err, option_map, slice_get}
-use Rattle.std.specs.Option.{option_map_or}
+use Rattle.std.specs.Prelude.{Option, Some, None, Result, Ok, Err, option_map}
 use Rattle.ar_judge.specs.Condition.{Condition}
 use Rattle.ar_judge.specs.Saying.{typed_text}
 use Rattle.ar_judge.specs.Verdict.{Judge}
