@@ -12,10 +12,10 @@
 //! operands in words.
 //!
 //! The definitions are `specs/Trace` (the trace of a typed tree), `specs/Parts` (parts by paths, and what an entry
-//! has), `specs/Operands` (on which operands a part fails, and which are texts that look alike, by `ar_apart`), `specs/Lines` (what is
-//! said) and `specs/Sources` (which entry a line is of); `specs/Views` says what explanations in memory say. The laws
-//! say which parts a trace has, what its entries and the lines with values and failures say, that these lines are in
-//! its order, and that just parts without an entry weren't needed. `specs/Private` follows the code.
+//! has), `specs/Operands` (on which operands a part fails, and which are texts that look alike, by `ar_apart`),
+//! `specs/Lines` (what is said) and `specs/Sources` (which entry a line is of); `specs/Views` says what explanations in
+//! memory say. The laws say which parts a trace has, what its entries and the lines with values and failures say, that
+//! these lines are in its order, and that just parts without an entry weren't needed. `specs/Private` follows the code.
 //!
 //! - [`laws`]: that entries are of parts and have their meanings, the root's is the last, a failure is the condition's,
 //!   and just what isn't needed is left out; that lines say what entries have, in their order, the root's is the last,
