@@ -1,16 +1,15 @@
 -- No object of reasons is deep.
-use Rattle.std.proofs.Common.{◌≡◌, ◌≤◌, ◌++◌, ℕ, ℤ, pos, negsuc, suc, max, Bool, true, false, if◌then◌else◌, List, [], ◌∷◌, Option, Some, None, refl, arith}
+use Rattle.std.proofs.Common.{◌≤◌, ◌++◌, ℕ, Bool, true, false, if◌then◌else◌, List, [], ◌∷◌, Option, Some, None, arith}
 use Rattle.std.specs.Prelude.{codes, flat_map}
 use Rattle.std.specs.Option.{option_map_or}
 use Rattle.std.proofs.Math.Nat.{max-le}
 use Rattle.serde_json.specs.Data.{Data, depth, items_depth, null}
 use Rattle.serde_json.specs.Read.{max_depth}
 use Rattle.serde_json.specs.View.{items_of}
-use Rattle.ar_exact.specs.Exact.{Exact, a_boolean, a_text, an_integer, exact_data, exact_of, no_form}
-use Rattle.ar_explain.specs.Lines.{Line, Outcome, failed, is_item, passed, unneeded, valued}
+use Rattle.ar_exact.specs.Exact.{exact_of}
 use Rattle.ar_facts.proofs.Objects.{finding_flat, metric_flat}
-use Rattle.ar_object.proofs.Values.{above, count_flat, none_deep, one_deep, text_flat}
-use Rattle.ar_object.specs.Object.{array_of, count_data, count_or_null, integer_data, text_or_null}
+use Rattle.ar_object.proofs.Values.{above, count_flat, none_deep, one_deep}
+use Rattle.ar_object.specs.Object.{array_of}
 use Rattle.ar_facts.specs.Facts.{MetricFacts}
 use Rattle.ar_facts.specs.Names.{phase_name}
 use Rattle.ar_facts.specs.ReportData.{event_data, metric_data}
@@ -27,9 +26,8 @@ use Rattle.ar_progress.specs.declared.steps.Change.{Change}
 use Rattle.ar_progress.specs.declared.waiting.Progress.{Progress}
 use Rattle.ar_progress.specs.declared.why.Why.{Why}
 use Rattle.ar_progress.specs.declared.why.Why.TheVariants as whys
-use Rattle.ar_evaluation.specs.Evaluated.{EvaluatedCondition}
 use Rattle.ar_reason.specs.Reason.{Given, Reason, RunReasons, gave_error, gave_misfit, gave_nothing, gave_value}
-use Rattle.ar_evaluation.specs.EvaluatedData.{condition_answer, apart_data, apart_if_there, evaluated_data, failure_if_there, gap_data, operands_if_there, part_data, shown_if_there, value_if_there}
+use Rattle.ar_evaluation.specs.EvaluatedData.{evaluated_data}
 use Rattle.ar_reason.specs.ReasonData.{awaited, awaited_data, change_data, given_error, given_misfit, given_shown, given_value, progress_data, reason_data, reasons_data, run_reasons_data, run_waits_data, settled_data, waiting_data, why_data, why_members}
 use Rattle.ar_evaluation.proofs.Objects.{text_small, count_small, zero_small, three_deep, five_deep, six_deep, nine_deep, exact_small, evaluated_flat}
 

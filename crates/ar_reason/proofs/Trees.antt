@@ -1,13 +1,10 @@
 -- The trees of a run's conditions.
-use Rattle.std.proofs.Common.{◌≡◌, ◌<◌, ◌≤◌, ℕ, ◌+◌, List, [], ◌∷◌, ◌++◌, drop, length, map, Option, None, Some, refl, sym, ◌∙◌, ap, append_assoc}
-use Rattle.std.specs.Prelude.{option_and_then, option_map, slice_get, slice_index_or}
+use Rattle.std.proofs.Common.{◌≡◌, ℕ, List, [], map, Option, None, Some, refl, sym, ◌∙◌, ap}
+use Rattle.std.specs.Prelude.{option_and_then, option_map, slice_get}
 use Rattle.std.specs.Option.{option_map_or}
-use Rattle.std.proofs.lemmas.List.{map_push}
 use Rattle.std.proofs.lemmas.Option.{slice_get-map}
 use Rattle.ar_bundle.specs.Bundle.{Bundle, judge_at}
 use Rattle.ar_bundle.specs.declared.bundle.RunPart.{RunPart}
-use Rattle.ar_facts.proofs.Lines.{no_item, none_left, read_at}
-use Rattle.ar_judge.specs.Verdict.{Judge}
 use Rattle.ar_evaluation.specs.Private.Trees.{JudgeTrees, trees_of, judge_trees_view}
 use Rattle.ar_reason.specs.Private.Trees.{run_trees}
 use Rattle.ar_evaluation.specs.declared.trees.JudgeTrees.{JudgeTrees as TreesCode}

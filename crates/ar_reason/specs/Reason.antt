@@ -1,19 +1,13 @@
 -- What led to the verdict and the effect of each event of runs that is asked for.
 use Rattle.ar_evaluation.specs.Evaluated.{EvaluatedCondition, conditions_on}
-use Rattle.ar_judge.specs.Condition.{Condition}
-use Rattle.std.specs.Prelude.{ℕ, suc, ◌&&◌, Bool, true, false, if◌then◌else◌, List, [], ◌∷◌, ◌++◌, codes, is_none, map, slice_get, Option, Some, None, option_and_then, Result, Ok, Err}
-use Rattle.std.specs.List.{list_any}
+use Rattle.std.specs.Prelude.{ℕ, suc, ◌&&◌, Bool, true, false, if◌then◌else◌, List, [], ◌∷◌, ◌++◌, codes, is_none, map, slice_get, Option, Some, None, option_and_then}
 use Rattle.std.specs.Option.{option_map_or}
 use Rattle.serde_json.specs.Data.{Data}
 use Rattle.serde_json.specs.Find.{as_str, at, get}
 use Rattle.ar_value.specs.Terms.{Text}
 use Rattle.ar_value.specs.Value.{Value}
 use Rattle.ar_value.specs.View.{shape_view}
-use Rattle.ar_tree.specs.Meaning.{mean}
-use Rattle.ar_tree.specs.Typed.{Typed}
-use Rattle.ar_judge.specs.Saying.{typed_text}
 use Rattle.ar_judge.specs.Verdict.{Judge, Sample, measured, misfit as unfit, provider, sample_view}
-use Rattle.ar_judge.specs.declared.error.BuildCause.{BuildCause}
 use Rattle.ar_limits.specs.Run.{metric_counts, metric_phases, run_phase}
 use Rattle.ar_limits.specs.declared.phase.Phase.{Phase}
 use Rattle.ar_bundle.specs.Bundle.{Bundle, events_of, judge_at}
@@ -25,9 +19,6 @@ use Rattle.ar_bundle.specs.declared.bundle.RunPart.{RunPart}
 use Rattle.ar_bundle.specs.declared.bundle.What.{What}
 use Rattle.ar_bundle.specs.declared.bundle.What.TheVariants.{Measure, Stop}
 use Rattle.ar_bundle.specs.declared.history.Entry.{Entry}
-use Rattle.ar_explain.specs.Operands.{apart_on}
-use Rattle.ar_explain.specs.Operands.{failed_on}
-use Rattle.ar_explain.specs.Lines.{Explanation, Outcome, earlier_lines, explained, failed, is_item, outcome_of, passed, unneeded, valued}
 use Rattle.ar_misfit.specs.Misfit.{Misfit, misfit}
 use Rattle.ar_facts.specs.Facts.{EventFacts, MetricFacts, event_facts, facts_of_metrics}
 use Rattle.ar_progress.specs.Steps.{chosen_steps, closer_of, is_chosen_run}

@@ -1,16 +1,12 @@
 -- Reasons as JSON (RFC 8259): one object. Its members are in the byte order of their names.
 use Rattle.ar_evaluation.specs.EvaluatedData.{evaluated_data}
-use Rattle.std.specs.Prelude.{ℕ, ◌-◌, ◌^◌, min, Bool, true, false, if◌then◌else◌, List, [], ◌∷◌, ◌++◌, codes, decimal, flat_map, map, Option, Some, None}
+use Rattle.std.specs.Prelude.{ℕ, ◌-◌, ◌^◌, min, if◌then◌else◌, List, [], ◌∷◌, ◌++◌, codes, decimal, flat_map, map, Option, Some, None}
 use Rattle.std.specs.Option.{option_map_or}
 use Rattle.serde_json.specs.Data.{Data, boolean, member, no_members, null, object, string}
 use Rattle.ar_value.specs.Terms.{Text}
 use Rattle.ar_bundle.specs.Event.{EventNumber}
 use Rattle.ar_limits.specs.Metric.{is_complete}
 use Rattle.ar_limits.specs.declared.phase.Phase.{Phase}
-use Rattle.ar_tree.specs.Typed.{Typed}
-use Rattle.ar_tree.specs.Typed as typed
-use Rattle.ar_value.specs.declared.operator.UnaryOperator.TheVariants as unary
-use Rattle.ar_explain.specs.Lines.{Explanation, Line, Outcome, failed, is_item, passed, unneeded, valued}
 use Rattle.ar_facts.specs.Facts.{MetricFacts}
 use Rattle.ar_facts.specs.Names.{phase_name}
 use Rattle.ar_facts.specs.ReportData.{counts_data, event_data, limits_data, metric_data}
@@ -26,11 +22,8 @@ use Rattle.ar_progress.specs.declared.waiting.Progress.{Progress}
 use Rattle.ar_progress.specs.declared.why.Why.{Why}
 use Rattle.ar_progress.specs.declared.why.Why.TheVariants as whys
 use Rattle.ar_exact.specs.Exact.{exact_data, exact_of}
-use Rattle.ar_show.specs.PartText.{shown_part}
 use Rattle.ar_show.specs.Values.{shown_value}
-use Rattle.ar_evaluation.specs.Evaluated.{EvaluatedCondition}
 use Rattle.ar_reason.specs.Reason.{Given, Reason, RunReasons, gave_error, gave_misfit, gave_value}
-use Rattle.ar_evaluation.specs.EvaluatedText.{failure_name}
 
 -- ---- an event
 

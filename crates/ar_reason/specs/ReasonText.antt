@@ -1,28 +1,18 @@
 -- The text of reasons: the line of each run, the lines of its events, and those of its metrics.
 use Rattle.ar_evaluation.specs.EvaluatedText.{condition_text}
-use Rattle.std.specs.Prelude.{ℕ, ◌==◌, ◌≡◌, refl, Bool, if◌then◌else◌, List, [], ◌∷◌, ◌++◌, codes, decimal, flat_map, Option, Some, None, option_map}
-use Rattle.std.specs.Fmt.{digits}
-use Rattle.ar_value.specs.Fault.{fault_name}
-use Rattle.ar_value.specs.Operators.{Failure, faulted, ill_kinded}
+use Rattle.std.specs.Prelude.{Bool, if◌then◌else◌, List, [], ◌++◌, codes, flat_map, Option, Some, None, option_map}
 use Rattle.ar_value.specs.Terms.{Text}
 use Rattle.ar_value.specs.Value as values
 use Rattle.ar_bundle.specs.Event.{EventNumber}
 use Rattle.ar_limits.specs.declared.phase.Phase.{Phase}
-use Rattle.ar_tree.specs.Typed.{Typed}
-use Rattle.ar_tree.specs.Typed as typed
-use Rattle.ar_value.specs.declared.operator.UnaryOperator.TheVariants as unary
-use Rattle.ar_explain.specs.Lines.{Explanation, Line, Outcome, failed, is_item, passed, passed_line, unneeded, valued}
 use Rattle.ar_facts.specs.Facts.{MetricFacts}
 use Rattle.ar_facts.specs.Names.{phase_name}
 use Rattle.ar_facts.specs.Report.{event_line, metric_line, printed_event, printed_metric, run_line}
 use Rattle.ar_facts.specs.declared.text.Naming.TheVariants as naming
 use Rattle.ar_quote.specs.Shown.{shown_name}
-use Rattle.ar_show.specs.PartText.{shown_part}
 use Rattle.ar_misfit.specs.MisfitText.{misfit_text}
 use Rattle.ar_show.specs.Values.{shown_value}
-use Rattle.ar_show.specs.Words.{units}
 use Rattle.ar_progress.specs.Counts.{changed_counts}
-use Rattle.ar_evaluation.specs.Evaluated.{EvaluatedCondition}
 use Rattle.ar_reason.specs.Reason.{Given, Reason, RunReasons, gave_error, gave_misfit, gave_nothing, gave_value}
 use Rattle.ar_progress.specs.Settled.{settled_by, settled_text}
 use Rattle.ar_progress.specs.Waiting.{run_waits_for, waiting_text, waits_for}
