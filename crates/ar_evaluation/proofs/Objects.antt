@@ -32,6 +32,10 @@ pub six_deep : (a b c d e f levels : ℕ) → a ≤ levels → b ≤ levels → 
 six_deep a b c d e f levels in_a in_b in_c in_d in_e in_f =
     above (max-le in_a (max-le in_b (max-le in_c (max-le in_d (max-le in_e (max-le in_f (zero_small levels)))))))
 
+seven_deep : (a b c d e f g levels : ℕ) → a ≤ levels → b ≤ levels → c ≤ levels → d ≤ levels → e ≤ levels → f ≤ levels → g ≤ levels → suc (max a (max b (max c (max d (max e (max f (max g 0))))))) ≤ suc levels
+seven_deep a b c d e f g levels in_a in_b in_c in_d in_e in_f in_g =
+    above (max-le in_a (max-le in_b (max-le in_c (max-le in_d (max-le in_e (max-le in_f (max-le in_g (zero_small levels))))))))
+
 pub nine_deep : (a b c d e f g h i levels : ℕ) → a ≤ levels → b ≤ levels → c ≤ levels → d ≤ levels → e ≤ levels → f ≤ levels → g ≤ levels → h ≤ levels → i ≤ levels
     → suc (max a (max b (max c (max d (max e (max f (max g (max h (max i 0))))))))) ≤ suc levels
 nine_deep a b c d e f g h i levels in_a in_b in_c in_d in_e in_f in_g in_h in_i =
@@ -88,6 +92,9 @@ part_flat : (line : Line) → depth (part_data line) ≤ 3
 part_flat line =
     ten_deep 0 _ _ _ _ 0 _ 0 _ _ 2 (zero_small 2) (gap_flat line.said) (apart_small (apart_if_there line.said)) (text_small (failure_if_there line.said) 2) (above (none_deep count_data 1 (λ n. omega arith) line.items)) (zero_small 2) (text_small (operands_if_there line.said) 2) (zero_small 2) (text_small (shown_if_there line.said) 2) (value_small line.said 2)
 
+apart_within : (apart : Option Apart) → depth (option_map_or apart_data apart null) ≤ 4
+apart_within apart = let is = apart_small apart in omega (arith, is)
+
 pub evaluated_flat : (condition : EvaluatedCondition) → depth (evaluated_data condition) ≤ 5
 evaluated_flat condition =
-    six_deep _ 0 0 _ _ 0 4 (answer_small condition.answer 4) (zero_small 4) (zero_small 4) (text_small (operands_if_there condition.answer) 4) (above (none_deep part_data 3 part_flat (condition.parts.lines ++ condition.parts.last))) (zero_small 4)
+    seven_deep _ 0 _ 0 _ _ 0 4 (answer_small condition.answer 4) (zero_small 4) (apart_within (apart_if_there condition.answer)) (zero_small 4) (text_small (operands_if_there condition.answer) 4) (above (none_deep part_data 3 part_flat (condition.parts.lines ++ condition.parts.last))) (zero_small 4)

@@ -93,10 +93,11 @@ abbrev pub evaluation_data : (which text : Text) → Explanation → (answer : O
 evaluation_data which text parts answer = object
     (member (codes "answer") (condition_answer answer)
     (member (codes "condition") (string which)
+    (member (codes "differ") (option_map_or apart_data (apart_if_there answer) null)
     (member (codes "leftOut") (count_data parts.left_out)
     (member (codes "on") (text_or_null (operands_if_there answer))
     (member (codes "parts") (array_of (map part_data (parts.lines ++ parts.last)))
-    (member (codes "text") (string text) no_members))))))
+    (member (codes "text") (string text) no_members)))))))
 
 abbrev pub evaluated_data : EvaluatedCondition → Data
 evaluated_data condition = evaluation_data condition.which condition.text condition.parts condition.answer

@@ -254,6 +254,7 @@ fn write_evaluation(
     json.begin_object();
     put_answer(alloc, json, &evaluation.answer)?;
     json.put_text("condition", which);
+    put_apart(json, &evaluation.answer);
     json.put_count("leftOut", evaluation.parts.left_out);
     json.put_text_if_there("on", operands_if_there(&evaluation.answer));
     put_parts(alloc, json, &evaluation.parts)?;
