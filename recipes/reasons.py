@@ -138,8 +138,7 @@ def part_lines(condition):
 def answer_line(condition):
     answer = condition["answer"]
     if isinstance(answer, bool):
-        # The last part is the whole condition, and has its boolean.
-        return f"    answer = {str(answer).lower()}" + differ_text(condition["parts"][-1]["differ"])
+        return f"    answer = {str(answer).lower()}" + differ_text(condition["differ"])
     return "    answer" + failure_text(condition, answer)
 
 
