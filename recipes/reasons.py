@@ -2,7 +2,10 @@
 own. A condition is written as it was bound, and there by its parts."""
 import re
 
-from reports import event_line, metric_line
+from reports import event_line, metric_line, of_version
+
+# The version of the form.
+VERSION = 2
 
 # What is counted, and its limit.
 LIMITED = (("failed", "failureLimit"), ("inconclusive", "inconclusiveLimit"), ("consecutiveError", "consecutiveErrorLimit"))
@@ -20,6 +23,11 @@ HIDDEN = ("\x00-\x1f\x7f-\x9f\xad\u061c\u115f\u1160\u180e\u200b-\u200f\u2028-\u2
 ESCAPED = re.compile(f'["\\\\{HIDDEN}]')
 UNCLEAR = re.compile(f'^"|[{HIDDEN}]|^$')
 WORD = re.compile(r"[A-Za-z_][A-Za-z0-9_]*", re.ASCII)
+
+
+def explained_in(text, where):
+    """The runs of an explanation that a text is."""
+    return of_version(text, where, VERSION, f"an explanation of version {VERSION} as `explain --output json` writes it")["runs"]
 
 
 # ---- texts and names

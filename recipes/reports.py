@@ -108,13 +108,18 @@ def check_run(run, expected, metrics, where):
         check_event(event, own, place)
 
 
+def of_version(text, where, version, what):
+    """The object of a version that a text is; `what`: what it is expected to be."""
+    made = parsed(text, where)
+    if member(made, "version") != version:
+        found = f"version {shown(member(made, 'version'))}" if isinstance(made, dict) else shown(made)
+        raise Refused(f"{where}: expected {what}, found {found}")
+    return made
+
+
 def report_in(text, where):
     """The report that a text is."""
-    report = parsed(text, where)
-    if member(report, "version") != VERSION:
-        found = f"version {shown(member(report, 'version'))}" if isinstance(report, dict) else shown(report)
-        raise Refused(f"{where}: expected a report of version {VERSION} as `run --output json` writes it, found {found}")
-    return report
+    return of_version(text, where, VERSION, f"a report of version {VERSION} as `run --output json` writes it")
 
 
 def checked(document, text, document_name, report_name):

@@ -3,8 +3,7 @@ from dataclasses import replace
 from itertools import islice
 from typing import NamedTuple
 
-from documents import parsed
-from reasons import event_head, lines_of_event, lines_of_metric
+from reasons import event_head, explained_in, lines_of_event, lines_of_metric
 from suites.comparing import differences
 from suites.judging import answered, document_of
 
@@ -31,7 +30,7 @@ def explained(engine, document, place):
     """What the engine explains of an event, and the metrics of its run; without an event, of a run that has none."""
     words = ["--event", str(place)] if place is not None else ["--run", NAME]
     ended, _ = answered(engine, ["explain", "--output", "json", *words], document)
-    return parsed(ended.stdout, "explain")["runs"][0]
+    return explained_in(ended.stdout, "explain")[0]
 
 
 def reasons(engine, subject, case, found):
