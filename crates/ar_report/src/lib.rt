@@ -12,7 +12,7 @@
 //!
 //! - `conditions`: the conditions of a bundle, and their lines
 //! - `json`: the objects of reports, conditions and answers
-//! - [`laws`]: that the object of a report determines its facts
+//! - [`laws`]: that a reader of a report's object finds its facts
 //! - `reports`: the lines of a report
 #![tactic(auto)]
 
