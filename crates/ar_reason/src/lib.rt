@@ -6,9 +6,9 @@
 //! each condition with its arguments put in and what came of its parts, in the order of evaluation; the metric's
 //! counts before and after, next to its limits; and why the event closed its run or what had made it late. Then each
 //! metric has what it still waits for, or that the close of its run settled it. `ar_evaluation` has the conditions,
-//! and `ar_progress` all but these and what was measured. What there is to say is defined once (`specs/Reason`), and printed by two
-//! definitions: as lines (`specs/ReasonText`) and as a JSON object, which reads back as what was written
-//! (`specs/ReasonData`).
+//! and `ar_progress` all but these and what was measured. What there is to say is defined once (`specs/Reason`), and
+//! printed by two definitions: as lines (`specs/ReasonText`) and as a JSON object, which reads back as what was
+//! written (`specs/ReasonData`).
 //!
 //! What is proved, for all inputs: each call returns the text that these define. Only a refused allocation can keep
 //! it from that.
