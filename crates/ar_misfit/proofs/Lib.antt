@@ -4,3 +4,4 @@ pub mod Faults
 pub mod Paths
 pub mod Sizes
 pub mod Steps
+pub mod Signs

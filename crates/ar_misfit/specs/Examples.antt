@@ -1,13 +1,17 @@
 -- Worked examples of misfits and of their texts.
-use Rattle.std.specs.Prelude.{◌≡◌, refl, ◌++◌, codes, true, Float, Some, None, option_map}
+use Rattle.std.specs.Prelude.{◌≡◌, refl, ◌++◌, codes, negsuc, true, false, Some, None, option_map}
+use Rattle.std.specs.Float.{float_with_sign, is_sign_negative, round_with}
+use Rattle.std.specs.Float.Ieee.{div, eq, fin, mul, odd, of_bits, of_int, round, size, to_signed, units}
 use Rattle.std.specs.Fmt.{digits}
 use Rattle.std.specs.Str.{chars}
 use Rattle.serde_json.specs.Data as json
 use Rattle.serde_json.specs.Data.{Data}
+use Rattle.ar_value.specs.DecimalShown.{decimal_text}
 use Rattle.ar_value.specs.Shape.{Shape}
 use Rattle.ar_value.specs.Shape as shapes
 use Rattle.ar_json.specs.declared.value_reading.ShapeFault.TheVariants.{NotFinite}
 use Rattle.ar_quote.specs.Shown.{quoted}
+use Rattle.ar_misfit.specs.FloatText.{float_text}
 use Rattle.ar_misfit.specs.Misfit.{misfit, misfit_here}
 use Rattle.ar_misfit.specs.MisfitData.{misfit_data}
 use Rattle.ar_misfit.specs.MisfitText.{misfit_text}
@@ -41,11 +45,13 @@ missing_field : option_map misfit_text (misfit hosts (one_item (rates (json.arra
 unfolding hosts rates one_item misfit misfit_text digits
 missing_field = refl
 
-fraction : (x : Float) → option_map misfit_text (misfit (shapes.optional shapes.decimal) (json.number (json.float x)))
+fraction : option_map misfit_text
+    (misfit (shapes.optional shapes.decimal) (json.number (json.float (fin false 1 (negsuc 1)))))
     ≡ Some (codes "the value: FloatNumber: expected a decimal as a text, or a whole number or null, "
-    ++ codes "found a fraction, an exponent or a number beyond 64 bits; write the number in quotes, as a text")
-unfolding misfit misfit_text
-fraction x = refl
+    ++ codes "found 0.25; write \"0.25\"")
+unfolding misfit misfit_text float_text round_with float_with_sign is_sign_negative mul div of_int eq round size units odd
+    to_signed of_bits decimal_text digits
+fraction = refl
 
 too_long : option_map misfit_text (misfit (shapes.list shapes.bool 1) (two json.null json.null))
     ≡ Some (codes "the value: ListTooLong: expected a list of at most 1 items, found a list of 2 items")

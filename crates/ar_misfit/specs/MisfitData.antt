@@ -24,6 +24,6 @@ misfit_data value misfit = object
     (member (codes "expected") (string (expected_text misfit.expected))
     (member (codes "fault") (string (shape_fault_name misfit.fault))
     (member (codes "found") (string (found_text misfit.found))
-    (member (codes "hint") (text_or_null (advice misfit.fault misfit.expected))
+    (member (codes "hint") (text_or_null (advice misfit.fault misfit.expected misfit.found))
     (member (codes "path") (array_of (map step_data misfit.path))
     (member (codes "pointer") (string (value ++ flat_map step_token misfit.path)) no_members))))))

@@ -1,5 +1,5 @@
 -- How a misfit is said to a person: its path, the fault's name, what was expected there and what was found.
-use Rattle.std.specs.Prelude.{List, [], ◌∷◌, ◌++◌, codes, decimal, flat_map, Option, Some, None}
+use Rattle.std.specs.Prelude.{Float, if◌then◌else◌, List, [], ◌∷◌, ◌++◌, codes, decimal, flat_map, Option, Some, None}
 use Rattle.std.specs.Fmt.{signed_decimal}
 use Rattle.serde_json.specs.Data as json
 use Rattle.serde_json.specs.Data.{Data, Num}
@@ -13,6 +13,7 @@ use Rattle.ar_json.specs.declared.value_reading.ShapeFault.TheVariants.{WrongKin
 use Rattle.ar_quote.specs.Shown.{quoted}
 use Rattle.ar_show.specs.PartText.{field_text}
 use Rattle.ar_show.specs.Words.{boolean_text}
+use Rattle.ar_misfit.specs.FloatText.{digits_text, float_text, is_shown_whole}
 use Rattle.ar_misfit.specs.Misfit.{Misfit, Step, index, named}
 
 -- ---- the path
@@ -37,11 +38,11 @@ expected_text (shapes.list shape max) = codes "a list of at most " ++ (decimal m
 expected_text (shapes.object of) = codes "an object"
 expected_text (shapes.optional shape) = expected_text shape ++ codes " or null"
 
--- any other number is read as a float, which has no digits of its own
+-- a number with a fraction or an exponent, and one beyond 64 bits, is read as a float
 abbrev pub number_shown : Num → Text
 number_shown (json.unsigned n) = decimal n
 number_shown (json.negative z) = signed_decimal z
-number_shown (json.float x) = codes "a fraction, an exponent or a number beyond 64 bits"
+number_shown (json.float x) = float_text x
 
 abbrev pub found_text : Option Data → Text
 found_text None = codes "nothing"
@@ -54,24 +55,36 @@ found_text (Some (json.object given)) = codes "an object"
 
 -- ---- what to do
 
-abbrev pub float_advice : (expected : Shape) → Option Text
-float_advice shapes.bool = None
-float_advice shapes.whole = Some (codes "an integer has no point and no exponent, and 64 bits")
-float_advice shapes.decimal = Some (codes "write the number in quotes, as a text")
-float_advice shapes.text = None
-float_advice (shapes.list shape max) = None
-float_advice (shapes.object of) = None
-float_advice (shapes.optional shape) = float_advice shape
+-- a float that the reader found, if it did
+abbrev pub float_found : (found : Option Data) → Option Float
+float_found (Some (json.number (json.float x))) = Some x
+float_found found = None
 
-abbrev pub advice : ShapeFault → (expected : Shape) → Option Text
-advice WrongKind expected = None
-advice FloatNumber expected = float_advice expected
-advice NotFinite expected = Some (codes "it is no value, and counts towards consecutiveErrorLimit")
-advice BadDecimal expected = None
-advice OutOfRange expected = None
-advice ListTooLong expected = None
-advice MissingField expected = None
-advice OutOfMemory expected = None
+-- the text to write, where the shown decimal is read as the float that was found
+abbrev pub quoting_advice : (found : Option Float) → Text
+quoting_advice None = codes "write the number in quotes, as a text"
+quoting_advice (Some x) =
+    if is_shown_whole x then codes "write \"" ++ (digits_text x ++ codes "\"")
+    else codes "write the number in quotes, as a text"
+
+abbrev pub float_advice : (expected : Shape) → (found : Option Float) → Option Text
+float_advice shapes.bool found = None
+float_advice shapes.whole found = Some (codes "an integer has no point and no exponent, and 64 bits")
+float_advice shapes.decimal found = Some (quoting_advice found)
+float_advice shapes.text found = None
+float_advice (shapes.list shape max) found = None
+float_advice (shapes.object of) found = None
+float_advice (shapes.optional shape) found = float_advice shape found
+
+abbrev pub advice : ShapeFault → (expected : Shape) → (found : Option Data) → Option Text
+advice WrongKind expected found = None
+advice FloatNumber expected found = float_advice expected (float_found found)
+advice NotFinite expected found = Some (codes "it is no value, and counts towards consecutiveErrorLimit")
+advice BadDecimal expected found = None
+advice OutOfRange expected found = None
+advice ListTooLong expected found = None
+advice MissingField expected found = None
+advice OutOfMemory expected found = None
 
 abbrev pub advice_text : Option Text → Text
 advice_text None = []
@@ -83,7 +96,8 @@ advice_text (Some words) = codes "; " ++ words
 abbrev pub fault_text : Misfit → Text
 fault_text misfit =
     codes ": " ++ (shape_fault_name misfit.fault ++ (codes ": expected " ++ (expected_text misfit.expected
-    ++ (codes ", found " ++ (found_text misfit.found ++ advice_text (advice misfit.fault misfit.expected))))))
+    ++ (codes ", found " ++ (found_text misfit.found
+    ++ advice_text (advice misfit.fault misfit.expected misfit.found))))))
 
 unfoldable pub misfit_text : Misfit → Text
 misfit_text misfit = path_text misfit.path ++ fault_text misfit

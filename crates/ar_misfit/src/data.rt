@@ -2,15 +2,17 @@
 
 ghost use Rattle.std.specs.Prelude.{◌≡◌, ◌++◌, IfOk, OnOk, codes, flat_map, map, option_map, string_bytes};
 ghost use Rattle.serde_json.specs.View.{view};
-ghost use Rattle.ar_object.specs.Object.{array_of};
+ghost use Rattle.ar_object.specs.Object.{array_of, text_or_null};
 ghost use Rattle.ar_object.specs.Written.{AddsMember, AddsValue};
 ghost use Rattle.ar_value.specs.View.{shape_view};
 ghost use Rattle.ar_misfit.specs.MisfitData.{misfit_data, step_data, step_token};
 ghost use Rattle.ar_misfit.specs.MisfitText.{expected_text, found_text};
+ghost use Rattle.ar_misfit.specs.Private.Advised.{advice_words};
 ghost use Rattle.ar_misfit.specs.Views.{misfit_view, step_view};
 
+use crate::advice::{Advice, advice_on};
 use crate::misfit::{Misfit, Step};
-use crate::words::{advice, push_expected, push_found};
+use crate::words::{push_expected, push_found};
 use ar_diagnostic::push_token;
 use ar_object::JsonText;
 use ar_value::shape::Shape;
@@ -88,6 +90,21 @@ fn put_path(json: &mut JsonText, path: &[Step<'_>])
     json.end_list()
 }
 
+/// What to do, or null.
+fn put_hint(alloc: Global, json: &mut JsonText, advice: Option<Advice>) -> Result<(), AllocError>
+    ensures { OnOk result (AddsMember (codes "hint") (text_or_null (option_map advice_words advice))
+        json.old.written json.new.written) }
+{
+    let Some(advice) = advice else {
+        json.put_null("hint");
+        return Ok(());
+    };
+    let mut words = String::new(alloc);
+    advice.push(&mut words)?;
+    json.put_text("hint", &words);
+    Ok(())
+}
+
 /// Writes a misfit of the value to which a JSON Pointer leads.
 ///
 /// # Errors
@@ -109,7 +126,11 @@ pub fn write_misfit(
     json.put_text("expected", &expected);
     json.put_text("fault", misfit.fault.name());
     json.put_text("found", &found);
-    json.put_text_if_there("hint", advice(misfit.fault, misfit.expected));
+    put_hint(
+        alloc,
+        json,
+        advice_on(misfit.fault, misfit.expected, misfit.found),
+    )?;
     put_path(json, &misfit.path);
     json.put_text("pointer", &pointer);
     json.end_object();

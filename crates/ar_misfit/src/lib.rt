@@ -10,10 +10,13 @@
 //! was found ([`laws`]). Only a refused allocation can keep a call from that.
 //!
 //! - `misfit`: a misfit in memory; `walk`: the first misfit of a value
-//! - `words`: what is said of it; `data`: its object; [`laws`]: what holds of each misfit
+//! - `words`: what is said of it; `advice`: what to do about it; `floats`: how a float is shown
+//! - `data`: its object; [`laws`]: what holds of each misfit
 #![tactic(auto)]
 
+mod advice;
 mod data;
+mod floats;
 pub mod laws;
 mod misfit;
 mod walk;

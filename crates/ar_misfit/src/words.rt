@@ -3,11 +3,13 @@
 ghost use Rattle.std.specs.Prelude.{◌≡◌, ◌++◌, OnOk, Some, flat_map, map, option_map, string_bytes};
 ghost use Rattle.serde_json.specs.View.{number_view, view};
 ghost use Rattle.ar_value.specs.View.{shape_view};
-ghost use Rattle.ar_misfit.specs.MisfitText.{advice, advice_text, expected_text, fault_text, float_advice, found_text, misfit_text, number_shown, path_text, step_text};
+ghost use Rattle.ar_misfit.specs.MisfitText.{advice_text, expected_text, fault_text, found_text, misfit_text, number_shown, path_text, step_text};
+ghost use Rattle.ar_misfit.specs.Private.Advised.{advice_words};
 ghost use Rattle.ar_misfit.specs.Views.{misfit_view, step_view};
 
+use crate::advice::{Advice, advice_on};
+use crate::floats::push_float;
 use crate::misfit::{Misfit, Step};
-use ar_json::ShapeFault;
 use ar_quote::push_quoted;
 use ar_show::{push_boolean, push_field_name};
 use ar_value::shape::Shape;
@@ -35,9 +37,12 @@ pub(crate) fn push_expected(out: &mut String, shape: &Shape) -> Result<(), Alloc
 fn push_number(out: &mut String, number: &Number) -> Result<(), AllocError>
     ensures { OnOk result (string_bytes out.new ≡ string_bytes out.old ++ number_shown (number_view number.now)) }
 {
-    match number.as_i128() {
-        Some(whole) => write!(out, "{whole}"),
-        None => out.push_str("a fraction, an exponent or a number beyond 64 bits"),
+    if let Some(whole) = number.as_i128() {
+        return write!(out, "{whole}");
+    }
+    match number.as_f64() {
+        Some(float) => push_float(out, float),
+        None => unreachable!(),
     }
 }
 
@@ -65,42 +70,15 @@ pub(crate) fn push_found(out: &mut String, found: Option<&Json>) -> Result<(), A
     }
 }
 
-/// What to do with a float.
-fn float_advice(expected: &Shape) -> Option<&'static str>
-    ensures { option_map (λ words. words.now) result ≡ float_advice (shape_view expected.now) }
-{
-    match expected {
-        Shape::Whole => Some("an integer has no point and no exponent, and 64 bits"),
-        Shape::Decimal => Some("write the number in quotes, as a text"),
-        Shape::Optional(plain) => float_advice(plain),
-        Shape::Bool | Shape::Text | Shape::List { .. } | Shape::Object(_) => None,
-    }
-}
-
-pub(crate) fn advice(fault: ShapeFault, expected: &Shape) -> Option<&'static str>
-    ensures { option_map (λ words. words.now) result ≡ advice fault (shape_view expected.now) }
-{
-    match fault {
-        ShapeFault::FloatNumber => float_advice(expected),
-        ShapeFault::NotFinite => Some("it is no value, and counts towards consecutiveErrorLimit"),
-        ShapeFault::WrongKind
-        | ShapeFault::BadDecimal
-        | ShapeFault::OutOfRange
-        | ShapeFault::ListTooLong
-        | ShapeFault::MissingField
-        | ShapeFault::OutOfMemory => None,
-    }
-}
-
-fn push_advice(out: &mut String, advice: Option<&str>) -> Result<(), AllocError>
+fn push_advice(out: &mut String, advice: Option<Advice>) -> Result<(), AllocError>
     ensures { OnOk result (string_bytes out.new
-        ≡ string_bytes out.old ++ advice_text (option_map (λ words. words.now) advice.entry)) }
+        ≡ string_bytes out.old ++ advice_text (option_map advice_words advice)) }
 {
-    let Some(words) = advice else {
+    let Some(advice) = advice else {
         return Ok(());
     };
     out.push_str("; ")?;
-    out.push_str(words)
+    advice.push(out)
 }
 
 fn push_step(out: &mut String, step: Step<'_>) -> Result<(), AllocError>
@@ -142,7 +120,7 @@ fn push_fault(out: &mut String, misfit: &Misfit<'_>) -> Result<(), AllocError>
     push_expected(out, misfit.expected)?;
     out.push_str(", found ")?;
     push_found(out, misfit.found)?;
-    push_advice(out, advice(misfit.fault, misfit.expected))
+    push_advice(out, advice_on(misfit.fault, misfit.expected, misfit.found))
 }
 
 /// Appends where a value doesn't fit, what was expected there, and what was found.
