@@ -1,13 +1,14 @@
 -- No object of an evaluated condition is deep.
-use Rattle.std.proofs.Common.{◌≡◌, ◌≤◌, ◌++◌, ℕ, ℤ, pos, negsuc, suc, max, List, Option, Some, None, refl, arith}
+use Rattle.std.proofs.Common.{◌≤◌, ◌++◌, ℕ, suc, max, List, Option, Some, None, arith}
 use Rattle.std.specs.Option.{option_map_or}
 use Rattle.std.proofs.Math.Nat.{max-le}
-use Rattle.serde_json.specs.Data.{depth, null}
-use Rattle.ar_exact.specs.Exact.{Exact, a_boolean, a_text, an_integer, exact_data, no_form}
+use Rattle.serde_json.specs.Data.{Data, depth, null}
+use Rattle.ar_exact.specs.Flat.{flat_data}
+use Rattle.ar_exact.proofs.Flatness.{written_depth}
 use Rattle.ar_apart.specs.Apart.{Apart}
 use Rattle.ar_explain.specs.Lines.{Line, Outcome, failed, is_item, passed, unneeded, valued}
 use Rattle.ar_object.proofs.Values.{above, count_flat, none_deep, text_flat}
-use Rattle.ar_object.specs.Object.{count_data, count_or_null, integer_data, text_or_null}
+use Rattle.ar_object.specs.Object.{count_data, count_or_null, text_or_null}
 use Rattle.ar_evaluation.specs.Evaluated.{EvaluatedCondition}
 use Rattle.ar_evaluation.specs.EvaluatedData.{condition_answer, apart_data, apart_if_there, evaluated_data, failure_if_there, gap_data, operands_if_there, part_data, shown_if_there, value_if_there}
 
@@ -48,53 +49,43 @@ ten_deep a b c d e f g h i j levels in_a in_b in_c in_d in_e in_f in_g in_h in_i
 
 -- ---- values
 
-integer_flat : (integer : ℤ) → depth (integer_data integer) ≡ 0
-integer_flat (pos n) = refl
-integer_flat (negsuc n) = refl
-
-exact_flat : (exact : Exact) → depth (exact_data exact) ≡ 0
-exact_flat no_form = refl
-exact_flat (a_boolean holds) = refl
-exact_flat (an_integer integer) = integer_flat integer
-exact_flat (a_text text) = refl
-
-pub exact_small : (exact : Exact) (levels : ℕ) → depth (exact_data exact) ≤ levels
-exact_small exact levels = let is = exact_flat exact in omega arith
+pub exact_small : (exact : Data) (levels : ℕ) → 8 ≤ levels → depth (flat_data exact) ≤ levels
+exact_small exact levels many = let is = written_depth exact in omega (arith, is, many)
 
 -- ---- the parts of a condition
 
-value_small : (said : Outcome) (levels : ℕ) → depth (value_if_there said) ≤ levels
-value_small (valued shown apart) levels = exact_small shown.exact levels
-value_small (is_item shown) levels = exact_small shown.exact levels
-value_small (failed failure on) levels = zero_small levels
-value_small unneeded levels = zero_small levels
-value_small (passed items held) levels = zero_small levels
+value_small : (said : Outcome) → depth (value_if_there said) ≤ 8
+value_small (valued shown apart) = written_depth shown.exact
+value_small (is_item shown) = written_depth shown.exact
+value_small (failed failure on) = zero_small 8
+value_small unneeded = zero_small 8
+value_small (passed items held) = zero_small 8
 
-answer_small : (said : Outcome) (levels : ℕ) → depth (condition_answer said) ≤ levels
-answer_small (valued shown apart) levels = exact_small shown.exact levels
-answer_small (is_item shown) levels = zero_small levels
-answer_small (failed failure on) levels = zero_small levels
-answer_small unneeded levels = zero_small levels
-answer_small (passed items held) levels = zero_small levels
+answer_small : (said : Outcome) → depth (condition_answer said) ≤ 10
+answer_small (valued shown apart) = exact_small shown.exact 10 (omega arith)
+answer_small (is_item shown) = zero_small 10
+answer_small (failed failure on) = zero_small 10
+answer_small unneeded = zero_small 10
+answer_small (passed items held) = zero_small 10
 
-gap_flat : (said : Outcome) → depth (gap_data said) ≤ 2
+gap_flat : (said : Outcome) → depth (gap_data said) ≤ 8
 gap_flat (passed items held) = omega arith
 gap_flat (valued shown apart) = omega arith
 gap_flat (is_item shown) = omega arith
 gap_flat (failed failure on) = omega arith
 gap_flat unneeded = omega arith
 
-apart_small : (apart : Option Apart) → depth (option_map_or apart_data apart null) ≤ 2
+apart_small : (apart : Option Apart) → depth (option_map_or apart_data apart null) ≤ 8
 apart_small (Some apart) = omega arith
 apart_small None = omega arith
 
-part_flat : (line : Line) → depth (part_data line) ≤ 3
+part_flat : (line : Line) → depth (part_data line) ≤ 9
 part_flat line =
-    ten_deep 0 _ _ _ _ 0 _ 0 _ _ 2 (zero_small 2) (gap_flat line.said) (apart_small (apart_if_there line.said)) (text_small (failure_if_there line.said) 2) (above (none_deep count_data 1 (λ n. omega arith) line.items)) (zero_small 2) (text_small (operands_if_there line.said) 2) (zero_small 2) (text_small (shown_if_there line.said) 2) (value_small line.said 2)
+    ten_deep 0 _ _ _ _ 0 _ 0 _ _ 8 (zero_small 8) (gap_flat line.said) (apart_small (apart_if_there line.said)) (text_small (failure_if_there line.said) 8) (above (none_deep count_data 7 (λ n. omega arith) line.items)) (zero_small 8) (text_small (operands_if_there line.said) 8) (zero_small 8) (text_small (shown_if_there line.said) 8) (value_small line.said)
 
-apart_within : (apart : Option Apart) → depth (option_map_or apart_data apart null) ≤ 4
+apart_within : (apart : Option Apart) → depth (option_map_or apart_data apart null) ≤ 10
 apart_within apart = let is = apart_small apart in omega (arith, is)
 
-pub evaluated_flat : (condition : EvaluatedCondition) → depth (evaluated_data condition) ≤ 5
+pub evaluated_flat : (condition : EvaluatedCondition) → depth (evaluated_data condition) ≤ 11
 evaluated_flat condition =
-    seven_deep _ 0 _ 0 _ _ 0 4 (answer_small condition.answer 4) (zero_small 4) (apart_within (apart_if_there condition.answer)) (zero_small 4) (text_small (operands_if_there condition.answer) 4) (above (none_deep part_data 3 part_flat (condition.parts.lines ++ condition.parts.last))) (zero_small 4)
+    seven_deep _ 0 _ 0 _ _ 0 10 (answer_small condition.answer) (zero_small 10) (apart_within (apart_if_there condition.answer)) (zero_small 10) (text_small (operands_if_there condition.answer) 10) (above (none_deep part_data 9 part_flat (condition.parts.lines ++ condition.parts.last))) (zero_small 10)

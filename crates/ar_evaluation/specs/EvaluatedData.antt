@@ -4,15 +4,13 @@ use Rattle.std.specs.Option.{option_map_or}
 use Rattle.serde_json.specs.Data.{Data, boolean, member, no_members, null, object, string}
 use Rattle.ar_value.specs.Terms.{Text}
 use Rattle.ar_tree.specs.Typed.{Typed}
-use Rattle.ar_tree.specs.Typed as typed
-use Rattle.ar_value.specs.declared.operator.UnaryOperator.TheVariants as unary
 use Rattle.ar_apart.specs.Apart.{Apart}
 use Rattle.ar_explain.specs.Lines.{Explanation, Line, Outcome, failed, is_item, passed, unneeded, valued}
 use Rattle.ar_object.specs.Object.{array_of, count_data, text_or_null}
-use Rattle.ar_exact.specs.Exact.{exact_data}
+use Rattle.ar_exact.specs.Flat.{flat_data}
 use Rattle.ar_show.specs.PartText.{shown_part}
 use Rattle.ar_evaluation.specs.Evaluated.{EvaluatedCondition}
-use Rattle.ar_evaluation.specs.EvaluatedText.{failure_name}
+use Rattle.ar_evaluation.specs.EvaluatedText.{failure_name, is_conversion}
 
 -- a value as lines show it
 abbrev pub shown_if_there : Outcome → Option Text
@@ -22,8 +20,8 @@ shown_if_there said = None
 
 -- the value, where JSON has it exactly
 abbrev pub value_if_there : Outcome → Data
-value_if_there (valued shown apart) = exact_data shown.exact
-value_if_there (is_item shown) = exact_data shown.exact
+value_if_there (valued shown apart) = flat_data shown.exact
+value_if_there (is_item shown) = flat_data shown.exact
 value_if_there said = null
 
 abbrev pub failure_if_there : Outcome → Option Text
@@ -59,9 +57,9 @@ apart_data apart = object
     (member (codes "left") (string apart.left)
     (member (codes "right") (string apart.right) no_members)))
 
--- a failed part that converts its operand to a decimal, which the part's text doesn't show
+-- a conversion that failed
 abbrev pub converts : Typed → Outcome → Bool
-converts (typed.unary unary.ToDecimal operand) (failed failure on) = true
+converts part (failed failure on) = is_conversion part
 converts part said = false
 
 -- the item itself has the text `#`
@@ -84,7 +82,7 @@ part_data line = object
 
 -- the whole condition's boolean, or the name of its failure
 abbrev pub condition_answer : Outcome → Data
-condition_answer (valued shown apart) = exact_data shown.exact
+condition_answer (valued shown apart) = flat_data shown.exact
 condition_answer (failed failure on) = string (failure_name failure)
 condition_answer said = null
 

@@ -16,15 +16,15 @@ ghost use Rattle.ar_evaluation.specs.Evaluated.{conditions_on, evaluated_if_ther
 ghost use Rattle.ar_evaluation.specs.EvaluatedData.{condition_answer, apart_data, apart_if_there, converts, evaluated_data, evaluation_data, failure_if_there, gap_data, operands_if_there, part_data, part_name, shown_if_there, value_if_there, was_needed};
 ghost use Rattle.ar_evaluation.specs.Private.Trees.{condition_tree, trees_of, judge_trees_view};
 
-use crate::lines::{failure_name, is_failure};
+use crate::lines::{failure_name, is_conversion, is_failure};
 use crate::trees::{JudgeTrees, NamedTree};
 use ar_apart::Apart;
+use ar_exact::put_exact;
 use ar_explain::{Evaluation, Explanation, Line, Said, tell};
 use ar_judge::{Judge, SharedCondition, Which};
 use ar_object::JsonText;
 use ar_show::push_part;
 use ar_tree::Typed;
-use ar_value::operator::UnaryOperator;
 use ar_value::value::Value;
 use std::alloc::{AllocError, Global};
 
@@ -68,20 +68,11 @@ fn was_needed(said: &Said) -> bool
     !matches!(said, Said::Unneeded)
 }
 
-/// Whether a failed part converts its operand to a decimal, which the part's text doesn't show.
+/// Is a part a conversion that failed?
 fn converts(part: &Typed, said: &Said) -> bool
     ensures { result ≡ converts (typed_view part.now) (said_view said.now) }
 {
-    match (part, said) {
-        (
-            Typed::Unary {
-                operator: UnaryOperator::ToDecimal,
-                ..
-            },
-            Said::Failed(..),
-        ) => true,
-        _ => false,
-    }
+    matches!(said, Said::Failed(..)) && is_conversion(part)
 }
 
 fn part_text(alloc: Global, part: &Typed) -> Result<String, AllocError>
@@ -157,30 +148,25 @@ fn put_apart(json: &mut JsonText, said: &Said)
 }
 
 /// Writes a part's value where JSON has it, or null.
-fn put_exact(alloc: Global, json: &mut JsonText, said: &Said) -> Result<(), AllocError>
-    ensures { OnOk result (AddsMember (codes "value") (value_if_there (said_view said.now))
-        json.old.written json.new.written) }
+fn put_value(json: &mut JsonText, said: &Said)
+    ensures { AddsMember (codes "value") (value_if_there (said_view said.now)) json.old.written json.new.written }
 {
     match said {
-        Said::Valued(shown, _) | Said::Item(shown) => shown.exact.put(alloc, json, "value"),
-        Said::Failed(..) | Said::Unneeded | Said::Passed { .. } => {
-            json.put_null("value");
-            Ok(())
-        }
+        Said::Valued(shown, _) | Said::Item(shown) => put_exact(json, "value", &shown.exact),
+        Said::Failed(..) | Said::Unneeded | Said::Passed { .. } => json.put_null("value"),
     }
 }
 
 /// Writes a condition's boolean, or the name of its failure.
-fn put_answer(alloc: Global, json: &mut JsonText, answer: &Said) -> Result<(), AllocError>
-    ensures { OnOk result (AddsMember (codes "answer") (condition_answer (said_view answer.now))
-        json.old.written json.new.written) }
+fn put_answer(json: &mut JsonText, answer: &Said)
+    ensures { AddsMember (codes "answer") (condition_answer (said_view answer.now))
+        json.old.written json.new.written }
 {
     match answer {
-        Said::Valued(shown, _) => return shown.exact.put(alloc, json, "answer"),
+        Said::Valued(shown, _) => put_exact(json, "answer", &shown.exact),
         Said::Failed(failure, _) => json.put_text("answer", failure_name(*failure)),
         Said::Item(_) | Said::Unneeded | Said::Passed { .. } => json.put_null("answer"),
     }
-    Ok(())
 }
 
 /// Writes the items that a part has lines of.
@@ -208,7 +194,7 @@ fn write_part(alloc: Global, json: &mut JsonText, line: &Line<'_>) -> Result<(),
     json.put_text_if_there("on", operands_if_there(&line.said));
     json.put_text("part", &part);
     json.put_text_if_there("shown", shown_if_there(&line.said));
-    put_exact(alloc, json, &line.said)?;
+    put_value(json, &line.said);
     json.end_object();
     Ok(())
 }
@@ -252,7 +238,7 @@ fn write_evaluation(
         (said_view evaluation.now.answer)) json.old.written json.new.written) }
 {
     json.begin_object();
-    put_answer(alloc, json, &evaluation.answer)?;
+    put_answer(json, &evaluation.answer);
     json.put_text("condition", which);
     put_apart(json, &evaluation.answer);
     json.put_count("leftOut", evaluation.parts.left_out);

@@ -1,2 +1,3 @@
 pub mod Exact
-pub mod Views
+pub mod Flat
+pub mod Private

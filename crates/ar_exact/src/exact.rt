@@ -1,126 +1,86 @@
-//! The copy of a value that JSON has.
+//! The copy of a value that JSON has, and how it is written.
 
-ghost use Rattle.std.specs.Prelude.{◌≡◌, IfOk, OnOk, string_bytes};
-ghost use Rattle.std.specs.Fmt.{signed_decimal};
-ghost use Rattle.ar_exact.specs.Exact.{exact_data, exact_of, exact_text, exact_whole, is_exact};
-ghost use Rattle.ar_exact.specs.Views.{exact_view};
-ghost use Rattle.ar_machine.specs.Operand.{operand_value, value_of};
+ghost use Rattle.std.specs.Prelude.{◌≡◌, IfOk};
+ghost use Rattle.serde_json.specs.View.{items_view, members_view, view};
+ghost use Rattle.ar_exact.specs.Exact.{exact_of};
+ghost use Rattle.ar_exact.specs.Flat.{are_flat, flat_data, is_flat, members_flat};
+ghost use Rattle.ar_machine.specs.Operand.{operand_value};
 ghost use Rattle.ar_object.specs.Written.{AddsMember};
-ghost use Rattle.ar_value.specs.DecimalShown.{decimal_text};
 
+use crate::form::{form_within, list_form};
 use ar_machine::operand::OperandRef;
-use ar_machine::operand::borrowed::ValueRef;
+use ar_machine::operand::list::ListRef;
 use ar_object::JsonText;
-use ar_value::Decimal;
+use serde_json::{Map, Value as Json};
 use std::alloc::{AllocError, Global};
-use std::fmt::Write;
 
-/// The greatest integer up to which readers of JSON take all integers exactly.
-const MOST_EXACT: u64 = 9_007_199_254_740_992;
-/// How many bytes a text may have.
-const MOST_BYTES: usize = 256;
+/// How much room a value may take.
+const MOST_ROOM: usize = 256;
+/// How many lists and records may be in one another.
+const MOST_LEVELS: usize = 8;
 
-/// A value as JSON has it.
-#[derive(Drop)]
-pub enum Exact {
-    /// Nil, or what has no form of its own.
-    Null,
-    Bool(bool),
-    Whole(i64),
-    /// In millionths.
-    Decimal(i64),
-    Text(String),
-}
-
-fn is_exact(whole: i64) -> bool
-    ensures { result ≡ is_exact whole }
-{
-    whole.unsigned_abs() <= MOST_EXACT
-}
-
-fn whole_digits(alloc: Global, whole: i64) -> Result<String, AllocError>
-    ensures { IfOk result (λ digits. string_bytes digits ≡ signed_decimal whole) }
-{
-    let mut digits = String::new(alloc);
-    write!(digits, "{whole}")?;
-    Ok(digits)
-}
-
-fn decimal_digits(alloc: Global, millionths: i64) -> Result<String, AllocError>
-    ensures { IfOk result (λ digits. string_bytes digits ≡ decimal_text millionths) }
-{
-    let mut digits = String::new(alloc);
-    write!(digits, "{}", Decimal::from_millionths(millionths))?;
-    Ok(digits)
-}
-
-fn text_of(alloc: Global, text: &str) -> Result<Exact, AllocError>
-    ensures { IfOk result (λ exact. exact_view exact ≡ exact_text text.now) }
-{
-    if text.len() > MOST_BYTES {
-        return Ok(Exact::Null);
-    }
-    let mut copy = String::new(alloc);
-    copy.push_str(text)?;
-    Ok(Exact::Text(copy))
-}
-
-fn borrowed_of(alloc: Global, value: ValueRef<'_>) -> Result<Exact, AllocError>
-    ensures { IfOk result (λ exact. exact_view exact ≡ exact_of (value_of value.entry)) }
-{
-    match value {
-        ValueRef::Bool(boolean) => Ok(Exact::Bool(boolean)),
-        ValueRef::Whole(whole) => Ok(Exact::Whole(whole)),
-        ValueRef::Decimal(millionths) => Ok(Exact::Decimal(millionths)),
-        ValueRef::Text(text) => text_of(alloc, text),
-        ValueRef::Nil | ValueRef::List(_) | ValueRef::Object(_) => Ok(Exact::Null),
-    }
-}
-
-/// A value as JSON has it.
+/// A value as JSON has it, or null where it takes too much room.
 ///
 /// # Errors
 ///
 /// Out of memory alone.
-pub fn exact_of(alloc: Global, value: OperandRef<'_, '_>) -> Result<Exact, AllocError>
-    ensures { IfOk result (λ exact. exact_view exact ≡ exact_of (operand_value value.entry)) }
+pub fn exact_of(alloc: Global, value: OperandRef<'_, '_>) -> Result<Json, AllocError>
+    ensures { IfOk result (λ json. view json ≡ exact_of (operand_value value.entry)) }
+{
+    let form = match value {
+        OperandRef::Borrowed(value) => form_within(alloc, value, MOST_ROOM)?,
+        OperandRef::Made(items) => list_form(alloc, ListRef::Made(items), MOST_ROOM)?,
+    };
+    match form {
+        Some(form) => Ok(form.json),
+        None => Ok(Json::Null),
+    }
+}
+
+/// Has a value no float, and at most that many levels of lists and records?
+#[cycle(is_flat)]
+fn is_flat(value: &Json, levels: usize) -> bool
+    ensures { result ≡ is_flat levels (view value.now) }
 {
     match value {
-        OperandRef::Borrowed(value) => borrowed_of(alloc, value),
-        OperandRef::Made(_) => Ok(Exact::Null),
+        Json::Null | Json::Bool(_) | Json::String(_) => true,
+        Json::Number(number) => !number.is_f64(),
+        Json::Array(items) => levels > 0 && are_flat(items, levels - 1),
+        Json::Object(members) => levels > 0 && members_flat(members, levels - 1),
     }
 }
 
-/// Writes an integer, or its digits where not each reader takes it exactly.
-fn put_whole(alloc: Global, json: &mut JsonText, name: &str, whole: i64) -> Result<(), AllocError>
-    ensures { OnOk result
-        (AddsMember name.now (exact_data (exact_whole whole)) json.old.written json.new.written) }
+#[cycle(is_flat)]
+fn are_flat(items: &[Json], levels: usize) -> bool
+    ensures { result ≡ are_flat levels (items_view items.now) }
 {
-    if is_exact(whole) {
-        json.put_integer_member(name, whole);
-        return Ok(());
+    for item in items {
+        if !is_flat(item, levels) {
+            return false;
+        }
     }
-    json.put_text(name, &whole_digits(alloc, whole)?);
-    Ok(())
+    true
 }
 
-impl Exact {
-    /// Writes the value as a member of an object.
-    ///
-    /// # Errors
-    ///
-    /// Out of memory alone.
-    pub fn put(&self, alloc: Global, json: &mut JsonText, name: &str) -> Result<(), AllocError>
-        ensures { OnOk result
-            (AddsMember name.now (exact_data (exact_view self.now)) json.old.written json.new.written) }
-    {
-        match self {
-            Exact::Null => json.put_null(name),
-            Exact::Bool(boolean) => json.put_flag(name, *boolean),
-            Exact::Whole(whole) => put_whole(alloc, json, name, *whole)?,
-            Exact::Decimal(millionths) => json.put_text(name, &decimal_digits(alloc, *millionths)?),
-            Exact::Text(text) => json.put_text(name, text),
+#[cycle(is_flat)]
+fn members_flat(members: &Map<String, Json>, levels: usize) -> bool
+    ensures { result ≡ members_flat levels (members_view members.now.entries) }
+{
+    for (_, value) in members.iter() {
+        if !is_flat(value, levels) {
+            return false;
         }
-        Ok(())
+    }
+    true
+}
+
+/// Writes a value as a member of an object; null where it has a float or is too deep.
+pub fn put_exact(json: &mut JsonText, name: &str, value: &Json)
+    ensures { AddsMember name.now (flat_data (view value.now)) json.old.written json.new.written }
+{
+    if is_flat(value, MOST_LEVELS) {
+        json.put_json(name, value);
+    } else {
+        json.put_null(name);
     }
 }

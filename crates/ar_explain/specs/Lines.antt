@@ -3,6 +3,8 @@
 use Rattle.std.specs.Prelude.{ℕ, suc, pos, ◌+◌, ◌-◌, ◌^◌, ◌==◌, nat_lt, min, ◌≡◌, refl, Bool, true, false, not, ◌&&◌, ◌||◌, if◌then◌else◌, List, [], ◌∷◌, ◌++◌, codes, drop, length, map, replicate, take, Option, Some, None, Result, Ok, Err}
 use Rattle.std.specs.Fmt.{digits}
 use Rattle.std.specs.Str.{chars}
+use Rattle.serde_json.specs.Data as json
+use Rattle.serde_json.specs.Data.{Data}
 use Rattle.ar_value.specs.Answer.{◌>>=◌}
 use Rattle.ar_value.specs.Predicates.{gathers}
 use Rattle.ar_value.specs.Operators.{Failure, Meaning, boolean, faulted, is_nil, items_in, scalar_item}
@@ -27,7 +29,7 @@ use Rattle.ar_tree.specs.Meaning.{mean}
 use Rattle.ar_tree.specs.Typed.{Typed, Typeds}
 use Rattle.ar_tree.specs.Typed as typed
 use Rattle.ar_quote.specs.Shown.{quoted}
-use Rattle.ar_exact.specs.Exact.{Exact, a_boolean, exact_of}
+use Rattle.ar_exact.specs.Exact.{exact_of}
 use Rattle.ar_show.specs.Values.{shown_text, shown_value}
 use Rattle.ar_apart.specs.Apart.{Apart, apart_of}
 use Rattle.ar_explain.specs.Operands.{apart_on}
@@ -37,7 +39,7 @@ use Rattle.ar_explain.specs.Trace.{continues, if_value}
 -- a value as people see it, and as programs have it
 pub record Shown : Type 0 where
   pub text : List ℕ
-  pub exact : Exact
+  pub exact : Data
 
 abbrev pub shown_of : Value → Shown
 shown_of value = record { text = shown_value value; exact = exact_of value }
@@ -430,7 +432,7 @@ texts_shown_alike : map row_of (all_lines (text (long_text (codes "c"))) None is
     ≡ (
       [],
       is_long_text,
-      valued (record { text = codes "false"; exact = a_boolean false })
+      valued (record { text = codes "false"; exact = json.boolean false })
           (Some (apart_of (long_text (codes "c")) (long_text (codes "b")))),
     ) ∷ []
 unfolding shown_value shown_text quoted digits chars lib.Utf8.encode

@@ -1,18 +1,18 @@
 -- What explanations in memory say.
 use Rattle.std.specs.Prelude.{map, option_map, string_bytes}
+use Rattle.serde_json.specs.View.{view}
 use Rattle.ar_tree.specs.Views.{typed_view}
 use Rattle.ar_apart.specs.Views.{apart_view}
 use Rattle.ar_operand.specs.Failures.{failure_of}
 use Rattle.ar_explain.specs.Lines.{Explanation, Line, Outcome, Shown, failed, is_item, passed, unneeded, valued}
 use Rattle.ar_explain.specs.declared.explanation.Explanation.{Explanation as ExplanationCode}
 use Rattle.ar_explain.specs.declared.explanation.Line.{Line as LineCode}
-use Rattle.ar_exact.specs.Views.{exact_view}
 use Rattle.ar_explain.specs.declared.explanation.Said.{Said as SaidCode}
 use Rattle.ar_explain.specs.declared.explanation.Shown.{Shown as ShownCode}
 use Rattle.ar_explain.specs.declared.explanation.Said.TheVariants as said
 
 abbrev pub shown_view : ShownCode → Shown
-shown_view shown = record { text = string_bytes shown.text; exact = exact_view shown.exact }
+shown_view shown = record { text = string_bytes shown.text; exact = view shown.exact }
 
 abbrev pub said_view : SaidCode → Outcome
 said_view (said.Valued shown apart) = valued (shown_view shown) (option_map apart_view apart)

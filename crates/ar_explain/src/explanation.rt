@@ -13,12 +13,13 @@ use crate::applied::operand_ref;
 use crate::place::Place;
 use crate::seen::Seen;
 use ar_apart::{Apart, Texts, texts_apart};
-use ar_exact::{Exact, exact_of};
+use ar_exact::exact_of;
 use ar_machine::operand::OperandRef;
 use ar_machine::operand::borrowed::ValueRef;
 use ar_operand::operand::{Failure, Operand};
 use ar_show::push_value;
 use ar_tree::Typed;
+use serde_json::Value as Json;
 use std::alloc::{AllocError, Global};
 use std::collections::VecDeque;
 
@@ -29,7 +30,7 @@ const MOST_AT_EACH_END: usize = 500;
 #[derive(Drop)]
 pub struct Shown {
     pub text: String,
-    pub exact: Exact,
+    pub exact: Json,
 }
 
 /// What is said of a part.

@@ -79,6 +79,13 @@ items_read_back [] all = refl
 items_read_back (value ∷ values) all =
     ap (option_and_then (λ read. option_map (item read) (of_items (items_outline (items_of values))))) all.0 ∙ ap (option_map (item value)) (items_read_back values all.1)
 
+-- a list without a name
+pub list_is : {values : List Data} {old begun listed new : Output} → AddsTokens (begin_array ∷ []) old begun → AddsValues values begun listed → AddsTokens (end_array ∷ []) listed new → AddsValue (array_of values) old new
+list_is {values} {old} {begun} {listed} {new} begins adds ends = record {
+  tokens_are = same_tokens _ _ old new (ap (λ tokens. begin_array ∷ tokens) (sym (items_are values)) ∙ sym (append-nil _)) (then_tokens _ _ old begun new begins (then_tokens _ _ begun listed new adds.tokens_are ends));
+  read_back = (ap (option_map array) (items_read_back values adds.read_back), tt);
+}
+
 -- a member that is a list
 pub list_member : {name : List ℕ} {values : List Data} {old begun listed new : Output} → AddsTokens (key name ∷ begin_array ∷ []) old begun → AddsValues values begun listed → AddsTokens (end_array ∷ []) listed new → AddsMember name (array_of values) old new
 list_member {name} {values} {old} {begun} {listed} {new} begins adds ends = record {

@@ -5,11 +5,12 @@
 //! Both return refused memory at the end.
 //!
 //! - `object`: an object that is being made; `line`: its line
-//! - `written`: a text that is being written
+//! - `written`: a text that is being written; `tree`: values in memory, written into it
 #![tactic(auto)]
 
 mod line;
 mod object;
+mod tree;
 mod written;
 
 pub use line::json_line;

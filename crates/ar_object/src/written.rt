@@ -38,7 +38,7 @@ impl JsonText {
 
     // ---- tokens
 
-    fn put_token(&mut self, token: Token<'_>)
+    pub(crate) fn put_token(&mut self, token: Token<'_>)
         requires { IsPrintable (token_of token) }
         ensures { AddsTokens (token_of token.entry ∷ []) self.old.written self.new.written }
     {

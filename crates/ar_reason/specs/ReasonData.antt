@@ -21,7 +21,8 @@ use Rattle.ar_progress.specs.declared.steps.Change.{Change}
 use Rattle.ar_progress.specs.declared.waiting.Progress.{Progress}
 use Rattle.ar_progress.specs.declared.why.Why.{Why}
 use Rattle.ar_progress.specs.declared.why.Why.TheVariants as whys
-use Rattle.ar_exact.specs.Exact.{exact_data, exact_of}
+use Rattle.ar_exact.specs.Exact.{exact_of}
+use Rattle.ar_exact.specs.Flat.{flat_data}
 use Rattle.ar_show.specs.Values.{shown_value}
 use Rattle.ar_reason.specs.Reason.{Given, Reason, RunReasons, gave_error, gave_misfit, gave_value}
 
@@ -29,7 +30,7 @@ use Rattle.ar_reason.specs.Reason.{Given, Reason, RunReasons, gave_error, gave_m
 
 -- the value, where JSON has it exactly
 abbrev pub given_value : Given → Data
-given_value (gave_value value) = exact_data (exact_of value)
+given_value (gave_value value) = flat_data (exact_of value)
 given_value given = null
 
 -- the value as lines show it

@@ -32,7 +32,7 @@ use crate::lines::{judge_at, lacks_conditions};
 use crate::why_data::put_why;
 use ar_bundle::{Bundle, Entry, Finished, MetricPart, RunPart, What};
 use ar_evaluation::{JudgeTrees, trees_at, trees_of, write_conditions};
-use ar_exact::exact_of;
+use ar_exact::{exact_of, put_exact};
 use ar_facts::{phase_name, write_counts, write_event, write_limits, write_metric};
 use ar_judge::{Judge, Sample};
 use ar_limits::{Counts, Limits, Phase, RunState};
@@ -167,7 +167,8 @@ fn put_value(alloc: Global, json: &mut JsonText, given: &Given<'_>) -> Result<()
         return Ok(());
     };
     let exact = exact_of(alloc, OperandRef::Borrowed(value_ref(value)))?;
-    exact.put(alloc, json, "value")
+    put_exact(json, "value", &exact);
+    Ok(())
 }
 
 fn write_change(json: &mut JsonText, change: Change)

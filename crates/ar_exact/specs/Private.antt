@@ -1,0 +1,2 @@
+-- Definitions of private contracts, which follow the code: a reader need not believe them.
+pub mod Forming
