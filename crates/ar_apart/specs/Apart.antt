@@ -59,6 +59,11 @@ look_alike left right = not (bytes_eq left right) && bytes_eq (shown_value (text
 abbrev pub apart_if_alike : Text → Text → Option Apart
 apart_if_alike left right = if look_alike left right then Some (apart_of left right) else None
 
+-- two operands, where both are texts
+abbrev pub two_texts : Value → Value → Option (Text × Text)
+two_texts (text left) (text right) = Some (left, right)
+two_texts left right = None
+
 abbrev pub apart_from : Text → Value → Option Apart
 apart_from left (text right) = apart_if_alike left right
 apart_from left right = None

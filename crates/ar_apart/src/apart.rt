@@ -6,9 +6,8 @@ ghost use Rattle.ar_value.specs.Value.{text};
 ghost use Rattle.ar_machine.specs.Operand.{value_of};
 ghost use Rattle.ar_quote.specs.Quote.{quoted_round};
 ghost use Rattle.ar_show.specs.Values.{shown_value};
-ghost use Rattle.ar_apart.specs.Apart.{apart_of, character_at, character_length, character_start, first_difference, look_alike, operands_apart};
-ghost use Rattle.ar_apart.specs.Views.{texts_apart};
-ghost use Rattle.ar_apart.specs.Views.{apart_view};
+ghost use Rattle.ar_apart.specs.Apart.{apart_of, character_at, character_length, character_start, first_difference, look_alike, operands_apart, two_texts};
+ghost use Rattle.ar_apart.specs.Views.{apart_view, texts_apart, texts_view};
 
 use ar_machine::operand::OperandRef;
 use ar_machine::operand::borrowed::ValueRef;
@@ -137,7 +136,8 @@ pub fn texts_apart(alloc: Global, texts: Option<Texts<'_>>) -> Result<Option<Apa
 
 /// Two operands that are texts.
 pub fn texts_of<'v>(left: ValueRef<'v>, right: ValueRef<'v>) -> Option<Texts<'v>>
-    ensures { texts_apart result ≡ operands_apart (value_of left.entry) (value_of right.entry) }
+    ensures texts { option_map texts_view result ≡ two_texts (value_of left.entry) (value_of right.entry) }
+    ensures apart { texts_apart result ≡ operands_apart (value_of left.entry) (value_of right.entry) }
 {
     match left {
         ValueRef::Text(left) => match right {

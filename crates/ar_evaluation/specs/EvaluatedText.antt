@@ -1,5 +1,5 @@
 -- The lines of a condition that was evaluated: itself, its parts in the order of evaluation, and its answer.
-use Rattle.std.specs.Prelude.{ℕ, ◌==◌, ◌≡◌, refl, if◌then◌else◌, [], ◌∷◌, ◌++◌, codes, decimal, flat_map, Option, Some, None}
+use Rattle.std.specs.Prelude.{ℕ, Bool, true, false, ◌==◌, ◌≡◌, refl, if◌then◌else◌, [], ◌∷◌, ◌++◌, codes, decimal, flat_map, Option, Some, None}
 use Rattle.std.specs.Fmt.{digits}
 use Rattle.ar_value.specs.Fault.{fault_name}
 use Rattle.ar_value.specs.Operators.{Failure, faulted, ill_kinded}
@@ -52,10 +52,13 @@ said_text (passed items held) = between_text (codes "item") items ++ (codes ", "
 unfoldable pub item_text : ℕ → Text
 item_text number = codes "item " ++ (decimal number ++ codes ": ")
 
--- that a part converts its operand, which its text doesn't show
+-- a part that converts its operand to a decimal, which its text doesn't show
+abbrev pub is_conversion : Typed → Bool
+is_conversion (typed.unary unary.ToDecimal operand) = true
+is_conversion part = false
+
 abbrev pub conversion_text : Typed → Text
-conversion_text (typed.unary unary.ToDecimal operand) = codes " as a decimal"
-conversion_text part = []
+conversion_text part = if is_conversion part then codes " as a decimal" else []
 
 -- the part itself; where only items of it are counted it isn't written again
 abbrev pub said_part : Typed → Outcome → Text
