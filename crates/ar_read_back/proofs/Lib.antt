@@ -1,0 +1,4 @@
+pub mod ReadBack
+pub mod Texts
+pub mod Looks
+pub mod Meant
