@@ -57,7 +57,8 @@ pub next_item : (vs : List Value) (index : ℕ) (value : Value) (done : List Jso
 next_item vs index value done one room left rest here made so_far =
     let taken = has_room (form value) (suc (room_of value)) left (view one) rest made in
     let whole = rw here at so_far in
-    let others = values.items_of (drop (index + 1) vs) in
-    (one_more done one (forms others) ∙ ap (λ first. before (map view done) (item first (forms others))) taken.0 ∙ whole.0,
-    omega (arith, taken.1, whole.1),
-    omega (arith, taken.1, whole.2))
+    let others = values.items_of (drop (index + 1) vs) in (
+      one_more done one (forms others) ∙ ap (λ first. before (map view done) (item first (forms others))) taken.0 ∙ whole.0,
+      omega (arith, taken.1, whole.1),
+      omega (arith, taken.1, whole.2),
+    )
