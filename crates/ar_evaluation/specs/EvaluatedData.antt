@@ -10,7 +10,7 @@ use Rattle.ar_object.specs.Object.{array_of, count_data, text_or_null}
 use Rattle.ar_exact.specs.Flat.{flat_data}
 use Rattle.ar_show.specs.PartText.{shown_part}
 use Rattle.ar_evaluation.specs.Evaluated.{EvaluatedCondition}
-use Rattle.ar_evaluation.specs.EvaluatedText.{failure_name, is_conversion}
+use Rattle.ar_evaluation.specs.EvaluatedText.{failure_name, is_conversion_part}
 
 -- a value as lines show it
 abbrev pub shown_if_there : Outcome → Option Text
@@ -59,7 +59,7 @@ apart_data apart = object
 
 -- a conversion that failed
 abbrev pub converts : Typed → Outcome → Bool
-converts part (failed failure on) = is_conversion part
+converts part (failed failure on) = is_conversion_part part
 converts part said = false
 
 -- the item itself has the text `#`

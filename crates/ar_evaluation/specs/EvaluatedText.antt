@@ -53,12 +53,12 @@ unfoldable pub item_text : ℕ → Text
 item_text number = codes "item " ++ (decimal number ++ codes ": ")
 
 -- a part that converts its operand to a decimal, which its text doesn't show
-abbrev pub is_conversion : Typed → Bool
-is_conversion (typed.unary unary.ToDecimal operand) = true
-is_conversion part = false
+abbrev pub is_conversion_part : Typed → Bool
+is_conversion_part (typed.unary unary.ToDecimal operand) = true
+is_conversion_part part = false
 
 abbrev pub conversion_text : Typed → Text
-conversion_text part = if is_conversion part then codes " as a decimal" else []
+conversion_text part = if is_conversion_part part then codes " as a decimal" else []
 
 -- the part itself; where only items of it are counted it isn't written again
 abbrev pub said_part : Typed → Outcome → Text

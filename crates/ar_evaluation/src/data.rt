@@ -16,7 +16,7 @@ ghost use Rattle.ar_evaluation.specs.Evaluated.{conditions_on, evaluated_if_ther
 ghost use Rattle.ar_evaluation.specs.EvaluatedData.{condition_answer, apart_data, apart_if_there, converts, evaluated_data, evaluation_data, failure_if_there, gap_data, operands_if_there, part_data, part_name, shown_if_there, value_if_there, was_needed};
 ghost use Rattle.ar_evaluation.specs.Private.Trees.{condition_tree, trees_of, judge_trees_view};
 
-use crate::lines::{failure_name, is_conversion, is_failure};
+use crate::lines::{failure_name, is_conversion_part, is_failure};
 use crate::trees::{JudgeTrees, NamedTree};
 use ar_apart::Apart;
 use ar_exact::put_exact;
@@ -72,7 +72,7 @@ fn was_needed(said: &Said) -> bool
 fn converts(part: &Typed, said: &Said) -> bool
     ensures { result ≡ converts (typed_view part.now) (said_view said.now) }
 {
-    matches!(said, Said::Failed(..)) && is_conversion(part)
+    matches!(said, Said::Failed(..)) && is_conversion_part(part)
 }
 
 fn part_text(alloc: Global, part: &Typed) -> Result<String, AllocError>

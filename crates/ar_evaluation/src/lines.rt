@@ -10,7 +10,7 @@ ghost use Rattle.ar_explain.specs.Views.{explanation_view, line_view, said_view}
 ghost use Rattle.ar_show.specs.PartText.{shown_part};
 ghost use Rattle.ar_evaluation.specs.Evaluated.{conditions_on, evaluated_if_there, evaluated_with, has_failed, is_failure};
 ghost use Rattle.ar_evaluation.specs.Private.Trees.{condition_tree, trees_of, judge_trees_view};
-ghost use Rattle.ar_evaluation.specs.EvaluatedText.{apart_text, condition_text, conversion_text, between_text, failure_name, held_text, hold_word, is_conversion, item_text, left_out_line, operands_text, part_line, parts_text, said_part, said_text};
+ghost use Rattle.ar_evaluation.specs.EvaluatedText.{apart_text, condition_text, conversion_text, between_text, failure_name, held_text, hold_word, is_conversion_part, item_text, left_out_line, operands_text, part_line, parts_text, said_part, said_text};
 
 use crate::trees::{JudgeTrees, NamedTree};
 use ar_apart::Apart;
@@ -122,8 +122,8 @@ fn push_said(out: &mut String, said: &Said) -> Result<(), AllocError>
 }
 
 /// Does a part convert its operand to a decimal, which its text doesn't show?
-pub(crate) fn is_conversion(part: &Typed) -> bool
-    ensures { result ≡ is_conversion (typed_view part.now) }
+pub(crate) fn is_conversion_part(part: &Typed) -> bool
+    ensures { result ≡ is_conversion_part (typed_view part.now) }
 {
     match part {
         Typed::Unary {
@@ -137,7 +137,7 @@ pub(crate) fn is_conversion(part: &Typed) -> bool
 fn conversion_text(part: &Typed) -> &'static str
     ensures { result.now ≡ conversion_text (typed_view part.now) }
 {
-    if is_conversion(part) {
+    if is_conversion_part(part) {
         " as a decimal"
     } else {
         ""

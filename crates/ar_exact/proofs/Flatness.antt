@@ -5,7 +5,7 @@ use Rattle.serde_json.specs.Data as json
 use Rattle.serde_json.specs.Data.{Data, depth, items_depth, members_depth}
 use Rattle.serde_json.specs.Find.{is_float}
 use Rattle.serde_json.specs.Written.{has_float, items_have_float, members_have_float}
-use Rattle.ar_exact.specs.Flat.{are_flat, flat_data, is_flat, members_flat, most_levels}
+use Rattle.ar_exact.specs.Flat.{are_flat, flat_data, is_flat, members_flat, most_flat_levels}
 
 both : (one other : Bool) → (one && other) ≡ true → (one ≡ true) × (other ≡ true)
 both true other is = (refl, is)
@@ -61,10 +61,10 @@ mutual
       let each = both (is_flat levels first) (members_flat levels others) is in
       max-le (flat_depth levels first each.0) (members_are_flat levels others each.1)
 
-by_flatness : (found : Data) (flat : Bool) → is_flat most_levels found ≡ flat → depth (if flat then found else json.null) ≤ 8
-by_flatness found true is = flat_depth most_levels found is
+by_flatness : (found : Data) (flat : Bool) → is_flat most_flat_levels found ≡ flat → depth (if flat then found else json.null) ≤ 8
+by_flatness found true is = flat_depth most_flat_levels found is
 by_flatness found false is = omega arith
 
 -- what is written isn't deep
 pub written_depth : (found : Data) → depth (flat_data found) ≤ 8
-written_depth found = by_flatness found (is_flat most_levels found) refl
+written_depth found = by_flatness found (is_flat most_flat_levels found) refl

@@ -24,9 +24,9 @@ abbrev mutual
   members_flat levels json.no_members = true
   members_flat levels (json.member name value others) = is_flat levels value && members_flat levels others
 
-abbrev pub most_levels : ℕ
-most_levels = 8
+abbrev pub most_flat_levels : ℕ
+most_flat_levels = 8
 
 -- null is in place of anything else
 abbrev pub flat_data : Data → Data
-flat_data found = if is_flat most_levels found then found else null
+flat_data found = if is_flat most_flat_levels found then found else null

@@ -23,11 +23,11 @@ is_of_millionths x = eq (div binary64 (of_int binary64 (millionths_near x)) MILL
 abbrev pub is_shown_whole : Float → Bool
 is_shown_whole x = is_in_range x && is_of_millionths x
 
-abbrev pub sign_text : Float → Text
-sign_text x = if is_sign_negative x then codes "-" else []
+abbrev pub float_sign : Float → Text
+float_sign x = if is_sign_negative x then codes "-" else []
 
 abbrev pub digits_text : Float → Text
-digits_text x = sign_text x ++ decimal_text (millionths_near x)
+digits_text x = float_sign x ++ decimal_text (millionths_near x)
 
 unfoldable pub float_text : Float → Text
 float_text x =

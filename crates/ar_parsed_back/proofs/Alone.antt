@@ -21,7 +21,7 @@ use Rattle.ar_syntax.specs.declared.token.TokenKind.TheVariants as kinds
 use Rattle.ar_syntax.specs.Token.{word_of, word_or_name}
 use Rattle.ar_syntax.specs.declared.token.Word.TheVariants as words
 use Rattle.ar_show.specs.PartText.{has_sides, has_sign, is_word}
-use Rattle.ar_parsed_back.specs.Kinds.{HaveKinds, a_token, arithmetic_kind, decimal_kind, in_parentheses, order_of, operand_kinds, owner_kinds, part_kinds, sided_kinds, sign, word}
+use Rattle.ar_parsed_back.specs.Kinds.{HaveKinds, a_token, arithmetic_token, decimal_token, kinds_in_parentheses, written_order, operand_kinds, owner_kinds, part_kinds, sided_kinds, sign, word}
 use Rattle.ar_parsed_back.specs.Readable.{is_text}
 use Rattle.ar_parsed_back.proofs.Roles.{follows_by, text_by}
 
@@ -45,18 +45,18 @@ read_alone (kind ∷ others) (first ∷ tokens) rest (a_token f have) e = rw (te
 
 -- ---- what comes after a part
 
-in_parentheses_follow : (needed : Bool) (inner others : List TokenKind) → alone (inner ++ others) ≡ false → alone (in_parentheses needed inner ++ others) ≡ false
+in_parentheses_follow : (needed : Bool) (inner others : List TokenKind) → alone (inner ++ others) ≡ false → alone (kinds_in_parentheses needed inner ++ others) ≡ false
 in_parentheses_follow true inner others e = refl
 in_parentheses_follow false inner others e = e
 
-arithmetic_open : (operator : Arithmetic) → closes (arithmetic_kind operator) ≡ false
+arithmetic_open : (operator : Arithmetic) → closes (arithmetic_token operator) ≡ false
 arithmetic_open wholes.Add = refl
 arithmetic_open wholes.Subtract = refl
 arithmetic_open wholes.Multiply = refl
 arithmetic_open wholes.Divide = refl
 arithmetic_open wholes.Remainder = refl
 
-decimal_open : (operator : DecimalArithmetic) → closes (decimal_kind operator) ≡ false
+decimal_open : (operator : DecimalArithmetic) → closes (decimal_token operator) ≡ false
 decimal_open decimals.Add = refl
 decimal_open decimals.Subtract = refl
 decimal_open decimals.Multiply = refl
@@ -111,9 +111,9 @@ follow (typed.unary (unary.Negate of) operand) kind others opens = refl
 follow (typed.binary binary.Index left right) kind others opens = owner_follow left (follow left) (sign signs.OpenBracket) _ (kind ∷ others) refl
 follow (typed.binary binary.Default left right) kind others opens = refl
 follow (typed.binary binary.IsIn left right) kind others opens = sided_follow (word words.In) left right (follow left) (kind ∷ others) refl
-follow (typed.binary (binary.Wholes operator) left right) kind others opens = sided_follow (arithmetic_kind operator) left right (follow left) (kind ∷ others) (arithmetic_open operator)
-follow (typed.binary (binary.Decimals operator) left right) kind others opens = sided_follow (decimal_kind operator) left right (follow left) (kind ∷ others) (decimal_open operator)
-follow (typed.binary (binary.Compare of way) left right) kind others opens = sided_follow (sign (signs.Comparison (order_of way))) left right (follow left) (kind ∷ others) refl
+follow (typed.binary (binary.Wholes operator) left right) kind others opens = sided_follow (arithmetic_token operator) left right (follow left) (kind ∷ others) (arithmetic_open operator)
+follow (typed.binary (binary.Decimals operator) left right) kind others opens = sided_follow (decimal_token operator) left right (follow left) (kind ∷ others) (decimal_open operator)
+follow (typed.binary (binary.Compare of way) left right) kind others opens = sided_follow (sign (signs.Comparison (written_order way))) left right (follow left) (kind ∷ others) refl
 follow (typed.binary (binary.Equal family) left right) kind others opens = sided_follow (sign (signs.Comparison comparisons.Equal)) left right (follow left) (kind ∷ others) refl
 follow (typed.binary (binary.TextTest test) left right) kind others opens = sided_follow (word (words.Test test)) left right (follow left) (kind ∷ others) refl
 follow (typed.both left right) kind others opens = sided_follow (word words.And) left right (follow left) (kind ∷ others) refl
@@ -142,9 +142,9 @@ not_alone (typed.unary (unary.Negate of) operand) others e = refl
 not_alone (typed.binary binary.Index left right) others e = owner_follow left (follow left) (sign signs.OpenBracket) _ others refl
 not_alone (typed.binary binary.Default left right) others e = refl
 not_alone (typed.binary binary.IsIn left right) others e = sided_follow (word words.In) left right (follow left) others refl
-not_alone (typed.binary (binary.Wholes operator) left right) others e = sided_follow (arithmetic_kind operator) left right (follow left) others (arithmetic_open operator)
-not_alone (typed.binary (binary.Decimals operator) left right) others e = sided_follow (decimal_kind operator) left right (follow left) others (decimal_open operator)
-not_alone (typed.binary (binary.Compare of way) left right) others e = sided_follow (sign (signs.Comparison (order_of way))) left right (follow left) others refl
+not_alone (typed.binary (binary.Wholes operator) left right) others e = sided_follow (arithmetic_token operator) left right (follow left) others (arithmetic_open operator)
+not_alone (typed.binary (binary.Decimals operator) left right) others e = sided_follow (decimal_token operator) left right (follow left) others (decimal_open operator)
+not_alone (typed.binary (binary.Compare of way) left right) others e = sided_follow (sign (signs.Comparison (written_order way))) left right (follow left) others refl
 not_alone (typed.binary (binary.Equal family) left right) others e = sided_follow (sign (signs.Comparison comparisons.Equal)) left right (follow left) others refl
 not_alone (typed.binary (binary.TextTest test) left right) others e = sided_follow (word (words.Test test)) left right (follow left) others refl
 not_alone (typed.both left right) others e = sided_follow (word words.And) left right (follow left) others refl

@@ -23,7 +23,7 @@ use Rattle.ar_quote.specs.Shown.{quoted}
 use Rattle.ar_quote.specs.Tokens.{is_of_word}
 use Rattle.ar_show.specs.PartText.{arithmetic_sign, decimal_sign, has_sides, has_sign, is_word, last_text, operand_text, order_sign, owner_text, predicate_word, shown_literal, shown_part, shown_parts, side_text, test_word}
 use Rattle.ar_show.specs.PartText as shown
-use Rattle.ar_parsed_back.specs.Kinds.{argument_kinds, arithmetic_kind, decimal_kind, in_parentheses, items_kinds, literal_kind, operand_kinds, order_of, owner_kinds, part_kinds, sided_kinds, sign, word}
+use Rattle.ar_parsed_back.specs.Kinds.{argument_kinds, arithmetic_token, decimal_token, kinds_in_parentheses, items_kinds, literal_token, operand_kinds, written_order, owner_kinds, part_kinds, sided_kinds, sign, word}
 use Rattle.ar_parsed_back.specs.Readable.{CanBeWritten, EachCanBeWritten, LiteralCanBeWritten, NameCanBeWritten}
 use Rattle.ar_parsed_back.proofs.Cutting.{Any, IsEnd, IsSpace, Lexes, empty, joined, space, weaken}
 use Rattle.ar_parsed_back.proofs.Digits.{whole_cut}
@@ -65,7 +65,7 @@ nothing_ends = record { no_word = refl; no_fraction = refl }
 anywhere : (text : Text) (all : List TokenKind) → Lexes Any text all → Lexes IsEnd text all
 anywhere text all lexes = weaken Any IsEnd text all (λ rest ends. tt) lexes
 
-grouped : (needed : Bool) (text : Text) (all : List TokenKind) → Lexes IsEnd text all → Lexes IsEnd (shown.in_parentheses needed text) (in_parentheses needed all)
+grouped : (needed : Bool) (text : Text) (all : List TokenKind) → Lexes IsEnd text all → Lexes IsEnd (shown.in_parentheses needed text) (kinds_in_parentheses needed all)
 grouped true text all lexes =
     let inner = joined IsEnd Any text (codes ")") all (sign signs.CloseParenthesis ∷ []) lexes close_parenthesis (λ rest ends. closer_ends rest) in
     anywhere _ _ (joined Any Any (codes "(") (text ++ codes ")") (sign signs.OpenParenthesis ∷ []) (all ++ sign signs.CloseParenthesis ∷ []) open_parenthesis inner (λ rest ends. tt))
@@ -188,7 +188,7 @@ all_items (typed.more part others) lexed =
 
 -- ---- parts
 
-literal : (it : Literal) → LiteralCanBeWritten it → Lexes IsEnd (shown_literal it) (literal_kind it ∷ [])
+literal : (it : Literal) → LiteralCanBeWritten it → Lexes IsEnd (shown_literal it) (literal_token it ∷ [])
 literal literals.Nil can = nil_cut
 literal (literals.Bool true) can = true_cut
 literal (literals.Bool false) can = false_cut
@@ -216,11 +216,11 @@ mutual
   lexed (typed.binary binary.Default left right) inside can = called_two (codes "default") words.Default left right default_cut (lexed left inside can.0) (lexed right inside can.1)
   lexed (typed.binary binary.IsIn left right) inside can = sides (codes "in") (word words.In) left right (spaced_word (codes "in") (word words.In) in_cut) (lexed left inside can.0) (lexed right inside can.1)
   lexed (typed.binary (binary.Wholes operator) left right) inside can =
-      sides (arithmetic_sign operator) (arithmetic_kind operator) left right (arithmetic_cut operator) (lexed left inside can.0) (lexed right inside can.1)
+      sides (arithmetic_sign operator) (arithmetic_token operator) left right (arithmetic_cut operator) (lexed left inside can.0) (lexed right inside can.1)
   lexed (typed.binary (binary.Decimals operator) left right) inside can =
-      sides (decimal_sign operator) (decimal_kind operator) left right (decimal_cut operator) (lexed left inside can.0) (lexed right inside can.1)
+      sides (decimal_sign operator) (decimal_token operator) left right (decimal_cut operator) (lexed left inside can.0) (lexed right inside can.1)
   lexed (typed.binary (binary.Compare of way) left right) inside can =
-      sides (order_sign way) (sign (signs.Comparison (order_of way))) left right (order_cut way) (lexed left inside can.0) (lexed right inside can.1)
+      sides (order_sign way) (sign (signs.Comparison (written_order way))) left right (order_cut way) (lexed left inside can.0) (lexed right inside can.1)
   lexed (typed.binary (binary.Equal family) left right) inside can =
       sides (codes "==") (sign (signs.Comparison comparisons.Equal)) left right equal_cut (lexed left inside can.0) (lexed right inside can.1)
   lexed (typed.binary (binary.TextTest test) left right) inside can =

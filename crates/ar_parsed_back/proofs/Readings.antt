@@ -40,7 +40,7 @@ use Rattle.ar_syntax.specs.declared.token.Word.{Word}
 use Rattle.ar_syntax.specs.declared.token.Word.TheVariants as words
 use Rattle.ar_syntax.proofs.Fronts.{passes-from_find}
 use Rattle.ar_show.specs.PartText.{has_sides, has_sign, is_word}
-use Rattle.ar_parsed_back.specs.Kinds.{HaveKinds, a_token, argument_kinds, arguments_kinds, arithmetic_kind, decimal_kind, in_parentheses, items_kinds, literal_kind, no_token, operand_kinds, order_of, owner_kinds, part_kinds, sided_kinds, sign, word}
+use Rattle.ar_parsed_back.specs.Kinds.{HaveKinds, a_token, argument_kinds, arguments_kinds, arithmetic_token, decimal_token, kinds_in_parentheses, items_kinds, literal_token, no_token, operand_kinds, written_order, owner_kinds, part_kinds, sided_kinds, sign, word}
 use Rattle.ar_parsed_back.specs.Readable.{CanBeWritten, EachCanBeWritten, is_text}
 use Rattle.ar_parsed_back.specs.Written.{Writes, WritesEach, arithmetic_of, decimal_arithmetic_of, infix_of}
 use Rattle.ar_parsed_back.specs.Written as writes
@@ -135,14 +135,14 @@ module _ (inside : Bool) where
   grouped opener tokens tree (close ∷ mid) rest is (a_token ends no_token) phrase left =
       λ more end selections. grammar.postfixed (grammar.group (begins opener (sign signs.OpenParenthesis) is inside) (opened left) (phrase (pred left)) (follows_by close (sign signs.CloseParenthesis) ends)) selections
 
-  in_group : (part : Typed) (inner : List TokenKind) → IsReadFrom Whole part inner → IsReadFrom Owner part (in_parentheses true inner)
+  in_group : (part : Typed) (inner : List TokenKind) → IsReadFrom Whole part inner → IsReadFrom Owner part (kinds_in_parentheses true inner)
   in_group part inner read [] rest have = elim have [ ]
   in_group part inner read (opener ∷ tokens) rest (a_token is have) =
       let parts = halves inner (sign signs.CloseParenthesis ∷ []) tokens rest have in
       let said = read tokens parts.mid parts.front in
       (said.0, said.1, grouped opener tokens said.0 parts.mid rest is parts.back said.2)
 
-  operand_by : (part : Typed) (inner : List TokenKind) (sides signed : Bool) → IsReadFrom (AsPart sides signed) part inner → IsReadFrom Operand part (in_parentheses sides inner)
+  operand_by : (part : Typed) (inner : List TokenKind) (sides signed : Bool) → IsReadFrom (AsPart sides signed) part inner → IsReadFrom Operand part (kinds_in_parentheses sides inner)
   operand_by part inner true signed read tokens rest have =
       let said = in_group part inner read tokens rest have in
       (said.0, said.1, λ left. owner_operand left tokens said.0 rest (said.2 left))
@@ -150,7 +150,7 @@ module _ (inside : Bool) where
       let said = read tokens rest have in
       (said.0, said.1, λ left. as_operand left tokens said.0 rest signed (said.2 left))
 
-  owner_by : (part : Typed) (inner : List TokenKind) (sides signed : Bool) → IsReadFrom (AsPart sides signed) part inner → IsReadFrom Owner part (in_parentheses (sides || signed) inner)
+  owner_by : (part : Typed) (inner : List TokenKind) (sides signed : Bool) → IsReadFrom (AsPart sides signed) part inner → IsReadFrom Owner part (kinds_in_parentheses (sides || signed) inner)
   owner_by part inner true signed read = in_group part inner read
   owner_by part inner false true read = in_group part inner within
     where
@@ -452,22 +452,22 @@ module _ (inside : Bool) where
 hidden : (inside : Bool) (By : Reading) (part operand_part : Typed) (all : List TokenKind) → ((tree : Expression) → Writes tree operand_part → Writes tree part) → IsReadFrom inside By operand_part all → IsReadFrom inside By part all
 hidden inside By part operand_part all says read tokens rest have = let said = read tokens rest have in (said.0, says said.0 said.1, said.2)
 
-arithmetic_follows : (operator : Arithmetic) → kind_follow (arithmetic_kind operator) ≡ Operator (arithmetic_of operator)
+arithmetic_follows : (operator : Arithmetic) → kind_follow (arithmetic_token operator) ≡ Operator (arithmetic_of operator)
 arithmetic_follows wholes.Add = refl
 arithmetic_follows wholes.Subtract = refl
 arithmetic_follows wholes.Multiply = refl
 arithmetic_follows wholes.Divide = refl
 arithmetic_follows wholes.Remainder = refl
 
-decimal_follows : (operator : DecimalArithmetic) → kind_follow (decimal_kind operator) ≡ Operator (decimal_arithmetic_of operator)
+decimal_follows : (operator : DecimalArithmetic) → kind_follow (decimal_token operator) ≡ Operator (decimal_arithmetic_of operator)
 decimal_follows decimals.Add = refl
 decimal_follows decimals.Subtract = refl
 decimal_follows decimals.Multiply = refl
 decimal_follows decimals.Divide = refl
 
-literal_read : (inside : Bool) (literal : Literal) → ((at : ℕ) → kind_start inside at (literal_kind literal) ≡ Leaf (LiteralAt at literal)) → IsRead inside (typed.literal literal)
+literal_read : (inside : Bool) (literal : Literal) → ((at : ℕ) → kind_start inside at (literal_token literal) ≡ Leaf (LiteralAt at literal)) → IsRead inside (typed.literal literal)
 literal_read inside literal starts =
-    owned inside (typed.literal literal) (literal_kind literal ∷ []) false (has_sign (typed.literal literal)) (leafed inside (typed.literal literal) (literal_kind literal) (λ at. LiteralAt at literal) starts (λ at. writes.literal))
+    owned inside (typed.literal literal) (literal_token literal ∷ []) false (has_sign (typed.literal literal)) (leafed inside (typed.literal literal) (literal_token literal) (λ at. LiteralAt at literal) starts (λ at. writes.literal))
 
 infix_read : (inside : Bool) (operator : BinaryOperator) (left right : Typed) (kind : TokenKind) (written : Binary) → IsRead inside left → IsRead inside right → kind_follow kind ≡ Operator written → infix_of operator ≡ Some written
     → IsReadFrom inside (Whole inside) (typed.binary operator left right) (sided_kinds kind left right (part_kinds left) (part_kinds right))
@@ -503,11 +503,11 @@ mutual
   reads (typed.binary binary.IsIn left right) inside can =
       infix_read inside binary.IsIn left right (word words.In) binaries.In (reads left inside can.0) (reads right inside can.1) refl refl
   reads (typed.binary (binary.Wholes operator) left right) inside can =
-      infix_read inside (binary.Wholes operator) left right (arithmetic_kind operator) (arithmetic_of operator) (reads left inside can.0) (reads right inside can.1) (arithmetic_follows operator) refl
+      infix_read inside (binary.Wholes operator) left right (arithmetic_token operator) (arithmetic_of operator) (reads left inside can.0) (reads right inside can.1) (arithmetic_follows operator) refl
   reads (typed.binary (binary.Decimals operator) left right) inside can =
-      infix_read inside (binary.Decimals operator) left right (decimal_kind operator) (decimal_arithmetic_of operator) (reads left inside can.0) (reads right inside can.1) (decimal_follows operator) refl
+      infix_read inside (binary.Decimals operator) left right (decimal_token operator) (decimal_arithmetic_of operator) (reads left inside can.0) (reads right inside can.1) (decimal_follows operator) refl
   reads (typed.binary (binary.Compare of way) left right) inside can =
-      infix_read inside (binary.Compare of way) left right (sign (signs.Comparison (order_of way))) (binaries.Comparison (order_of way)) (reads left inside can.0) (reads right inside can.1) refl refl
+      infix_read inside (binary.Compare of way) left right (sign (signs.Comparison (written_order way))) (binaries.Comparison (written_order way)) (reads left inside can.0) (reads right inside can.1) refl refl
   reads (typed.binary (binary.Equal family) left right) inside can =
       infix_read inside (binary.Equal family) left right (sign (signs.Comparison comparisons.Equal)) (binaries.Comparison comparisons.Equal) (reads left inside can.0) (reads right inside can.1) refl refl
   reads (typed.binary (binary.TextTest test) left right) inside can =

@@ -38,7 +38,7 @@ use Rattle.ar_check.specs.Operand.{Operand, among, converted, is_boolean, is_tex
 use Rattle.ar_check.specs.declared.error.TypeError.{TypeError}
 use Rattle.ar_check.specs.declared.error.TypeError.TheVariants.{PredicatesTooDeep}
 use Rattle.ar_parsed_back.specs.InPlace.{EachInPlace, MayBeNil, NeedsInPlace}
-use Rattle.ar_parsed_back.specs.Kinds.{order_of}
+use Rattle.ar_parsed_back.specs.Kinds.{written_order}
 use Rattle.ar_parsed_back.specs.Written.{Writes, WritesEach, arithmetic_of, infix_of}
 use Rattle.ar_parsed_back.proofs.Parts.{Covers, both_form, choice_form, converts, covered_nil, covered_place, covered_says, covers_both, default_form, either_form, field_form, index_form, infix_form, is_nil_form, item_form, itself, len_form, list_form, literal_form, minus_form, more_form, none_form, not_form, predicate_form, result_form, unwraps}
 
@@ -216,7 +216,7 @@ ordered_found at order (Some one) (Some other) left right first e = record { one
 ordered_found at order (Some one) None left right first e = absurd cc
 ordered_found at order None n left right first e = absurd cc
 
-ordered_is : (at : ℕ) (order : Order) (side : NilSide) (left right : Operand) → binary_of at (binaries.Comparison (order_of order)) side left right ≡ ordering_of at order left right
+ordered_is : (at : ℕ) (order : Order) (side : NilSide) (left right : Operand) → binary_of at (binaries.Comparison (written_order order)) side left right ≡ ordering_of at order left right
 ordered_is at orders.Less side left right = refl
 ordered_is at orders.LessOrEqual side left right = refl
 ordered_is at orders.Greater side left right = refl
@@ -565,10 +565,10 @@ module _ (result : Shape) (item : Option Shape) (around : ℕ) where
   ordering_finds at order left right first finds_left finds_right e =
       let found = ordered_found at order (numbers left) (numbers right) (unwrapped left) (unwrapped right) first e in
       computed (operand (typed.binary (binary.Compare (compared_of found.one found.other) order) (unwrapped left) (unwrapped right)) boolean_kind) first found.is (λ place tree says.
-      let form = infix_form (binaries.Comparison (order_of order)) refl says in
+      let form = infix_form (binaries.Comparison (written_order order)) refl says in
       let one = inner left finds_left (unwrapped left) (unwrapped_covers left) place.1 form.first form.first_says in
       let other = inner right finds_right (unwrapped right) (unwrapped_covers right) place.2 form.second form.second_says in
-      exact tree (BinaryAt form.at (binaries.Comparison (order_of order)) form.first form.second) _ form.is
+      exact tree (BinaryAt form.at (binaries.Comparison (written_order order)) form.first form.second) _ form.is
       (rw (one.found, other.found) (ordered_is form.at order (nil_side form.first form.second) one.again other.again ∙ ordered_again form.at order left right one.again other.again first found one.same other.same)))
 
   text_finds : (at : ℕ) (test : TextTest) (left right first : Operand) → Finds left → Finds right → text_test_of at test left right ≡ Ok first → Finds first

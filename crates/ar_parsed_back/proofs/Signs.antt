@@ -14,7 +14,7 @@ use Rattle.ar_syntax.specs.Tokens.{front_of, piece_found, sign_at, token, token_
 use Rattle.ar_syntax.specs.declared.token.Sign.TheVariants as signs
 use Rattle.ar_syntax.specs.declared.token.TokenKind.{TokenKind}
 use Rattle.ar_show.specs.PartText.{arithmetic_sign, decimal_sign, order_sign}
-use Rattle.ar_parsed_back.specs.Kinds.{arithmetic_kind, decimal_kind, order_of, sign}
+use Rattle.ar_parsed_back.specs.Kinds.{arithmetic_token, decimal_token, written_order, sign}
 use Rattle.ar_parsed_back.proofs.Cutting.{Any, IsSpace, Lexes, one_token}
 
 -- ---- signs with which no other begins
@@ -61,7 +61,7 @@ module _ (at : ℕ) (field : Bool) where
   spaced_2 : (first second : ℕ) (kind : TokenKind) → ((others : Text) → front_of at field (first ∷ second ∷ 32 ∷ others) ≡ piece_found (token kind at 2)) → (rest : Text) → IsSpace rest → front_of at field (first ∷ second ∷ rest) ≡ piece_found (token kind at 2)
   spaced_2 first second kind holds = before_space (λ rest. front_of at field (first ∷ second ∷ rest) ≡ piece_found (token kind at 2)) holds
 
-pub arithmetic_cut : (operator : Arithmetic) → Lexes IsSpace (arithmetic_sign operator) (arithmetic_kind operator ∷ [])
+pub arithmetic_cut : (operator : Arithmetic) → Lexes IsSpace (arithmetic_sign operator) (arithmetic_token operator ∷ [])
 unfolding front_of token_of sign_at
 arithmetic_cut wholes.Add = one_token IsSpace 43 [] (sign signs.Plus) (λ at field. spaced_1 at field 43 (sign signs.Plus) (λ others. refl))
 arithmetic_cut wholes.Subtract = one_token IsSpace 45 [] (sign signs.Minus) (λ at field. spaced_1 at field 45 (sign signs.Minus) (λ others. refl))
@@ -69,13 +69,13 @@ arithmetic_cut wholes.Multiply = one_token IsSpace 42 [] (sign signs.Star) (λ a
 arithmetic_cut wholes.Divide = one_token IsSpace 47 [] (sign signs.Slash) (λ at field. spaced_1 at field 47 (sign signs.Slash) (λ others. refl))
 arithmetic_cut wholes.Remainder = one_token IsSpace 37 [] (sign signs.Percent) (λ at field. spaced_1 at field 37 (sign signs.Percent) (λ others. refl))
 
-pub decimal_cut : (operator : DecimalArithmetic) → Lexes IsSpace (decimal_sign operator) (decimal_kind operator ∷ [])
+pub decimal_cut : (operator : DecimalArithmetic) → Lexes IsSpace (decimal_sign operator) (decimal_token operator ∷ [])
 decimal_cut decimals.Add = arithmetic_cut wholes.Add
 decimal_cut decimals.Subtract = arithmetic_cut wholes.Subtract
 decimal_cut decimals.Multiply = arithmetic_cut wholes.Multiply
 decimal_cut decimals.Divide = arithmetic_cut wholes.Divide
 
-pub order_cut : (order : Order) → Lexes IsSpace (order_sign order) (sign (signs.Comparison (order_of order)) ∷ [])
+pub order_cut : (order : Order) → Lexes IsSpace (order_sign order) (sign (signs.Comparison (written_order order)) ∷ [])
 unfolding front_of token_of sign_at
 order_cut orders.Less = one_token IsSpace 60 [] (sign (signs.Comparison comparisons.Less)) (λ at field. spaced_1 at field 60 (sign (signs.Comparison comparisons.Less)) (λ others. refl))
 order_cut orders.LessOrEqual = one_token IsSpace 60 (61 ∷ []) (sign (signs.Comparison comparisons.LessOrEqual)) (λ at field. spaced_2 at field 60 61 (sign (signs.Comparison comparisons.LessOrEqual)) (λ others. refl))

@@ -36,35 +36,35 @@ sign it = kinds.Sign it
 abbrev pub word : Word → TokenKind
 word it = kinds.Word it
 
-abbrev pub boolean_kind : Bool → TokenKind
-boolean_kind true = word words.True
-boolean_kind false = word words.False
+abbrev pub boolean_token : Bool → TokenKind
+boolean_token true = word words.True
+boolean_token false = word words.False
 
-abbrev pub literal_kind : Literal → TokenKind
-literal_kind literals.Nil = word words.Nil
-literal_kind (literals.Bool boolean) = boolean_kind boolean
-literal_kind (literals.Whole whole) = kinds.Whole whole
-literal_kind (literals.Decimal millionths) = kinds.Decimal millionths
-literal_kind (literals.Text text) = kinds.Text text
+abbrev pub literal_token : Literal → TokenKind
+literal_token literals.Nil = word words.Nil
+literal_token (literals.Bool boolean) = boolean_token boolean
+literal_token (literals.Whole whole) = kinds.Whole whole
+literal_token (literals.Decimal millionths) = kinds.Decimal millionths
+literal_token (literals.Text text) = kinds.Text text
 
-abbrev pub arithmetic_kind : Arithmetic → TokenKind
-arithmetic_kind wholes.Add = sign signs.Plus
-arithmetic_kind wholes.Subtract = sign signs.Minus
-arithmetic_kind wholes.Multiply = sign signs.Star
-arithmetic_kind wholes.Divide = sign signs.Slash
-arithmetic_kind wholes.Remainder = sign signs.Percent
+abbrev pub arithmetic_token : Arithmetic → TokenKind
+arithmetic_token wholes.Add = sign signs.Plus
+arithmetic_token wholes.Subtract = sign signs.Minus
+arithmetic_token wholes.Multiply = sign signs.Star
+arithmetic_token wholes.Divide = sign signs.Slash
+arithmetic_token wholes.Remainder = sign signs.Percent
 
-abbrev pub decimal_kind : DecimalArithmetic → TokenKind
-decimal_kind decimals.Add = sign signs.Plus
-decimal_kind decimals.Subtract = sign signs.Minus
-decimal_kind decimals.Multiply = sign signs.Star
-decimal_kind decimals.Divide = sign signs.Slash
+abbrev pub decimal_token : DecimalArithmetic → TokenKind
+decimal_token decimals.Add = sign signs.Plus
+decimal_token decimals.Subtract = sign signs.Minus
+decimal_token decimals.Multiply = sign signs.Star
+decimal_token decimals.Divide = sign signs.Slash
 
-abbrev pub order_of : Order → Comparison
-order_of orders.Less = comparisons.Less
-order_of orders.LessOrEqual = comparisons.LessOrEqual
-order_of orders.Greater = comparisons.Greater
-order_of orders.GreaterOrEqual = comparisons.GreaterOrEqual
+abbrev pub written_order : Order → Comparison
+written_order orders.Less = comparisons.Less
+written_order orders.LessOrEqual = comparisons.LessOrEqual
+written_order orders.Greater = comparisons.Greater
+written_order orders.GreaterOrEqual = comparisons.GreaterOrEqual
 
 -- a field's name, after its owner
 abbrev pub field_kinds : (name : Text) → List TokenKind
@@ -74,16 +74,16 @@ field_kinds name =
 
 -- ---- operands, where the kinds of each are already known
 
-abbrev pub in_parentheses : (needed : Bool) → List TokenKind → List TokenKind
-in_parentheses needed inner =
+abbrev pub kinds_in_parentheses : (needed : Bool) → List TokenKind → List TokenKind
+kinds_in_parentheses needed inner =
     if needed then sign signs.OpenParenthesis ∷ (inner ++ sign signs.CloseParenthesis ∷ []) else inner
 
 abbrev pub operand_kinds : Typed → List TokenKind → List TokenKind
-operand_kinds part inner = in_parentheses (has_sides part) inner
+operand_kinds part inner = kinds_in_parentheses (has_sides part) inner
 
 -- before a field's name or an index
 abbrev pub owner_kinds : Typed → List TokenKind → List TokenKind
-owner_kinds part inner = in_parentheses (has_sides part || has_sign part) inner
+owner_kinds part inner = kinds_in_parentheses (has_sides part || has_sign part) inner
 
 -- two sides with an operator between them
 abbrev pub sided_kinds : TokenKind → (left right : Typed) → (left_kinds right_kinds : List TokenKind) → List TokenKind
@@ -115,11 +115,11 @@ binary_kinds binary.Default left right left_kinds right_kinds =
 binary_kinds binary.IsIn left right left_kinds right_kinds =
     sided_kinds (word words.In) left right left_kinds right_kinds
 binary_kinds (binary.Wholes operator) left right left_kinds right_kinds =
-    sided_kinds (arithmetic_kind operator) left right left_kinds right_kinds
+    sided_kinds (arithmetic_token operator) left right left_kinds right_kinds
 binary_kinds (binary.Decimals operator) left right left_kinds right_kinds =
-    sided_kinds (decimal_kind operator) left right left_kinds right_kinds
+    sided_kinds (decimal_token operator) left right left_kinds right_kinds
 binary_kinds (binary.Compare of way) left right left_kinds right_kinds =
-    sided_kinds (sign (signs.Comparison (order_of way))) left right left_kinds right_kinds
+    sided_kinds (sign (signs.Comparison (written_order way))) left right left_kinds right_kinds
 binary_kinds (binary.Equal family) left right left_kinds right_kinds =
     sided_kinds (sign (signs.Comparison comparisons.Equal)) left right left_kinds right_kinds
 binary_kinds (binary.TextTest test) left right left_kinds right_kinds =
@@ -135,7 +135,7 @@ abbrev mutual
   pub part_kinds : Typed → List TokenKind
   part_kinds typed.result = word words.Result ∷ []
   part_kinds typed.item = sign signs.Hash ∷ []
-  part_kinds (typed.literal literal) = literal_kind literal ∷ []
+  part_kinds (typed.literal literal) = literal_token literal ∷ []
   part_kinds (typed.field whole name) = owner_kinds whole (part_kinds whole) ++ field_kinds name
   part_kinds (typed.unary operator operand) = unary_kinds operator operand (part_kinds operand)
   part_kinds (typed.binary operator left right) =

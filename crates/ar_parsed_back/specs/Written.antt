@@ -21,7 +21,7 @@ use Rattle.ar_tree.specs.declared.tree.Binary.TheVariants as binaries
 use Rattle.ar_tree.specs.declared.tree.Comparison.TheVariants as comparisons
 use Rattle.ar_tree.specs.declared.tree.Literal.{Literal}
 use Rattle.ar_tree.specs.declared.tree.Unary.TheVariants as unaries
-use Rattle.ar_parsed_back.specs.Kinds.{order_of}
+use Rattle.ar_parsed_back.specs.Kinds.{written_order}
 
 abbrev pub arithmetic_of : Arithmetic → Binary
 arithmetic_of wholes.Add = binaries.Add
@@ -43,7 +43,7 @@ infix_of binary.Default = None
 infix_of binary.IsIn = Some binaries.In
 infix_of (binary.Wholes operator) = Some (arithmetic_of operator)
 infix_of (binary.Decimals operator) = Some (decimal_arithmetic_of operator)
-infix_of (binary.Compare of way) = Some (binaries.Comparison (order_of way))
+infix_of (binary.Compare of way) = Some (binaries.Comparison (written_order way))
 infix_of (binary.Equal family) = Some (binaries.Comparison comparisons.Equal)
 infix_of (binary.TextTest test) = Some (binaries.TextTest test)
 
