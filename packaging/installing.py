@@ -44,10 +44,21 @@ def check_free(prefix, paths):
             raise Refused(f"{prefix / path} is there, and wasn't installed with argo_judge; remove it first")
 
 
+def remove_compiled(file):
+    """Removes what Python keeps of a module that was started."""
+    folder = file.parent / "__pycache__"
+    if file.suffix == ".py" and folder.is_dir():
+        for compiled in folder.glob(f"{file.stem}.*.pyc"):
+            compiled.unlink()
+        if not any(folder.iterdir()):
+            folder.rmdir()
+
+
 def remove(prefix):
     """Removes what was installed, and the folders that are empty then."""
     for path in listed(prefix):
         (prefix / path).unlink(missing_ok=True)
+        remove_compiled(prefix / path)
         for folder in (prefix / path).parents:
             if folder == prefix or not folder.is_dir() or any(folder.iterdir()):
                 break

@@ -16,8 +16,10 @@ from manual import manual
 
 ROOT = pathlib.Path(__file__).resolve().parent.parent
 PLUGIN = pathlib.PurePath("bin/kubectl-argo_judge")
-# What of recipes/ isn't for users.
-TESTS = ("tests", "check", "__pycache__")
+# The recipes and the package that they start, and what of these folders isn't for users.
+FOLDERS = ("recipes", "python")
+TESTS = ("tests", "check", "setup.cfg", "build")
+MADE_BY_PYTHON = ("__pycache__", ".egg-info")
 # The C library.
 LIBRARY_FILES = ("include/argo_judge.h", "lib/libargo_judge.a", "lib/libargo_judge.so")
 # The documents of README.md, for a first start.
@@ -41,13 +43,18 @@ def made_texts(program):
     }
 
 
+def is_for_users(parts):
+    """Whether a file of FOLDERS is no test, and nothing that Python or a tool keeps next to sources."""
+    return parts[0] not in TESTS and not any(part.startswith(".") or part.endswith(MADE_BY_PYTHON) for part in parts)
+
+
 def copied_files(program):
     """The files that are copied, by their paths."""
-    recipes = ROOT / "recipes"
-    files = [path for path in sorted(recipes.rglob("*")) if path.relative_to(recipes).parts[0] not in TESTS]
+    files = [path for name in FOLDERS for path in sorted((ROOT / name).rglob("*"))
+             if is_for_users(path.relative_to(ROOT / name).parts)]
     files += [*sorted((ROOT / "docs/use").glob("*.md")), ROOT / "docs/report.schema.json"]
     files += [ROOT / name for name in EXAMPLES]
-    found = {str(LIBRARY / path.relative_to(ROOT)): path for path in files if path.is_file() and path.suffix != ".pyc"}
+    found = {str(LIBRARY / path.relative_to(ROOT)): path for path in files if path.is_file()}
     return {"bin/argo_judge": program, **found}
 
 

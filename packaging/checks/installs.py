@@ -1,4 +1,5 @@
 """Tries bin/install, and what is installed: by it, or from a release."""
+import os
 import shutil
 import subprocess
 
@@ -46,8 +47,10 @@ def starts_of(prefix, folder):
 def of_prefix(what, prefix, folder):
     """Tries what is below a prefix, with the checkout and the kit out of sight."""
     yield from of_program(what, hidden([prefix / "bin/argo_judge"]))
+    # Python keeps what it compiled, which is removed, too.
+    environment = {name: value for name, value in os.environ.items() if name != "PYTHONDONTWRITEBYTECODE"}
     for name, words, wanted in starts_of(prefix, folder):
-        yield f"{what}, {name}", wanted in ended(hidden(words), cwd=folder).stdout
+        yield f"{what}, {name}", wanted in ended(hidden(words), cwd=folder, env=environment).stdout
 
 
 def of_removal(what, install, prefix):

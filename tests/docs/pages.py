@@ -8,7 +8,7 @@ PAGES = [*sorted(ROOT.glob("*.md")), *sorted((ROOT / "docs").glob("**/*.md"))]
 NOTE = re.compile(r"<!-- (file|not run|needs): (.*) -->")
 # What starts `run` in the order in which workers come, and the files that are looked at for it, besides the pages.
 UNORDERED = re.compile(r"(?:argo_judge|\$ENGINE)\"? run(?! --(?:plain|ordered|help)\b)")
-SCRIPTS = ("recipes/*", "recipes/tests/*/command", "examples/scaling/*")
+SCRIPTS = ("recipes/*", "python/argo_judge/**/*.py", "recipes/tests/*/command", "examples/scaling/*")
 LINK = re.compile(r"\]\(([^)\s]+)\)")
 
 

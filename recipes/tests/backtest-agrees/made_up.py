@@ -7,10 +7,11 @@ import sys
 import tempfile
 
 RECIPES = pathlib.Path(__file__).resolve().parents[2]
-sys.path.insert(0, str(RECIPES))
-from analysisruns import document_of
-from backtesting.histories import Flags
-from documents import judged, kept_notes
+sys.path.insert(0, str(RECIPES.parent / "python"))
+from argo_judge.analysisruns import document_of
+from argo_judge.backtest.runs import Flags
+from argo_judge.engine.program import judged
+from argo_judge.notes import kept_notes
 
 ENGINE = sys.argv[1]
 RUNS, BY_COMMANDS = 200, 5
@@ -63,7 +64,9 @@ def single(run, template, flags):
     """What one start of the program reports of one run."""
     with kept_notes():
         made, _ = document_of(run, flags, template)
-    return report_in(judged(ENGINE, ["run", "--plain", "--output", "json"], made, stdout=subprocess.PIPE).stdout)
+    ended = judged(ENGINE, ["run", "--plain", "--output", "json"], made)
+    sys.stderr.write(ended.stderr)
+    return report_in(ended.stdout)
 
 
 def by_commands(run, shapes, template):

@@ -8,8 +8,8 @@ import subprocess
 import sys
 
 HERE = pathlib.Path(__file__).resolve().parent
-sys.path.insert(0, str(HERE.parents[1]))
-from linting.findings import RULES
+sys.path.insert(0, str(HERE.parents[2] / "python"))
+from argo_judge.lint.findings import RULES
 
 EXAMPLE = re.compile(r"- (finds|not): `(.*)`")
 OF_SPEC = ("args", "dryRun", "measurementRetention")

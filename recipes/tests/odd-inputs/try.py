@@ -21,8 +21,6 @@ NOTE = re.compile("from-prometheus: answer [0-9]+: |shapes: .*: no answer says o
                       "measurement [0-9]+ of metric .* is cut to ", "[0-9]+ more measurements compare ",
                       "metric .*: a Job's own end decides")) + ")")
 
-sys.path.insert(0, HERE)
-
 TEMPLATE = {"apiVersion": "argoproj.io/v1alpha1", "kind": "AnalysisTemplate", "metadata": {"name": "t"},
             "spec": {"dryRun": [{"metricName": "m"}], "args": [{"name": "a"}],
                      "metrics": [{"name": "m", "successCondition": "result > 0"}]}}
@@ -108,7 +106,7 @@ def ended(code, words):
             os.dup2(os.open(name, os.O_RDONLY if descriptor == 0 else os.O_WRONLY | os.O_CREAT | os.O_TRUNC), descriptor)
         sys.argv = words
         try:
-            exec(code, {"__name__": "__main__"})
+            exec(code, {"__name__": "__main__", "__file__": f"{HERE}/{words[0]}"})
         finally:
             os._exit(99)
     status = os.waitstatus_to_exitcode(os.waitpid(child, 0)[1])

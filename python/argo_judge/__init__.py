@@ -1,0 +1,3 @@
+"""What people run and import around argo_judge, the engine that judges canary measurements for Argo Rollouts."""
+
+VERSION = "0.1.0"

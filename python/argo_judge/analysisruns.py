@@ -1,0 +1,88 @@
+"""AnalysisRuns of Argo Rollouts as documents of argo_judge."""
+from argo_judge.cuts import note_cuts
+from argo_judge.documents import document
+from argo_judge.dryruns import with_marked, with_other_dry_names
+from argo_judge.errors import Refused
+from argo_judge.notes import note
+from argo_judge.objects import member, objects, shown
+from argo_judge.options import add_shapes_flag
+from argo_judge.ordering import ordered
+from argo_judge.providers import answered
+from argo_judge.retention import check_history
+from argo_judge.shapes import shapes_of
+from argo_judge.templates import API_VERSION, arguments_of, is_job, values_of
+
+
+def template_of(run):
+    """The template that an AnalysisRun was made of: its own metrics and arguments."""
+    spec = {"metrics": objects(member(run, "spec", "metrics"))}
+    args = [{name: arg[name] for name in ("name", "value") if member(arg, name) is not None}
+            for arg in objects(member(run, "spec", "args"))]
+    if args:
+        spec["args"] = args
+    for name in ("dryRun", "measurementRetention"):
+        if member(run, "spec", name):
+            spec[name] = run["spec"][name]
+    metadata = {"name": member(run, "metadata", "name")}
+    if annotations := member(run, "metadata", "annotations"):
+        metadata["annotations"] = annotations
+    return {"apiVersion": API_VERSION, "kind": "AnalysisTemplate", "metadata": metadata, "spec": spec}
+
+
+def answer_of(measurement, metric):
+    """What a measurement's provider answered: an error, or a value."""
+    if measurement.get("phase") == "Error":
+        return {"error": member(measurement, "message", default="")}
+    if isinstance(measurement.get("value"), str):
+        return {"value": answered(metric, measurement["value"])}
+    if is_job(metric):
+        return {"value": measurement.get("phase") == "Successful"}
+    return {"value": None}
+
+
+def measurements_of(run):
+    """The measurements that ended, each with its metric's name and its own object, in the order of a document."""
+    metrics = {shown(member(metric, "name")): metric for metric in objects(member(run, "spec", "metrics"))}
+    return [(name, one, answer_of(one, metrics.get(shown(name)))) for name, one in ordered(run)]
+
+
+def checked_run(run):
+    if member(run, "kind") != "AnalysisRun":
+        raise Refused("input: expected an AnalysisRun, as `kubectl get analysisrun NAME -o json` prints it")
+    if not isinstance(member(run, "metadata", "name"), str):
+        raise Refused("input: expected an AnalysisRun with a name")
+    return run
+
+
+def add_flags(parser):
+    """What each recipe takes that reads an AnalysisRun."""
+    add_shapes_flag(parser)
+    parser.add_argument("--partial", action="store_true", help="take a run that lacks measurements by the controller's "
+                        "counts, which is refused otherwise")
+
+
+def arguments_of_run(run, template, given):
+    """A run's arguments: its own values, over which those of a template in the place of its own win, and over these the
+    given ones. Where a value of such a template differs from the run's, a line says so."""
+    own, other = values_of(member(run, "spec", "args")), values_of(member(template, "spec", "args"))
+    for name, value in other.items():
+        if name not in given and own.get(name, value) != value:
+            note(f"argument {shown(name)} is {shown(value)} by --template, and was {shown(own[name])} in the run")
+    return {**own, **other, **given}
+
+
+def document_of(run, words, template=None, given=()):
+    """The document of an AnalysisRun, by its own template or another, with its own arguments and given ones, and its
+    measurements in the order of the document's entries."""
+    run = checked_run(run)
+    check_history(run, words.partial)
+    name = run["metadata"]["name"]
+    template = with_marked(template_of(run), run) if template is None else with_other_dry_names(template, run)
+    args = arguments_of_run(run, template, arguments_of(template, given))
+    found = measurements_of(run)
+    entries = [{"run": name, "metric": metric, **answer} for metric, _, answer in found]
+    if member(run, "spec", "terminate") is True:
+        entries.append({"run": name, "stop": True})
+    made = document(template, shapes_of(template, words.shapes, run), name, args, entries)
+    note_cuts(made)
+    return made, found

@@ -1,0 +1,69 @@
+"""Says what another template would have made of AnalysisRuns that ended: which of the last releases it stops.
+
+    kubectl get analysisrun -o json | recipes/backtest --template new.json -
+    recipes/backtest runs/ --template new.yaml --arg threshold=0.97
+    recipes/backtest runs.json --template new.json --sweep threshold=0.90:0.99:0.01
+
+RUNS are Lists of AnalysisRuns or single ones, in files of JSON or YAML or in folders. Each run is judged by the engine
+twice, by its own template and by that of --template, on what was measured then. A line is printed of each run whose
+phase differs between the two, with what the controller made of it, and at the end the sums. A run is left out, with the
+reason in a line, where it hasn't ended, lacks measurements by the controller's counts, or is refused by the engine.
+--sweep judges by each value of an argument, and prints how many runs each would have stopped (Failed or Error).
+
+A run that ended early has no later measurements: where the other template would have gone on, its phase is Running, and
+it counts as undecided. Status 0 where no run flips, 1 where one does, 2 where no run could be judged.
+"""
+from argo_judge.backtest.outcomes import result_of
+from argo_judge.backtest.outputs import write_result
+from argo_judge.backtest.runs import Flags, judgements_of, runs_in
+from argo_judge.backtest.sweeps import sweep_of
+from argo_judge.errors import Refused
+from argo_judge.manifests import found_in
+from argo_judge.objects import listed, member, objects, shown
+from argo_judge.options import add_arg_flag, add_engine_flag, add_shapes_flag, command_line
+from argo_judge.templates import arguments_of, read_template
+
+
+def add_flags(parser):
+    add_arg_flag(parser)
+    add_shapes_flag(parser)
+    parser.add_argument("--sweep", metavar="NAME=FROM:TO:STEP", help="judge by these values of an argument, too")
+    parser.add_argument("--output", choices=("text", "json", "svg"), default="text",
+                        help="a table (the default), one JSON object, or a plot of --sweep")
+    add_engine_flag(parser)
+
+
+def checked_sweep(words, template):
+    """The sweep of a command line, if it has one, of an argument that the template has."""
+    if words.sweep is None:
+        if words.output == "svg":
+            raise Refused("--output svg: expected --sweep, of which it is the plot")
+        return None
+    sweep = sweep_of(words.sweep)
+    names = [arg.get("name") for arg in objects(member(template, "spec", "args"))]
+    if sweep.argument not in names:
+        raise Refused(f"--sweep {shown(sweep.argument)}: expected an argument of the template: {listed(names)}")
+    return sweep
+
+
+def backtest(words, template, read_runs):
+    """Judges runs by a template, and writes what it found; they are read once the words are checked."""
+    sweep = checked_sweep(words, template)
+    arguments_of(template, words.arg)
+    runs = read_runs()
+    judgements, left_out = judgements_of(runs, template, words.arg, sweep, Flags(words.shapes))
+    result = result_of(judgements, left_out, sweep, words.engine)
+    if not result.outcomes:
+        first = result.left_out[0]
+        raise Refused(f"none of {len(runs)} runs can be judged; the first is {first.name}: {first.why}")
+    write_result(result, sweep, words.output)
+    return 1 if any(one.flips for one in result.outcomes) else 0
+
+
+def main():
+    parser = command_line(__doc__)
+    parser.add_argument("--template", metavar="FILE", required=True, help="the AnalysisTemplate that is tried")
+    add_flags(parser)
+    parser.add_argument("runs", nargs="+", metavar="RUNS", help="a file or a folder; standard input is -")
+    words = parser.parse_args()
+    return backtest(words, read_template(words.template), lambda: runs_in(found_in(words.runs)))

@@ -1,0 +1,54 @@
+"""The values of an argument from one number to another, and what each makes of the runs."""
+import re
+from decimal import Decimal
+from typing import NamedTuple
+
+from argo_judge.errors import Refused
+from argo_judge.objects import shown
+
+SWEEP = re.compile(r"([^=]+)=([^:]+):([^:]+):([^:]+)", re.DOTALL)
+NUMBER = re.compile(r"-?\d{1,12}(\.\d{1,6})?", re.ASCII)
+MOST_VALUES = 200
+EXPECTED = "expected NAME=FROM:TO:STEP, as threshold=0.90:0.99:0.01"
+
+STOPPED = ("Failed", "Error")
+UNDECIDED = ("Pending", "Running")
+
+
+class Sweep(NamedTuple):
+    argument: str
+    values: list
+
+
+class Sums(NamedTuple):
+    """How many runs ended so."""
+    stopped: int
+    inconclusive: int
+    successful: int
+    undecided: int
+
+
+def number_in(text):
+    if not NUMBER.fullmatch(text):
+        raise Refused(f"--sweep: {EXPECTED}; found {shown(text)} as a number")
+    return Decimal(text)
+
+
+def sweep_of(word):
+    """The sweep that a word of the command line is."""
+    found = SWEEP.fullmatch(word)
+    if not found:
+        raise Refused(f"--sweep: {EXPECTED}, found {shown(word)}")
+    first, last, step = map(number_in, found.groups()[1:])
+    if step <= 0 or first > last:
+        raise Refused(f"--sweep: expected a step above 0 and FROM up to TO, found {shown(word)}")
+    times = int((last - first) / step) + 1
+    if times > MOST_VALUES:
+        raise Refused(f"--sweep: expected at most {MOST_VALUES} values, found {times}")
+    return Sweep(found[1], [format(first + step * place, "f") for place in range(times)])
+
+
+def sums_of(phases):
+    def times(*wanted):
+        return sum(phase in wanted for phase in phases)
+    return Sums(times(*STOPPED), times("Inconclusive"), times("Successful"), times(*UNDECIDED))

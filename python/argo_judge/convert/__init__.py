@@ -1,0 +1,1 @@
+"""What makes documents, shapes and reports of what people have: answers, AnalysisRuns, parts of documents."""

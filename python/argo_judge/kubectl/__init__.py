@@ -1,0 +1,1 @@
+"""The plugin of kubectl, and what it reads of a cluster."""

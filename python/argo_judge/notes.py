@@ -1,0 +1,42 @@
+"""Lines on standard error: each stays one line, whatever the text has that it quotes."""
+import contextlib
+import sys
+from collections.abc import Iterator
+
+
+def one_line(text: str) -> str:
+    """A text without line feeds and other characters that a terminal would obey."""
+    return "".join(char if char.isprintable() else char.encode("unicode_escape").decode() for char in text)
+
+
+# The lists that keep what is noted, of which the last one has it.
+KEPT: list[list[str]] = []
+
+
+@contextlib.contextmanager
+def kept_notes() -> Iterator[list[str]]:
+    """A list of what is noted meanwhile, which is then written to nowhere."""
+    KEPT.append([])
+    try:
+        yield KEPT[-1]
+    finally:
+        KEPT.pop()
+
+
+def say(text: str) -> None:
+    """Writes a line to standard error, where there is one that can be written."""
+    if sys.stderr is None:
+        return
+    try:
+        sys.stderr.write(f"{one_line(text)}\n")
+        sys.stderr.flush()
+    except OSError:
+        pass
+
+
+def note(text: str) -> None:
+    """Writes a line of the command itself to standard error, or keeps it."""
+    if KEPT:
+        KEPT[-1].append(text)
+    else:
+        say(f"{sys.argv[0].rsplit('/', 1)[-1]}: {text}")

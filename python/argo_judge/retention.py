@@ -1,0 +1,55 @@
+"""Whether the measurements of an AnalysisRun are all of those that its controller counted.
+
+A controller keeps the last measurements of a metric alone (10, or as `measurementRetention` says), and counts next to
+them in `status.metricResults`. A count that it leaves out is 0.
+"""
+from argo_judge.errors import Refused
+from argo_judge.notes import note
+from argo_judge.objects import member, objects, shown
+
+# The counts of a result, by the phase that a measurement has.
+COUNTS = {"successful": "Successful", "failed": "Failed", "inconclusive": "Inconclusive", "error": "Error"}
+MOST = 2**31 - 1
+
+
+def count_of(result, name):
+    count = member(result, name, default=0)
+    if isinstance(count, bool) or not isinstance(count, int) or not 0 <= count <= MOST:
+        metric = shown(member(result, "name"))
+        raise Refused(f"input, metric {metric}: expected a whole number as `{name}`, found {shown(count)}")
+    return count
+
+
+def lacking(result):
+    """How many measurements were counted and aren't there, by the name of the count. Below 0 are those that are there
+    and weren't counted."""
+    phases = [member(one, "phase") for one in objects(member(result, "measurements"))]
+    there = {name: phases.count(phase) for name, phase in COUNTS.items()}
+    lacks = {name: count_of(result, name) - there[name] for name in COUNTS}
+    if not any(lacks.values()):  # `count` says how many there are besides errors
+        lacks = {"": count_of(result, "count") - sum(there.values()) + there["error"]}
+    return {name: number for name, number in lacks.items() if number}
+
+
+def in_words(what, numbers):
+    """What is said of counts that differ; nothing where there are none."""
+    counts = ", ".join(f"{number} {name}".strip() for name, number in numbers.items())
+    return [f"{what} ({counts})"] if counts else []
+
+
+def difference(result):
+    """What a metric's measurements and its counts say differently, if they do."""
+    lacks = lacking(result)
+    gone = {name: number for name, number in lacks.items() if number > 0}
+    more = {name: -number for name, number in lacks.items() if number < 0}
+    return " and ".join(in_words("lacks measurements", gone) + in_words("has measurements too many", more))
+
+
+def check_history(run, is_partial):
+    """Refuses a run whose measurements aren't all there; of one that may be partial a line says so."""
+    for result in objects(member(run, "status", "metricResults")):
+        if found := difference(result):
+            line = f"metric {shown(member(result, 'name'))} {found}, by the controller's counts"
+            if not is_partial:
+                raise Refused(f"input: {line}; --partial takes the run as it is")
+            note(line)

@@ -1,0 +1,105 @@
+"""What the engine says of cases: many of them are runs of one document."""
+import json
+from typing import NamedTuple, Optional
+
+from argo_judge.engine.program import judged, shell_status
+from argo_judge.engine.refusals import Refusal, hand_on, refusal_in, warnings_in
+from argo_judge.engine.reports import checked
+from argo_judge.errors import REFUSED, Status
+from argo_judge.notes import note
+from argo_judge.suite.cases import MOST_BYTES, MOST_MEASUREMENTS
+
+MOST_RUNS = 64
+
+
+class Subject(NamedTuple):
+    """What cases are judged by: a template, the shapes of its metrics, and the arguments of a case's run."""
+    template: dict
+    shapes: dict
+    args_of: object = lambda case: case.args
+
+
+class Outcome(NamedTuple):
+    """What the engine says of a case: its run of a report, or a refusal."""
+    run: Optional[dict]
+    refusal: Optional[Refusal]
+
+
+# ---- documents
+
+def document_of(subject, cases):
+    """The document whose runs are these cases."""
+    runs = [{"name": case.name, "args": subject.args_of(case)} for case in cases]
+    entries = [{"run": case.name, **({} if answer.metric is None else {"metric": answer.metric}), **answer.members}
+               for case in cases for answer in case.in_order()]
+    return {"manifest": subject.template, "shapes": subject.shapes, "runs": runs, "measurements": entries}
+
+
+def parts_of(cases, first_size):
+    """Cases in parts that fit one document each. One that expects a refusal is alone: it would be one of all."""
+    part, count, size = [], 0, first_size
+    for case in cases:
+        is_alone = case.expected.refused is not None
+        is_larger = count + case.count > MOST_MEASUREMENTS or size + case.size > MOST_BYTES
+        is_full = len(part) == MOST_RUNS or is_larger
+        if part and (is_full or is_alone):
+            yield part
+            part, count, size = [], 0, first_size
+        if is_alone:
+            yield [case]
+        else:
+            part, count, size = [*part, case], count + case.count, size + case.size
+    if part:
+        yield part
+
+
+# ---- the engine
+
+def ended_otherwise(ended):
+    """Ends as the engine did where it neither judged nor refused a document, with its own line."""
+    hand_on(ended.returncode, ended.stderr)
+    raise Status(shell_status(ended.returncode))
+
+
+def answered(engine, words, document):
+    """What the engine writes of a document, to both outputs, or its refusal, one of which is None."""
+    ended = judged(engine, words, document)
+    if ended.returncode == REFUSED:
+        return None, refusal_in(ended.stderr)
+    if ended.returncode not in (0, 1):
+        ended_otherwise(ended)
+    return ended, None
+
+
+def expects_error(answer):
+    return answer.expected.verdict[:1] == ("Error",) or answer.expected.fault is not None
+
+
+def note_warnings(cases, warnings):
+    """Notes what the engine warns of in a document of these cases: of the template under the suite's name, and of a
+    measurement where its answer is, unless that expects an error."""
+    answers = [answer for case in cases for answer in case.in_order()] if warnings else []
+    for warning in warnings:
+        if warning.entry is None:
+            note(f"{cases[0].node.found.file}: {warning.text}")
+        elif not expects_error(answers[warning.entry]):
+            note(f"{answers[warning.entry].node.where}: {warning.found}; expected {warning.expected}")
+
+
+def outcomes_of_part(engine, subject, cases):
+    """The outcome of each case of a part; where their document is refused each has one of its own."""
+    document = document_of(subject, cases)
+    ended, refusal = answered(engine, ["run", "--plain", "--output", "json"], document)
+    if refusal is None:
+        note_warnings(cases, warnings_in(ended.stderr))
+        return [Outcome(run, None) for run in checked(document, ended.stdout, "document", "report")]
+    if len(cases) == 1:
+        return [Outcome(None, refusal)]
+    return [outcome for case in cases for outcome in outcomes_of_part(engine, subject, [case])]
+
+
+def outcomes_of(engine, subject, cases):
+    """Each case with its outcome."""
+    first_size = len(json.dumps([subject.template, subject.shapes])) + 1024
+    for part in parts_of(cases, first_size):
+        yield from zip(part, outcomes_of_part(engine, subject, part))
