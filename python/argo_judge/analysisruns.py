@@ -1,10 +1,15 @@
 """AnalysisRuns of Argo Rollouts as documents of argo_judge."""
+from argparse import ArgumentParser, Namespace
+from collections.abc import Mapping, Sequence
+from dataclasses import dataclass
+from typing import NamedTuple
+
 from argo_judge.cuts import note_cuts
 from argo_judge.documents import document
 from argo_judge.dryruns import with_marked, with_other_dry_names
 from argo_judge.errors import Refused
 from argo_judge.notes import note
-from argo_judge.objects import member, objects, shown
+from argo_judge.objects import Json, Object, member, objects, shown
 from argo_judge.options import add_shapes_flag
 from argo_judge.ordering import ordered
 from argo_judge.providers import answered
@@ -13,11 +18,29 @@ from argo_judge.shapes import shapes_of
 from argo_judge.templates import API_VERSION, arguments_of, is_job, values_of
 
 
-def template_of(run):
+@dataclass(frozen=True)
+class Flags:
+    """What making a document takes of a command line: the path of shapes, and whether a run may lack measurements."""
+
+    shapes: str | None
+    partial: bool = False
+
+
+class Measured(NamedTuple):
+    """A measurement that ended: its metric's name, its own object, and what its provider answered."""
+
+    metric: str
+    measurement: Object
+    answer: Object
+
+
+def template_of(run: Object) -> Object:
     """The template that an AnalysisRun was made of: its own metrics and arguments."""
     spec = {"metrics": objects(member(run, "spec", "metrics"))}
-    args = [{name: arg[name] for name in ("name", "value") if member(arg, name) is not None}
-            for arg in objects(member(run, "spec", "args"))]
+    args = [
+        {name: arg[name] for name in ("name", "value") if member(arg, name) is not None}
+        for arg in objects(member(run, "spec", "args"))
+    ]
     if args:
         spec["args"] = args
     for name in ("dryRun", "measurementRetention"):
@@ -29,7 +52,7 @@ def template_of(run):
     return {"apiVersion": API_VERSION, "kind": "AnalysisTemplate", "metadata": metadata, "spec": spec}
 
 
-def answer_of(measurement, metric):
+def answer_of(measurement: Object, metric: Object | None) -> Object:
     """What a measurement's provider answered: an error, or a value."""
     if measurement.get("phase") == "Error":
         return {"error": member(measurement, "message", default="")}
@@ -40,28 +63,37 @@ def answer_of(measurement, metric):
     return {"value": None}
 
 
-def measurements_of(run):
+def measurements_of(run: Json) -> list[Measured]:
     """The measurements that ended, each with its metric's name and its own object, in the order of a document."""
     metrics = {shown(member(metric, "name")): metric for metric in objects(member(run, "spec", "metrics"))}
-    return [(name, one, answer_of(one, metrics.get(shown(name)))) for name, one in ordered(run)]
+    return [Measured(name, one, answer_of(one, metrics.get(shown(name)))) for name, one in ordered(run)]
 
 
-def checked_run(run):
+def checked_run(run: Json) -> Object:
     if member(run, "kind") != "AnalysisRun":
         raise Refused("input: expected an AnalysisRun, as `kubectl get analysisrun NAME -o json` prints it")
     if not isinstance(member(run, "metadata", "name"), str):
         raise Refused("input: expected an AnalysisRun with a name")
-    return run
+    found: Object = run
+    return found
 
 
-def add_flags(parser):
+def add_flags(parser: ArgumentParser) -> None:
     """What each recipe takes that reads an AnalysisRun."""
     add_shapes_flag(parser)
-    parser.add_argument("--partial", action="store_true", help="take a run that lacks measurements by the controller's "
-                        "counts, which is refused otherwise")
+    parser.add_argument(
+        "--partial",
+        action="store_true",
+        help="take a run that lacks measurements by the controller's " "counts, which is refused otherwise",
+    )
 
 
-def arguments_of_run(run, template, given):
+def flags_of(words: Namespace) -> Flags:
+    """What a command line has of them."""
+    return Flags(words.shapes, words.partial)
+
+
+def arguments_of_run(run: Object, template: Object, given: Mapping[str, str]) -> dict[str, str]:
     """A run's arguments: its own values, over which those of a template in the place of its own win, and over these the
     given ones. Where a value of such a template differs from the run's, a line says so."""
     own, other = values_of(member(run, "spec", "args")), values_of(member(template, "spec", "args"))
@@ -71,18 +103,20 @@ def arguments_of_run(run, template, given):
     return {**own, **other, **given}
 
 
-def document_of(run, words, template=None, given=()):
+def document_of(
+    run: Json, flags: Flags, template: Object | None = None, given: Sequence[str] = ()
+) -> tuple[Object, list[Measured]]:
     """The document of an AnalysisRun, by its own template or another, with its own arguments and given ones, and its
     measurements in the order of the document's entries."""
     run = checked_run(run)
-    check_history(run, words.partial)
+    check_history(run, flags.partial)
     name = run["metadata"]["name"]
     template = with_marked(template_of(run), run) if template is None else with_other_dry_names(template, run)
     args = arguments_of_run(run, template, arguments_of(template, given))
     found = measurements_of(run)
-    entries = [{"run": name, "metric": metric, **answer} for metric, _, answer in found]
+    entries = [{"run": name, "metric": one.metric, **one.answer} for one in found]
     if member(run, "spec", "terminate") is True:
         entries.append({"run": name, "stop": True})
-    made = document(template, shapes_of(template, words.shapes, run), name, args, entries)
+    made = document(template, shapes_of(template, flags.shapes, run), name, args, entries)
     note_cuts(made)
     return made, found

@@ -8,17 +8,20 @@ infinities are errors, a value that doesn't fit its shape is an error, and integ
 (docs/use/language.md, "Where this differs"); and results that come late change nothing. The engine's warnings are lines
 on standard error.
 """
-from argo_judge.analysisruns import add_flags, document_of
+from collections.abc import Iterator, Sequence
+from typing import NamedTuple
+
+from argo_judge.analysisruns import Measured, add_flags, document_of, flags_of
 from argo_judge.engine.program import judged
 from argo_judge.engine.refusals import hand_on, said_in
-from argo_judge.engine.reports import checked, effect_text, verdict_text
+from argo_judge.engine.reports import RunReport, checked, effect_text, verdict_text
 from argo_judge.errors import Refused
 from argo_judge.files import read_json
-from argo_judge.objects import member, objects
+from argo_judge.objects import Object, member, objects, shown
 from argo_judge.options import add_engine_flag, command_line
 
 
-def report_of(engine, made):
+def report_of(engine: str, made: Object) -> RunReport:
     """What the engine reports of a document's one run."""
     ended = judged(engine, ["run", "--plain", "--output", "json"], made)
     if ended.returncode not in (0, 1):
@@ -27,31 +30,43 @@ def report_of(engine, made):
     return checked(made, ended.stdout, "document", "report")[0]
 
 
-def main():
+class Compared(NamedTuple):
+    """What has a phase by the controller and one by the engine, and what the engine says of it."""
+
+    what: str
+    controller: str
+    engine: str | None
+    said: str
+
+
+def compared_in(run: Object, found: Sequence[Measured], report: RunReport) -> Iterator[Compared]:
+    """Each measurement, each metric and the run, where the controller gave it a phase."""
+    events = {event["number"]: event for event in report["events"]}
+    for number, one in enumerate(found):
+        event = events[number]
+        said = f"{verdict_text(event)} {effect_text(event)}"
+        yield Compared(f"measurement {number} {one.metric}", one.measurement["phase"], event["verdict"], said)
+    results = objects(member(run, "status", "metricResults"))
+    theirs = {shown(member(result, "name")): member(result, "phase") for result in results}
+    pairs = [(f"metric {own['name']}", theirs.get(shown(own["name"])), own["phase"]) for own in report["metrics"]]
+    pairs.append((f"run {run['metadata']['name']}", member(run, "status", "phase"), report["phase"]))
+    yield from (Compared(what, their, ours, ours) for what, their, ours in pairs if their is not None)
+
+
+def main() -> int:
+    """The command."""
     parser = command_line(__doc__)
     add_flags(parser)
     add_engine_flag(parser)
-    parser.add_argument("run", nargs="?", default="-", metavar="FILE", help="the AnalysisRun; standard input without it")
+    parser.add_argument(
+        "run", nargs="?", default="-", metavar="FILE", help="the AnalysisRun; standard input without it"
+    )
     words = parser.parse_args()
     run = read_json(words.run, "input")
-    made, found = document_of(run, words)
-    report = report_of(words.engine, made)
-    events = {event["number"]: event for event in report["events"]}
-    differing, compared = 0, 0
-    for number, (name, measurement, _) in enumerate(found):
-        phase, event = measurement["phase"], events[number]
-        compared += 1
-        if event["verdict"] != phase:
-            differing += 1
-            print(f"measurement {number} {name}: the controller {phase}, argo_judge {verdict_text(event)} {effect_text(event)}")
-    theirs = {member(result, "name"): member(result, "phase") for result in objects(member(run, "status", "metricResults"))}
-    pairs = [(f"metric {own['name']}", theirs.get(own["name"]), own["phase"]) for own in report["metrics"]]
-    pairs.append((f"run {run['metadata']['name']}", member(run, "status", "phase"), report["phase"]))
-    for what, their, ours in pairs:
-        if their is not None:
-            compared += 1
-            if their != ours:
-                differing += 1
-                print(f"{what}: the controller {their}, argo_judge {ours}")
-    print(f"{compared} phases compared, {differing} differ")
+    made, found = document_of(run, flags_of(words))
+    compared = list(compared_in(run, found, report_of(words.engine, made)))
+    differing = [one for one in compared if one.controller != one.engine]
+    for one in differing:
+        print(f"{one.what}: the controller {one.controller}, argo_judge {one.said}")
+    print(f"{len(compared)} phases compared, {len(differing)} differ")
     return 1 if differing else 0

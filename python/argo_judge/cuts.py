@@ -2,12 +2,13 @@
 metric's conditions than what was measured does."""
 import json
 import re
+from collections.abc import Iterable, Iterator, Sequence
 from fractions import Fraction
 
 from argo_judge.decimals import fits, is_decimal, millionths, number_of
-from argo_judge.literals import bound, compares_otherwise, literals_of
+from argo_judge.literals import Literal, bound, compares_otherwise, literals_of
 from argo_judge.notes import note
-from argo_judge.objects import member, objects, shown
+from argo_judge.objects import Json, Object, member, objects, shown
 from argo_judge.templates import metrics_of, values_of
 
 # A decimal may have more than six places where it looks so.
@@ -15,7 +16,7 @@ FINE = re.compile(r"\.\d{7}|[eE]-")
 MOST_LINES = 8
 
 
-def decimals_of(value, shape):
+def decimals_of(value: Json, shape: Json) -> Iterator[str]:
     """The texts in a value that its shape has as decimals."""
     if shape == "decimal":
         if isinstance(value, str) and FINE.search(value) and is_decimal(value):
@@ -30,7 +31,7 @@ def decimals_of(value, shape):
             yield from decimals_of(value.get(name), field)
 
 
-def difference(texts, literals):
+def difference(texts: Iterable[str], literals: Sequence[Literal]) -> str | None:
     """The first of decimal texts that compares otherwise once it is cut, as a line says it."""
     for text in texts:
         number = number_of(text)
@@ -43,11 +44,11 @@ def difference(texts, literals):
     return None
 
 
-def texts_in(args):
+def texts_in(args: Json) -> dict[str, str]:
     return {name: value for name, value in args.items() if isinstance(value, str)} if isinstance(args, dict) else {}
 
 
-def literals_by_metric(document):
+def literals_by_metric(document: Object) -> dict[str, list[Literal]]:
     """The literals of each metric's conditions for each run, by the names of both."""
     template, found = document["manifest"], {}
     for run in objects(document["runs"]):
@@ -60,7 +61,7 @@ def literals_by_metric(document):
     return found
 
 
-def lines_of(document):
+def lines_of(document: Object) -> Iterator[str]:
     literals = literals_by_metric(document)
     for place, entry in enumerate(document["measurements"]):
         run, metric = member(entry, "run"), member(entry, "metric")
@@ -71,7 +72,7 @@ def lines_of(document):
                 yield f"measurement {place} of metric {shown(metric)}: {line}"
 
 
-def note_cuts(document):
+def note_cuts(document: Object) -> None:
     """Reports the measurements that compare otherwise once they are cut, of which the first few are enough."""
     lines = list(lines_of(document))
     for line in lines[:MOST_LINES]:

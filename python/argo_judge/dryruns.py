@@ -6,10 +6,13 @@ marks the metrics that are dry in `status.metricResults`. argo_judge takes a met
 import re
 import signal
 import warnings
+from collections.abc import Collection, Sequence
+from types import FrameType
+from typing import NoReturn
 
 from argo_judge.errors import Refused
 from argo_judge.notes import note
-from argo_judge.objects import listed, member, objects, shown
+from argo_judge.objects import Json, Object, listed, member, objects, shown
 from argo_judge.templates import metric_names
 
 ALL = ".*"
@@ -20,7 +23,7 @@ SLOW = "takes too long to match"
 ONLY_PYTHON = re.compile(r"\(\?[=!<>(]|\\[1-9Z]|[*+?}]\+")
 
 
-def compiled(pattern, where):
+def compiled(pattern: str, where: str) -> re.Pattern[str]:
     try:
         with warnings.catch_warnings():
             warnings.simplefilter("ignore")
@@ -32,11 +35,11 @@ def compiled(pattern, where):
     return found
 
 
-def out_of_time(_signal, _frame):
+def out_of_time(_signal: int, _frame: FrameType | None) -> NoReturn:
     raise TimeoutError
 
 
-def matched_names(pattern, names, where):
+def matched_names(pattern: str, names: Sequence[str], where: str) -> list[str]:
     """The names that a regular expression matches. One that takes longer than a second is refused: Python tries an
     expression's ways one by one, and the controller doesn't."""
     if len(pattern) > LONGEST:
@@ -53,7 +56,7 @@ def matched_names(pattern, names, where):
         signal.signal(signal.SIGALRM, before)
 
 
-def matched(pattern, names, place):
+def matched(pattern: str, names: Sequence[str], place: int) -> list[str]:
     """The names that a name of `spec.dryRun` matches."""
     where = f"spec.dryRun[{place}].metricName"
     found = matched_names(pattern, names, where)
@@ -62,14 +65,14 @@ def matched(pattern, names, place):
     return found
 
 
-def patterns_of(template):
+def patterns_of(template: Json) -> list[str] | None:
     """The names of a template's `spec.dryRun`; None where argo_judge refuses them."""
     rules = member(template, "spec", "dryRun", default=[])
     patterns = [member(rule, "metricName") for rule in rules] if isinstance(rules, list) else [None]
     return patterns if all(isinstance(pattern, str) and pattern for pattern in patterns) else None
 
 
-def by_patterns(patterns, names, is_noted=True):
+def by_patterns(patterns: Sequence[str], names: Sequence[str], is_noted: bool = True) -> set[str]:
     """The names that regular expressions make dry. Each that doesn't match just the metric of its name is
     reported, where notes are wanted."""
     dry = set()
@@ -81,14 +84,14 @@ def by_patterns(patterns, names, is_noted=True):
     return dry
 
 
-def with_dry(template, dry):
+def with_dry(template: Object, dry: Collection[str]) -> Object:
     """A template whose dry metrics are those of these names."""
     rules = [{"metricName": name} for name in metric_names(template) if name in dry]
     spec = {name: value for name, value in template["spec"].items() if name != "dryRun"}
     return {**template, "spec": {**spec, "dryRun": rules} if rules else spec}
 
 
-def with_dry_names(template, is_noted=True):
+def with_dry_names(template: Object, is_noted: bool = True) -> Object:
     """A template whose `spec.dryRun` has whole names, or is as it was where argo_judge reads it alike or refuses it."""
     patterns, names = patterns_of(template), metric_names(template)
     if not patterns or not names or set(patterns) == {ALL}:
@@ -98,14 +101,15 @@ def with_dry_names(template, is_noted=True):
 
 # ---- the marks of a run
 
-def marks_of(run):
+
+def marks_of(run: Json) -> dict[str, bool]:
     """Whether a metric is dry, of each that has a result."""
     results = objects(member(run, "status", "metricResults"))
     named = [result for result in results if isinstance(member(result, "name"), str)]
     return {result["name"]: member(result, "dryRun") is True for result in named}
 
 
-def with_marked(template, run):
+def with_marked(template: Object, run: Object) -> Object:
     """A run's own template, whose dry metrics are those that the controller marked, and of those without a result the
     ones that `spec.dryRun` matches."""
     marks, names = marks_of(run), metric_names(template)
@@ -116,9 +120,9 @@ def with_marked(template, run):
     return with_dry(template, [name for name in names if marks.get(name, name in dry)])
 
 
-def with_other_dry_names(template, run):
-    """A template that takes the place of a run's own, with whole names; what is dry by it alone, or by the run alone, is
-    reported."""
+def with_other_dry_names(template: Object, run: Object) -> Object:
+    """A template that takes the place of a run's own, with whole names; what is dry by it alone, or by the run alone,
+    is reported."""
     template, marks = with_dry_names(template), marks_of(run)
     dry = patterns_of(template) or []
     for name in metric_names(template):

@@ -23,7 +23,7 @@ from argo_judge.notes import say
 from argo_judge.options import add_engine_flag, command_line
 
 
-def show_warnings(errors, are_allowed):
+def show_warnings(errors: str, are_allowed: bool) -> None:
     """Shows the warnings of a document, and refuses it where it has some that aren't allowed."""
     warnings = warnings_in(errors)
     for warning in warnings:
@@ -32,7 +32,7 @@ def show_warnings(errors, are_allowed):
         raise Refused("the document has warnings; expected none, or --allow-warnings")
 
 
-def made_report(engine, document, are_allowed):
+def made_report(engine: str, document: bytes, are_allowed: bool) -> tuple[str, bool]:
     """The report that the engine makes of a document, and whether it found each run good."""
     ended = judged_bytes(engine, ["run", "--ordered", "--output", "json"], document)
     errors = ended.stderr.decode("utf-8", "replace")
@@ -43,7 +43,7 @@ def made_report(engine, document, are_allowed):
     return ended.stdout.decode("utf-8", "replace"), ended.returncode == 0
 
 
-def main():
+def main() -> int:
     parser = command_line(__doc__)
     parser.add_argument("--document", dest="of_report", metavar="DOCUMENT", help="that of the report on standard input")
     add_engine_flag(parser)

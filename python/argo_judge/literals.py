@@ -1,17 +1,21 @@
 """The numbers in a condition, with which measured numbers are compared."""
 import re
-from collections import namedtuple
+from collections.abc import Iterable, Iterator, Mapping, Sequence
+from dataclasses import dataclass
 from fractions import Fraction
 from operator import eq, ge, gt, le, lt, ne
 
 ARGUMENT = re.compile(r"\{\{ *args\.(.*?) *\}\}", re.DOTALL)
-TOKEN = re.compile(r"""
+TOKEN = re.compile(
+    r"""
     (?P<blank> \s+ | //[^\n]* | /\*.*?\*/ )
   | (?P<text> "(?:[^"\\]|\\.)*" | '(?:[^'\\]|\\.)*' )
   | (?P<number> 0x[0-9a-fA-F]+ | 0o[0-7]+ | 0b[01]+ | \d+\.\d+ | \d+ | \.\d+ )
   | (?P<word> [A-Za-z_]\w* )
   | (?P<sign> [=!<>]= | && | \|\| | . )
-""", re.VERBOSE | re.DOTALL | re.ASCII)
+""",
+    re.VERBOSE | re.DOTALL | re.ASCII,
+)
 OPERATORS = ("in", "not", "and", "or", "contains", "startsWith", "endsWith")
 COMPARISONS = {"<": lt, "<=": le, ">": gt, ">=": ge, "==": eq, "!=": ne}
 MIRRORED = {"<": ">", "<=": ">=", ">": "<", ">=": "<=", "==": "==", "!=": "!="}
@@ -20,27 +24,36 @@ ARITHMETIC = ("+", "-", "*", "/", "%")
 NOTHING_LEFT = ("", "(", "[", "{", ",", "?", ":", "!", "&&", "||", *ARITHMETIC, *OPERATORS)
 SIZES = ("len", "count")
 
-# A number, the comparison whose right operand it is (any where there is none), the text that writes it, where its
-# digits begin and end, and whether it is compared with a list's length or a count of its items.
-Literal = namedtuple("Literal", "number comparison written start end is_size")
+
+@dataclass(frozen=True)
+class Literal:
+    """A number, the comparison whose right operand it is (any where there is none), the text that writes it, where its
+    digits begin and end, and whether it is compared with a list's length or a count of its items."""
+
+    number: Fraction
+    comparison: str
+    written: str
+    start: int
+    end: int
+    is_size: bool
 
 
-def compares_otherwise(literal, measured, cut):
+def compares_otherwise(literal: Literal, measured: Fraction, cut: Fraction) -> bool:
     """Whether one number compares with a literal otherwise than another does."""
     tests = [COMPARISONS[literal.comparison]] if literal.comparison else [lt, gt]
     return any(test(measured, literal.number) != test(cut, literal.number) for test in tests)
 
 
-def bound(condition, args):
+def bound(condition: str, args: Mapping[str, str]) -> str:
     """A condition with its arguments' values."""
     return ARGUMENT.sub(lambda found: args.get(found[1], ""), condition)
 
 
-def number_of_literal(text):
+def number_of_literal(text: str) -> Fraction:
     return Fraction(int(text, 0) if text[:2] in ("0x", "0o", "0b") else text)
 
 
-def openers(tokens):
+def openers(tokens: Iterable[tuple[str, str]]) -> Iterator[str]:
     """For each token what the innermost bracket around it belongs to: the word before it, `index`, or nothing; of one
     that closes, that of its own bracket."""
     opened, is_operand, before = [], False, ""
@@ -54,7 +67,7 @@ def openers(tokens):
         before = text
 
 
-def sides(texts, place):
+def sides(texts: Sequence[str], place: int) -> tuple[int, str, str]:
     """What is left and right of a number, and its sign; a minus between two operands is no sign."""
     left, right = texts[place - 1], texts[place + 1]
     if left == "-" and (texts[place - 2] in COMPARISONS or texts[place - 2] in NOTHING_LEFT):
@@ -62,17 +75,17 @@ def sides(texts, place):
     return place - 1, "", right
 
 
-def is_of_size(texts, inside, place, at):
+def is_of_size(texts: Sequence[str], inside: Sequence[str], place: int, at: int) -> bool:
     """Whether a number is compared with a list's length or a count of items, left of it (at `at`) or right of it."""
     is_left = texts[at] in COMPARISONS and texts[at - 1] == ")" and inside[at - 1] in SIZES
     return is_left or texts[place + 1] in COMPARISONS and texts[place + 2] in SIZES
 
 
-def numbers_of(condition):
+def numbers_of(condition: str) -> Iterator[Literal]:
     """The numbers of a bound condition: no index and no default."""
     found = [one for one in TOKEN.finditer(condition) if one.lastgroup != "blank"]
     # Left and right of a number there may be nothing.
-    tokens = [("", ""), ("", ""), *((one.lastgroup, one[0]) for one in found), ("", ""), ("", "")]
+    tokens = [("", ""), ("", ""), *((one.lastgroup or "", one[0]) for one in found), ("", ""), ("", "")]
     texts, inside = [text for _, text in tokens], list(openers(tokens))
     for place, (kind, text) in enumerate(tokens):
         if kind != "number" or inside[place] == "index":
@@ -83,11 +96,17 @@ def numbers_of(condition):
             continue
         comparison = left if left in COMPARISONS else "" if left in ARITHMETIC else MIRRORED.get(right, "")
         number, token = number_of_literal(text), found[place - 2]
-        yield Literal(-number if minus else number, comparison, minus + text, token.start(), token.end(),
-                      is_of_size(texts, inside, place, at))
+        yield Literal(
+            -number if minus else number,
+            comparison,
+            minus + text,
+            token.start(),
+            token.end(),
+            is_of_size(texts, inside, place, at),
+        )
 
 
-def literals_of(condition):
+def literals_of(condition: str) -> Iterator[Literal]:
     """The numbers of a bound condition that a measured number may be compared with: no index, no default, and none that
     is compared with a list's length."""
     return (literal for literal in numbers_of(condition) if not literal.is_size)

@@ -19,6 +19,7 @@ JSON_WORD = re.compile(rf"null|true|false|{JSON_FRACTION.pattern}", re.ASCII)
 @dataclass(frozen=True)
 class Found:
     """An object, the file that has it, its JSON pointer there, and the lines of its values, by pointers in it."""
+
     value: Json
     file: str
     pointer: str
@@ -55,20 +56,26 @@ def items_of(value: Json, lines: Lines) -> list[tuple[Json, str, Lines]]:
     for pointer, line in lines.items():
         _, name, place, _ = (pointer + "///").split("/", 3)
         if name == "items" and place.isdecimal():
-            own[int(place)][pointer[len(pointer_to(name, place)):]] = line
+            own[int(place)][pointer[len(pointer_to(name, place)) :]] = line
     return [(item, pointer_to("items", place), own[place]) for place, item in enumerate(items)]
 
 
 def objects_of(path: str, where: str) -> list[Found]:
     """The objects of a file."""
-    return [Found(item, path, pointer, own)
-            for value, lines in documents_of(path, where) for item, pointer, own in items_of(value, lines)]
+    return [
+        Found(item, path, pointer, own)
+        for value, lines in documents_of(path, where)
+        for item, pointer, own in items_of(value, lines)
+    ]
 
 
 def objects_in(text: str, where: str) -> list[Found]:
     """The objects of a text of JSON."""
-    return [Found(item, where, pointer, own)
-            for value in parsed_all(text, where) for item, pointer, own in items_of(value, {})]
+    return [
+        Found(item, where, pointer, own)
+        for value in parsed_all(text, where)
+        for item, pointer, own in items_of(value, {})
+    ]
 
 
 def files_in(paths: Iterable[str]) -> Iterator[str]:
@@ -79,8 +86,11 @@ def files_in(paths: Iterable[str]) -> Iterator[str]:
             continue
         for folder, folders, files in os.walk(path):
             folders[:] = sorted(name for name in folders if not name.startswith("."))
-            yield from (os.path.join(folder, name) for name in sorted(files)
-                        if name.endswith(SUFFIXES) and not name.startswith("."))
+            yield from (
+                os.path.join(folder, name)
+                for name in sorted(files)
+                if name.endswith(SUFFIXES) and not name.startswith(".")
+            )
 
 
 def found_in(paths: Iterable[str]) -> list[Found]:

@@ -1,10 +1,13 @@
 """Command lines, and the flags that several commands take."""
 import argparse
-from typing import Any, NoReturn
+from typing import Any, NoReturn, TypeAlias
 
 from argo_judge.engine.program import ENGINE
 from argo_judge.errors import Refused
 from argo_judge.places import engine_help
+
+# What adds commands to a command line.
+Commands: TypeAlias = "argparse._SubParsersAction[CommandLine]"
 
 
 class CommandLine(argparse.ArgumentParser):
@@ -32,6 +35,9 @@ def add_shapes_flag(parser: argparse.ArgumentParser) -> None:
 def add_arg_flag(parser: argparse.ArgumentParser) -> None:
     """The flag that gives an argument of the run."""
     parser.add_argument(
-        "--arg", action="append", default=[], metavar="NAME=VALUE",
+        "--arg",
+        action="append",
+        default=[],
+        metavar="NAME=VALUE",
         help="an argument of the run, which wins over each other value that it has; may be given several times",
     )

@@ -6,28 +6,37 @@ import re
 
 from argo_judge.jsontext import measured
 from argo_judge.notes import note
-from argo_judge.objects import member, shown
+from argo_judge.objects import Json, member, shown
 
 # Providers that answer numbers, or JSON; of others a text may be meant.
-NO_TEXTS = ("cloudWatch", "datadog", "graphite", "influxdb", "kayenta", "newRelic", "prometheus", "skywalking",
-            "wavefront")
+NO_TEXTS = (
+    "cloudWatch",
+    "datadog",
+    "graphite",
+    "influxdb",
+    "kayenta",
+    "newRelic",
+    "prometheus",
+    "skywalking",
+    "wavefront",
+)
 NUMBER = re.compile(r"[+-]?\d+(\.\d+)?([eE][+-]?\d+)?|NaN|[+-]Inf", re.ASCII)
 # Items of a list as Go prints them, by the value that they are.
 WORDS = {"<nil>": None, "true": True, "false": False}
 
 
-def first(value):
+def first(value: Json) -> Json:
     return value[0] if isinstance(value, list) and value else None
 
 
-def is_empty_of_datadog(value):
+def is_empty_of_datadog(value: Json) -> bool:
     """Whether Datadog answered no value: no series or none with points, or (v2) no column or none with values."""
     if isinstance(value, dict):
         return "columns" in value and first(member(first(value["columns"]), "values")) is None
     return value == [] or isinstance(value[0], dict) and first(member(value[0], "pointlist")) is None
 
 
-def printed_by_go(text):
+def printed_by_go(text: str) -> list[Json] | None:
     """The items of a list that Go printed, with spaces between them; None where one isn't known."""
     items = text[1:-1].split(" ") if text[:1] == "[" and text[-1:] == "]" else [""]
     if not all(item in WORDS or NUMBER.fullmatch(item) for item in items):
@@ -35,7 +44,7 @@ def printed_by_go(text):
     return [WORDS[item] if item in WORDS else measured(item) for item in items]
 
 
-def known(provider, text):
+def known(provider: str | None, text: str) -> list[Json]:
     """The value that a provider's answer is, in a list of its own; none where its form isn't known."""
     value = measured(text)
     if provider == "datadog" and isinstance(value, (list, dict)):
@@ -46,7 +55,7 @@ def known(provider, text):
     return [] if items is None else [items]
 
 
-def answered(metric, text):
+def answered(metric: Json, text: str) -> Json:
     """The value that a metric's conditions saw of the answer that is stored as this text."""
     provider = next((name for name in NO_TEXTS if member(metric, "provider", name) is not None), None)
     for value in known(provider, text):

@@ -3,16 +3,18 @@
 A controller keeps the last measurements of a metric alone (10, or as `measurementRetention` says), and counts next to
 them in `status.metricResults`. A count that it leaves out is 0.
 """
+from collections.abc import Mapping
+
 from argo_judge.errors import Refused
 from argo_judge.notes import note
-from argo_judge.objects import member, objects, shown
+from argo_judge.objects import Json, Object, member, objects, shown
 
 # The counts of a result, by the phase that a measurement has.
 COUNTS = {"successful": "Successful", "failed": "Failed", "inconclusive": "Inconclusive", "error": "Error"}
 MOST = 2**31 - 1
 
 
-def count_of(result, name):
+def count_of(result: Object, name: str) -> int:
     count = member(result, name, default=0)
     if isinstance(count, bool) or not isinstance(count, int) or not 0 <= count <= MOST:
         metric = shown(member(result, "name"))
@@ -20,7 +22,7 @@ def count_of(result, name):
     return count
 
 
-def lacking(result):
+def lacking(result: Object) -> dict[str, int]:
     """How many measurements were counted and aren't there, by the name of the count. Below 0 are those that are there
     and weren't counted."""
     phases = [member(one, "phase") for one in objects(member(result, "measurements"))]
@@ -31,13 +33,13 @@ def lacking(result):
     return {name: number for name, number in lacks.items() if number}
 
 
-def in_words(what, numbers):
+def in_words(what: str, numbers: Mapping[str, int]) -> list[str]:
     """What is said of counts that differ; nothing where there are none."""
     counts = ", ".join(f"{number} {name}".strip() for name, number in numbers.items())
     return [f"{what} ({counts})"] if counts else []
 
 
-def difference(result):
+def difference(result: Object) -> str:
     """What a metric's measurements and its counts say differently, if they do."""
     lacks = lacking(result)
     gone = {name: number for name, number in lacks.items() if number > 0}
@@ -45,7 +47,7 @@ def difference(result):
     return " and ".join(in_words("lacks measurements", gone) + in_words("has measurements too many", more))
 
 
-def check_history(run, is_partial):
+def check_history(run: Json, is_partial: bool) -> None:
     """Refuses a run whose measurements aren't all there; of one that may be partial a line says so."""
     for result in objects(member(run, "status", "metricResults")):
         if found := difference(result):

@@ -21,6 +21,7 @@ def read_template(path: str) -> Object:
 
 # ---- metrics
 
+
 def metrics_of(template: Json) -> list[Object]:
     """The metrics of a template that are objects."""
     return objects(member(template, "spec", "metrics"))
@@ -54,6 +55,7 @@ def thresholds_of(metric: Json) -> list[Json] | None:
 
 # ---- arguments
 
+
 def arguments_of(template: Json, words: Sequence[str]) -> dict[str, str]:
     """Arguments given as texts NAME=VALUE, each of which the template has."""
     names = [arg["name"] for arg in objects(member(template, "spec", "args")) if isinstance(member(arg, "name"), str)]
@@ -68,5 +70,8 @@ def arguments_of(template: Json, words: Sequence[str]) -> dict[str, str]:
 
 def values_of(args: Json) -> dict[str, str]:
     """The values of arguments, as templates and runs list them; one from a secret has none."""
-    return {arg["name"]: arg["value"] for arg in objects(args)
-            if isinstance(member(arg, "name"), str) and isinstance(member(arg, "value"), str)}
+    return {
+        arg["name"]: arg["value"]
+        for arg in objects(args)
+        if isinstance(member(arg, "name"), str) and isinstance(member(arg, "value"), str)
+    }

@@ -14,9 +14,13 @@ from argo_judge.objects import Json, shown
 from argo_judge.pointers import pointer_to
 
 try:
-    import yaml
+    import yaml as pyyaml
 except ImportError:
-    yaml = None
+    pyyaml = None  # type: ignore[assignment]
+
+# PyYAML or its values, or None where it isn't installed.
+Yaml: TypeAlias = Any
+yaml: Yaml = pyyaml
 
 # An empty patch of what a file has: no cluster is asked.
 BY_KUBECTL = ["kubectl", "patch", "--local", "--type=merge", "-p", "{}", "-o", "json", "-f"]
@@ -33,8 +37,6 @@ FRACTION = re.compile(r"[+-]?(\.[0-9]+|[0-9]+(\.[0-9]*)?)([eE][+-]?[0-9]+)?", re
 JSON_FRACTION = re.compile(r"-?(0|[1-9][0-9]*)(\.[0-9]+)?([eE][+-]?[0-9]+)?", re.ASCII)
 NOT_FINITE = re.compile(r"[+-]?\.(inf|Inf|INF)|\.(nan|NaN|NAN)")
 
-# A node of PyYAML, which may not be installed.
-Yaml: TypeAlias = Any
 # The lines of a document's values, by their pointers.
 Lines: TypeAlias = dict[str, int]
 
@@ -45,6 +47,7 @@ def is_read() -> bool:
 
 
 # ---- scalars
+
 
 def fraction(text: str) -> NumberText:
     """A fraction as JSON writes it, by its own digits where JSON has that form."""
@@ -91,8 +94,10 @@ class Reader:
         if isinstance(node, yaml.MappingNode):
             return self.mapping(node, pointer)
         if isinstance(node, yaml.SequenceNode):
-            return [self.value(item, pointer + pointer_to(place), item.start_mark.line + 1)
-                    for place, item in enumerate(node.value)]
+            return [
+                self.value(item, pointer + pointer_to(place), item.start_mark.line + 1)
+                for place, item in enumerate(node.value)
+            ]
         return self.scalar(node, f"{self.where}, line {node.start_mark.line + 1}")
 
     def scalar(self, node: Yaml, at: str) -> Json:

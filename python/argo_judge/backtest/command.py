@@ -13,27 +13,35 @@ reason in a line, where it hasn't ended, lacks measurements by the controller's 
 A run that ended early has no later measurements: where the other template would have gone on, its phase is Running, and
 it counts as undecided. Status 0 where no run flips, 1 where one does, 2 where no run could be judged.
 """
+from argparse import ArgumentParser, Namespace
+from collections.abc import Callable
+
+from argo_judge.analysisruns import Flags
 from argo_judge.backtest.outcomes import result_of
 from argo_judge.backtest.outputs import write_result
-from argo_judge.backtest.runs import Flags, judgements_of, runs_in
-from argo_judge.backtest.sweeps import sweep_of
+from argo_judge.backtest.runs import judgements_of, runs_in
+from argo_judge.backtest.sweeps import Sweep, sweep_of
 from argo_judge.errors import Refused
 from argo_judge.manifests import found_in
-from argo_judge.objects import listed, member, objects, shown
+from argo_judge.objects import Object, listed, member, objects, shown
 from argo_judge.options import add_arg_flag, add_engine_flag, add_shapes_flag, command_line
 from argo_judge.templates import arguments_of, read_template
 
 
-def add_flags(parser):
+def add_flags(parser: ArgumentParser) -> None:
     add_arg_flag(parser)
     add_shapes_flag(parser)
     parser.add_argument("--sweep", metavar="NAME=FROM:TO:STEP", help="judge by these values of an argument, too")
-    parser.add_argument("--output", choices=("text", "json", "svg"), default="text",
-                        help="a table (the default), one JSON object, or a plot of --sweep")
+    parser.add_argument(
+        "--output",
+        choices=("text", "json", "svg"),
+        default="text",
+        help="a table (the default), one JSON object, or a plot of --sweep",
+    )
     add_engine_flag(parser)
 
 
-def checked_sweep(words, template):
+def checked_sweep(words: Namespace, template: Object) -> Sweep | None:
     """The sweep of a command line, if it has one, of an argument that the template has."""
     if words.sweep is None:
         if words.output == "svg":
@@ -46,7 +54,7 @@ def checked_sweep(words, template):
     return sweep
 
 
-def backtest(words, template, read_runs):
+def backtest(words: Namespace, template: Object, read_runs: Callable[[], list[Object]]) -> int:
     """Judges runs by a template, and writes what it found; they are read once the words are checked."""
     sweep = checked_sweep(words, template)
     arguments_of(template, words.arg)
@@ -60,7 +68,7 @@ def backtest(words, template, read_runs):
     return 1 if any(one.flips for one in result.outcomes) else 0
 
 
-def main():
+def main() -> int:
     parser = command_line(__doc__)
     parser.add_argument("--template", metavar="FILE", required=True, help="the AnalysisTemplate that is tried")
     add_flags(parser)

@@ -1,5 +1,6 @@
 """The values of an argument from one number to another, and what each makes of the runs."""
 import re
+from collections.abc import Sequence
 from decimal import Decimal
 from typing import NamedTuple
 
@@ -16,25 +17,28 @@ UNDECIDED = ("Pending", "Running")
 
 
 class Sweep(NamedTuple):
+    """An argument, and the values that it gets."""
+
     argument: str
-    values: list
+    values: list[str]
 
 
 class Sums(NamedTuple):
     """How many runs ended so."""
+
     stopped: int
     inconclusive: int
     successful: int
     undecided: int
 
 
-def number_in(text):
+def number_in(text: str) -> Decimal:
     if not NUMBER.fullmatch(text):
         raise Refused(f"--sweep: {EXPECTED}; found {shown(text)} as a number")
     return Decimal(text)
 
 
-def sweep_of(word):
+def sweep_of(word: str) -> Sweep:
     """The sweep that a word of the command line is."""
     found = SWEEP.fullmatch(word)
     if not found:
@@ -48,7 +52,8 @@ def sweep_of(word):
     return Sweep(found[1], [format(first + step * place, "f") for place in range(times)])
 
 
-def sums_of(phases):
-    def times(*wanted):
+def sums_of(phases: Sequence[str]) -> Sums:
+    def times(*wanted: str) -> int:
         return sum(phase in wanted for phase in phases)
+
     return Sums(times(*STOPPED), times("Inconclusive"), times("Successful"), times(*UNDECIDED))

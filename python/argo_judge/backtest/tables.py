@@ -1,38 +1,44 @@
 """Results of a backtest as a table in text, or as one JSON object."""
-from argo_judge.backtest.outcomes import flips_of, why
-from argo_judge.backtest.sweeps import UNDECIDED
+from collections.abc import Iterator, Sequence
+
+from argo_judge.backtest.outcomes import Outcome, Result, flips_of, why
+from argo_judge.backtest.sweeps import UNDECIDED, Sweep
 from argo_judge.notes import one_line
+from argo_judge.objects import Object
 
 VERSION = 1
 HEADS = ("run", "controller", "own template", "this template", "what differs")
 
 
-def table(rows):
+def table(rows: Sequence[Sequence[str]]) -> list[str]:
     """Rows of texts in columns, of which the last isn't filled up."""
     widths = [max(map(len, column)) for column in zip(*rows)]
     widths[-1] = 0
     return [" ".join(cell.ljust(width) for cell, width in zip(row, widths)).rstrip() for row in rows]
 
 
-def rows_of_flips(outcomes):
+def rows_of_flips(outcomes: Sequence[Outcome]) -> Iterator[tuple[str, ...]]:
     for one in outcomes:
         if one.flips:
             differs = one_line("; ".join(why(one)))
             yield one_line(one.name), one.controller, one.own["phase"], one.other["phase"], differs
 
 
-def lines_of_flips(result):
+def lines_of_flips(result: Result) -> list[str]:
     rows = list(rows_of_flips(result.outcomes))
     return table([HEADS, *rows]) if rows else []
 
 
-def lines_of_differences(result):
+def lines_of_differences(result: Result) -> list[str]:
     """The runs that the engine judges otherwise than the controller did by the same template."""
-    return [f"{one_line(one.name)}: the controller {one.controller}, argo_judge {one.own['phase']} by its own template"
-            for one in result.outcomes if one.differs]
+    return [
+        f"{one_line(one.name)}: the controller {one.controller}, argo_judge {one.own['phase']} by its own template"
+        for one in result.outcomes
+        if one.differs
+    ]
 
 
-def sum_line(result):
+def sum_line(result: Result) -> str:
     judged = len(result.outcomes)
     flips = flips_of(result)
     times = ", ".join(f"{number} from {was} to {now}" for (was, now), number in sorted(flips.items()))
@@ -44,14 +50,14 @@ def sum_line(result):
     return "; ".join([found, *more])
 
 
-def lines_of_sweep(sweep, result):
+def lines_of_sweep(sweep: Sweep | None, result: Result) -> list[str]:
     if sweep is None:
         return []
     heads = (one_line(sweep.argument), "stopped", "inconclusive", "successful", "undecided")
     return ["", *table([heads, *[(value, *map(str, sums)) for value, sums in result.sweep]])]
 
 
-def text_of(result, sweep):
+def text_of(result: Result, sweep: Sweep | None) -> str:
     left_out = [f"left out: {one_line(one.name)}: {one_line(one.why)}" for one in result.left_out]
     lines = lines_of_flips(result) + lines_of_differences(result) + left_out + [sum_line(result)]
     return "".join(f"{line}\n" for line in lines + lines_of_sweep(sweep, result))
@@ -59,13 +65,20 @@ def text_of(result, sweep):
 
 # ---- JSON
 
-def run_object(one):
-    return {"name": one.name, "controller": one.controller, "flips": one.flips, "differs": one.differs,
-            "own": {"phase": one.own["phase"], "metrics": one.own["metrics"]},
-            "template": {"phase": one.other["phase"], "metrics": one.other["metrics"]}, "why": why(one)}
+
+def run_object(one: Outcome) -> Object:
+    return {
+        "name": one.name,
+        "controller": one.controller,
+        "flips": one.flips,
+        "differs": one.differs,
+        "own": {"phase": one.own["phase"], "metrics": one.own["metrics"]},
+        "template": {"phase": one.other["phase"], "metrics": one.other["metrics"]},
+        "why": why(one),
+    }
 
 
-def object_of(result, sweep):
+def object_of(result: Result, sweep: Sweep | None) -> Object:
     """The form is in docs/use/backtest.md."""
     found = {
         "version": VERSION,

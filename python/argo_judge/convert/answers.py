@@ -1,13 +1,15 @@
 """A provider's answers as measurements of a run: of a new document of a template, or of a document that is there."""
 import heapq
 import re
+from argparse import ArgumentParser, Namespace
+from collections.abc import Callable, Sequence
 
 from argo_judge.cuts import note_cuts
 from argo_judge.documents import document
 from argo_judge.dryruns import with_dry_names
 from argo_judge.errors import Refused
 from argo_judge.files import read_json
-from argo_judge.objects import listed, member, shown
+from argo_judge.objects import Json, Object, listed, member, shown
 from argo_judge.options import add_arg_flag, add_shapes_flag
 from argo_judge.shapes import shapes_in, shapes_of
 from argo_judge.templates import arguments_of, chosen_metric, read_template
@@ -15,7 +17,7 @@ from argo_judge.templates import arguments_of, chosen_metric, read_template
 TIME = re.compile(r"-?\d{1,18}(\.\d{1,18})?([eE][+-]?\d{1,2})?", re.ASCII)
 
 
-def add_flags(parser):
+def add_flags(parser: ArgumentParser) -> None:
     """What each recipe takes that reads a provider's answers."""
     flag = parser.add_argument
     flag("--template", metavar="FILE", help="the AnalysisTemplate, as kubectl prints it as JSON")
@@ -30,16 +32,18 @@ def add_flags(parser):
 
 # ---- the document that the answers go to
 
-def chosen_run(runs, name):
+
+def chosen_run(runs: Sequence[Json], name: str | None) -> Object:
     """The run of a name; without a name the only one that there is."""
     named = [run for run in runs if isinstance(member(run, "name"), str)]
     chosen = [run for run in named if name is None or run["name"] == name]
     if len(chosen) != 1:
         raise Refused(f"--run: expected one of the document's runs: {listed([run['name'] for run in named])}")
-    return chosen[0]
+    found: Object = chosen[0]
+    return found
 
 
-def begun_on(words):
+def begun_on(words: Namespace) -> tuple[Object, str]:
     """A document that is there, and its run that the answers are of, with the given arguments and shapes."""
     found = read_json(words.add_to, "--add-to")
     runs, entries = member(found, "runs", default=[]), member(found, "measurements", default=[])
@@ -56,7 +60,7 @@ def begun_on(words):
     return {**found, "shapes": shapes, "runs": runs, "measurements": entries}, run["name"]
 
 
-def begun(words):
+def begun(words: Namespace) -> tuple[Object, str]:
     """The document that the answers go to, and the name of their run."""
     if (words.template is None) == (words.add_to is None):
         raise Refused("command line: expected --template FILE or --add-to DOCUMENT")
@@ -71,13 +75,14 @@ def begun(words):
 
 # ---- the order
 
-def seconds(time):
+
+def seconds(time: Json) -> float | None:
     """The time that orders an entry, if it has one."""
     text = str(time) if isinstance(time, (int, str)) and not isinstance(time, bool) else ""
     return float(text) if TIME.fullmatch(text) else None
 
 
-def timed(entries):
+def timed(entries: Sequence[Json]) -> list[tuple[float | None, Json]]:
     """Each entry with its time. One that has none has that of the one before it, and the first ones the next one's."""
     times = [seconds(member(entry, "time")) for entry in entries]
     last = next((time for time in times if time is not None), None)
@@ -87,16 +92,16 @@ def timed(entries):
     return list(zip(times, entries))
 
 
-def merged(old, new):
+def merged(old: list[Json], new: list[Json]) -> list[Json]:
     """Old and new entries in the order of their times, each side in its own order; new ones come after the old ones
     where one side has no times."""
     sides = timed(old), timed(new)
     if any(not side or side[0][0] is None for side in sides):
         return old + new
-    return [entry for _, entry in heapq.merge(*sides, key=lambda one: one[0])]
+    return [entry for _, entry in heapq.merge(*sides, key=lambda one: one[0] or 0.0)]
 
 
-def with_answers(words, answers_of):
+def with_answers(words: Namespace, answers_of: Callable[[], list[Object]]) -> Object:
     """The document with the answers, which `answers_of` reads: a `value` or an `error` each, and a `time` or none."""
     begun_document, run = begun(words)
     metric = chosen_metric(begun_document["manifest"], words.metric)

@@ -11,15 +11,16 @@ part's order: a report that is missing, cut or of another part is refused with s
 """
 import json
 import os
+from collections.abc import Iterator, Sequence
 
-from argo_judge.engine.reports import BAD, VERSION, checked, text_of
+from argo_judge.engine.reports import BAD, VERSION, RunReport, checked, text_of
 from argo_judge.errors import Refused
 from argo_judge.files import read_json, read_text, write_text
-from argo_judge.objects import member, shown
+from argo_judge.objects import Json, Object, member, shown
 from argo_judge.options import command_line
 
 
-def parts_of(folder):
+def parts_of(folder: str) -> Iterator[tuple[str, str, Object]]:
     """The parts of a split, of which each says its own number and how many there are."""
     first = read_json(os.path.join(folder, "0.json"), "0.json")
     count = member(first, "part", "of")
@@ -36,18 +37,22 @@ def parts_of(folder):
         yield f"{index}.json", f"{index}.report", part
 
 
-def joined(run, numbers):
+def joined(run: RunReport, numbers: Sequence[int]) -> RunReport:
     """A run of a part's report, under the numbers of the whole document."""
-    return run | {"events": [event | {"number": numbers[event["number"]]} for event in run["events"]]}
+    whole = run.copy()
+    whole["events"] = [event.copy() for event in run["events"]]
+    for event in whole["events"]:
+        event["number"] = numbers[event["number"]]
+    return whole
 
 
-def json_line(runs):
+def json_line(runs: Sequence[RunReport]) -> str:
     """A report as the engine writes it: without blanks, members in the order of their names."""
     report = {"runs": runs, "version": VERSION}
     return json.dumps(report, ensure_ascii=False, separators=(",", ":"), sort_keys=True) + "\n"
 
 
-def check_whole(names, numbers):
+def check_whole(names: Sequence[str], numbers: Sequence[Json]) -> None:
     """Whether all parts together are a document: each run once, and each number from 0 once."""
     if len(set(names)) != len(names):
         raise Refused("parts: a run is in two of them")
@@ -57,14 +62,17 @@ def check_whole(names, numbers):
         raise Refused(f"parts: expected the numbers 0 to {len(numbers) - 1} once each; one is missing or there twice")
 
 
-def main():
+def main() -> int:
     parser = command_line(__doc__)
     parser.add_argument("parts", metavar="FOLDER", help="the parts and their reports")
-    parser.add_argument("--output", choices=("text", "json"), default="text", help="how the report is printed; text without it")
+    parser.add_argument(
+        "--output", choices=("text", "json"), default="text", help="how the report is printed; text without it"
+    )
     words = parser.parse_args()
     if not os.path.exists(os.path.join(words.parts, "0.json")):
         raise Refused(f"{words.parts}: expected 0.json, a part that recipes/split made")
-    whole, numbers = [], []
+    whole: list[RunReport] = []
+    numbers: list[Json] = []
     for part_name, report_name, part in parts_of(words.parts):
         report = read_text(os.path.join(words.parts, report_name), report_name)
         runs = checked(part, report, part_name, report_name)

@@ -12,15 +12,16 @@ they come after its measurements, since they have no times.
 from argo_judge.convert.answers import add_flags, with_answers
 from argo_judge.files import read_text, write_json
 from argo_judge.jsontext import parsed_lines
+from argo_judge.objects import Object
 from argo_judge.options import command_line
 
 
-def main():
+def main() -> None:
     parser = command_line(__doc__)
     add_flags(parser)
     words = parser.parse_args()
 
-    def answers_of():
+    def answers_of() -> list[Object]:
         return [{"value": value} for value in parsed_lines(read_text(words.answers, "answers"), "answers")]
 
     write_json(with_answers(words, answers_of))

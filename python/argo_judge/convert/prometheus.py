@@ -21,17 +21,18 @@ from argo_judge.convert.samples import answers_of
 from argo_judge.files import read_text, write_json
 from argo_judge.jsontext import parsed_all
 from argo_judge.notes import note
+from argo_judge.objects import Object
 from argo_judge.options import command_line
 
 
-def main():
+def main() -> None:
     parser = command_line(__doc__)
     add_flags(parser)
     parser.add_argument("--flat", action="store_true", help="a range is one measurement of all its values")
     words = parser.parse_args()
-    notes = []
+    notes: list[str] = []
 
-    def measured():
+    def measured() -> list[Object]:
         answers = enumerate(parsed_all(read_text(words.answers, "input"), "input"), 1)
         return [one for number, answer in answers for one in answers_of(answer, number, words.flat, notes)]
 

@@ -15,6 +15,8 @@ another the line says so, with status 2. Look at the greatest lengths (they boun
 """
 import json
 import shlex
+from argparse import Namespace
+from collections.abc import Iterable
 
 from argo_judge.analysisruns import measurements_of
 from argo_judge.decimals import fits, is_decimal, millionths, number_of
@@ -22,7 +24,7 @@ from argo_judge.errors import Refused
 from argo_judge.files import read_json, read_text, write_json
 from argo_judge.jsontext import parsed
 from argo_judge.notes import note
-from argo_judge.objects import member, objects, shown
+from argo_judge.objects import Json, Object, member, objects, shown
 from argo_judge.options import command_line
 from argo_judge.shapes import ANNOTATION, LEAST_MAX, usual_of
 
@@ -35,11 +37,15 @@ USUAL_TAKEN = "the shape is what its provider usually answers"
 class Seen:
     """What was seen of the values at one place."""
 
-    def __init__(self):
-        self.kinds, self.has_nil, self.longest, self.items, self.fields, self.times = set(), False, 0, None, {}, 0
-        self.large, self.are_wholes, self.why = None, True, NOTHING_SAID
+    def __init__(self) -> None:
+        self.kinds: set[str] = set()
+        self.has_nil, self.times, self.longest = False, 0, 0
+        self.items: Seen | None = None
+        self.fields: dict[str, Seen] = {}
+        self.large: int | str | None = None
+        self.are_wholes, self.why = True, NOTHING_SAID
 
-    def add(self, value):
+    def add(self, value: Json) -> None:
         if value is None:
             self.has_nil = True
             return
@@ -62,25 +68,25 @@ class Seen:
             for name, field in value.items():
                 self.fields.setdefault(name, Seen()).add(field)
 
-    def add_number(self, value):
+    def add_number(self, value: Json) -> None:
         """Minds a number that is too large for a decimal, and whether all are wholes."""
         if value not in NOT_FINITE:
             self.are_wholes = self.are_wholes and isinstance(value, int) and fits(value)
             self.large = value if self.large is None and not fits(millionths(number_of(value))) else self.large
 
-    def number_shape(self):
+    def number_shape(self) -> str | None:
         if self.large is not None and not self.are_wholes:
-            self.why = f"{shown(self.large)} is too large for \"decimal\", and not each number is a \"whole\""
+            self.why = f'{shown(self.large)} is too large for "decimal", and not each number is a "whole"'
             return None
         return "decimal" if self.large is None else "whole"
 
-    def shape(self, where):
+    def shape(self, where: str) -> Json:
         """The shape of what was seen; None where nothing says of what kind it is."""
         kinds = self.kinds - {"decimal"} if self.kinds == {"decimal", "text"} else self.kinds
         if len(kinds) > 1:
             raise Refused(f"{where}: the answers are of several kinds: {', '.join(sorted(kinds))}")
         kind = next(iter(kinds), None)
-        if kind == "list":
+        if self.items is not None:
             items = self.items.shape(f"{where}[]")
             shape = items and {"list": items, "max": min(max(2 * self.longest, LEAST_MAX), GREATEST_MAX)}
             self.why = self.items.why
@@ -90,7 +96,7 @@ class Seen:
             shape = self.number_shape() if kind == "decimal" else kind
         return {"optional": shape} if shape and self.has_nil else shape
 
-    def fields_of_record(self, where):
+    def fields_of_record(self, where: str) -> Object:
         shapes = {}
         for name, field in sorted(self.fields.items()):
             field.has_nil = field.has_nil or field.times < self.times
@@ -102,7 +108,7 @@ class Seen:
         return shapes
 
 
-def proposed(metric, answers, usual):
+def proposed(metric: str, answers: Iterable[Json], usual: Json) -> Json:
     """The shape that is proposed of a metric's answers; None where nothing says of what kind they are."""
     seen = Seen()
     for answer in answers:
@@ -115,12 +121,18 @@ def proposed(metric, answers, usual):
     return usual
 
 
-def answers_of(words):
+def answers_of(words: Namespace) -> tuple[dict[str, list[Json]], Object]:
     """Each metric's answers, and the usual shape of each of an AnalysisRun's metrics."""
     if words.metric is not None:
         lines = read_text(words.answers, "answers").splitlines()
-        return {words.metric: [parsed(line, f"answers, line {number}") for number, line in enumerate(lines, 1) if line.strip()]}, {}
-    found, answers, usual = read_json(words.answers, "input"), {}, {}
+        return {
+            words.metric: [
+                parsed(line, f"answers, line {number}") for number, line in enumerate(lines, 1) if line.strip()
+            ]
+        }, {}
+    found = read_json(words.answers, "input")
+    answers: dict[str, list[Json]] = {}
+    usual: Object = {}
     if member(found, "kind") == "AnalysisRun":
         metrics = objects(member(found, "spec", "metrics"))
         usual = {metric["name"]: usual_of(metric) for metric in metrics if isinstance(member(metric, "name"), str)}
@@ -136,7 +148,7 @@ def answers_of(words):
     return answers, usual
 
 
-def main():
+def main() -> None:
     parser = command_line(__doc__)
     parser.add_argument("--metric", metavar="NAME", help="the input has this metric's answers, one a line")
     parser.add_argument("--annotate", metavar="TEMPLATE", help="print the kubectl line that annotates this template")
@@ -146,7 +158,9 @@ def main():
     shapes = {metric: proposed(metric, answers[metric], usual.get(metric)) for metric in answers}
     shapes = {metric: shape for metric, shape in shapes.items() if shape is not None}
     if not shapes:
-        raise Refused("input: expected answers that say of what kind they are; docs/use/shapes.md has shapes by provider")
+        raise Refused(
+            "input: expected answers that say of what kind they are; docs/use/shapes.md has shapes by provider"
+        )
     if words.annotate is None:
         write_json(shapes)
     else:

@@ -10,14 +10,15 @@ its number in the whole document as `number`; the engine ignores both. Where a p
 import json
 import os
 import re
+from collections.abc import Iterable, Iterator
 
 from argo_judge.errors import Refused
 from argo_judge.files import read_json
-from argo_judge.objects import member
+from argo_judge.objects import Json, Object, member
 from argo_judge.options import command_line
 
 
-def entries_of(document):
+def entries_of(document: Json) -> dict[str, list[Object]]:
     """Each run's entries, by the run's name, with their numbers. What the parts would hide is refused: a run that is
     there twice, and an entry that is of no run."""
     runs, entries = member(document, "runs", default=[]), member(document, "measurements", default=[])
@@ -25,7 +26,7 @@ def entries_of(document):
         raise Refused("document: expected lists of `runs` and `measurements`")
     if not runs:
         raise Refused("document: expected a run or more in `runs`, found none")
-    found = {}
+    found: dict[str, list[Object]] = {}
     for number, run in enumerate(runs):
         name = member(run, "name")
         if not isinstance(name, str) or name in found:
@@ -39,16 +40,21 @@ def entries_of(document):
     return found
 
 
-def parts_of(document, runs_of_part):
+def number_of(entry: Object) -> int:
+    """The number of an entry in the whole document."""
+    return int(entry["number"])
+
+
+def parts_of(document: Object, runs_of_part: int) -> Iterator[Object]:
     """The parts of a document, each with at most `runs_of_part` runs."""
     entries, runs = entries_of(document), member(document, "runs")
-    chosen = [runs[first:first + runs_of_part] for first in range(0, len(runs), runs_of_part)]
+    chosen = [runs[first : first + runs_of_part] for first in range(0, len(runs), runs_of_part)]
     for number, some in enumerate(chosen):
-        own = sorted((entry for run in some for entry in entries[run["name"]]), key=lambda entry: entry["number"])
+        own = sorted((entry for run in some for entry in entries[run["name"]]), key=number_of)
         yield {**document, "runs": some, "measurements": own, "part": {"number": number, "of": len(chosen)}}
 
 
-def check_folder(folder):
+def check_folder(folder: str) -> None:
     """Makes the folder of the parts. Parts and reports of an earlier split would be taken for those of this one."""
     try:
         os.makedirs(folder, exist_ok=True)
@@ -59,7 +65,7 @@ def check_folder(folder):
         raise Refused(f"{folder}: found {old[0]}; expected a folder without parts and reports of an earlier split")
 
 
-def write_parts(folder, parts):
+def write_parts(folder: str, parts: Iterable[Object]) -> None:
     """Writes each part to its file; all of them or none."""
     written = []
     try:
@@ -76,7 +82,7 @@ def write_parts(folder, parts):
         raise
 
 
-def main():
+def main() -> None:
     parser = command_line(__doc__)
     parser.add_argument("--runs", type=int, required=True, metavar="N", help="how many runs a part has at most")
     parser.add_argument("document", metavar="FILE", help="the document; - is standard input")

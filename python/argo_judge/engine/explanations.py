@@ -1,14 +1,20 @@
-"""What argo_judge explains (`explain --output json`), as lines like those of `explain`, with lines of others below an event's
-own. A condition is written as it was bound, and there by its parts."""
+"""What argo_judge explains (`explain --output json`), as lines like those of `explain`, with lines of others below an
+event's own. A condition is written as it was bound, and there by its parts."""
 import re
+from collections.abc import Callable, Iterable, Mapping
 
-from argo_judge.engine.reports import event_line, metric_line, of_version
+from argo_judge.engine.reports import EventReport, MetricReport, event_line, metric_line, of_version
+from argo_judge.objects import Object
 
 # The version of the form.
 VERSION = 2
 
 # What is counted, and its limit.
-LIMITED = (("failed", "failureLimit"), ("inconclusive", "inconclusiveLimit"), ("consecutiveError", "consecutiveErrorLimit"))
+LIMITED = (
+    ("failed", "failureLimit"),
+    ("inconclusive", "inconclusiveLimit"),
+    ("consecutiveError", "consecutiveErrorLimit"),
+)
 COUNTED = {limit: name for name, limit in LIMITED}
 
 # How many parts come before those that are left out.
@@ -18,57 +24,63 @@ FIRST = 500
 SHOWN = 64
 ESCAPES = {'"': '\\"', "\\": "\\\\", "\n": "\\n", "\r": "\\r", "\t": "\\t"}
 # Controls, marks of direction and characters that nobody sees.
-HIDDEN = ("\x00-\x1f\x7f-\x9f\xad\u061c\u115f\u1160\u180e\u200b-\u200f\u2028-\u202e\u2060-\u2069\u3164\ufeff\uffa0"
-          "\U000e0000-\U000e007f")
+HIDDEN = (
+    "\x00-\x1f\x7f-\x9f\xad\u061c\u115f\u1160\u180e\u200b-\u200f\u2028-\u202e\u2060-\u2069\u3164\ufeff\uffa0"
+    "\U000e0000-\U000e007f"
+)
 ESCAPED = re.compile(f'["\\\\{HIDDEN}]')
 UNCLEAR = re.compile(f'^"|[{HIDDEN}]|^$')
 WORD = re.compile(r"[A-Za-z_][A-Za-z0-9_]*", re.ASCII)
 
 
-def explained_in(text, where):
+def explained_in(text: str, where: str) -> list[Object]:
     """The runs of an explanation that a text is."""
-    return of_version(text, where, VERSION, f"an explanation of version {VERSION} as `explain --output json` writes it")["runs"]
+    what = f"an explanation of version {VERSION} as `explain --output json` writes it"
+    runs: list[Object] = of_version(text, where, VERSION, what)["runs"]
+    return runs
 
 
 # ---- texts and names
 
-def escaped(character):
+
+def escaped(character: str) -> str:
     """A character in a JSON string."""
     units = character.encode("utf-16-be")
     return ESCAPES.get(character) or "".join(f"\\u{units[at:at + 2].hex()}" for at in range(0, len(units), 2))
 
 
-def quoted(text):
+def quoted(text: str) -> str:
     """The first characters of a text as a JSON string."""
     return f'"{ESCAPED.sub(lambda found: escaped(found[0]), text[:SHOWN])}"' + (".." if len(text) > SHOWN else "")
 
 
-def shown_text(text):
+def shown_text(text: str) -> str:
     """The same, with how many characters are left out."""
     more = len(text) - SHOWN
     return quoted(text) + (f" and {more} more character{'' if more == 1 else 's'}" if more > 0 else "")
 
 
-def clear(name):
+def clear(name: str) -> str:
     """A name in a line: itself, or a JSON string where it wouldn't stay in its line."""
     return quoted(name) if UNCLEAR.search(name) else name
 
 
 # ---- what was measured, and what was counted
 
-def step_text(step):
+
+def step_text(step: int | str) -> str:
     if isinstance(step, int):
         return f"[{step}]"
     return f".{step}" if WORD.fullmatch(step) else f"[{quoted(step)}]"
 
 
-def misfit_text(misfit):
+def misfit_text(misfit: Object) -> str:
     where = "".join(step_text(step) for step in misfit["path"]) or "the value"
     hint = "" if misfit["hint"] is None else f"; {misfit['hint']}"
     return f"{where}: {misfit['fault']}: expected {misfit['expected']}, found {misfit['found']}{hint}"
 
 
-def given_lines(one):
+def given_lines(one: Object) -> list[str]:
     """What the provider gave."""
     if one["shown"] is not None:
         return [f"  value: {one['shown']}"]
@@ -77,24 +89,27 @@ def given_lines(one):
     return [] if one["misfit"] is None else [f"  misfit: {misfit_text(one['misfit'])}"]
 
 
-def change(before, after):
+def change(before: int, after: int) -> str:
     return f"{after}" if before == after else f"{before} -> {after}"
 
 
-def measured(counts):
+def measured(counts: Mapping[str, int]) -> int:
     """The measurements that count: all but errors."""
     return counts["successful"] + counts["failed"] + counts["inconclusive"]
 
 
-def counts_text(counts):
+def counts_text(counts: Object) -> str:
+    """What was counted before and after an event, and the limits."""
     before, after, limits = counts["before"], counts["after"], counts["limits"]
-    parts = [f"{name} {change(before[name], after[name])} {'>' if after[name] > limits[limit] else '<='} {limit} {limits[limit]}"
-             for name, limit in LIMITED]
+    parts = []
+    for name, limit in LIMITED:
+        sign = ">" if after[name] > limits[limit] else "<="
+        parts.append(f"{name} {change(before[name], after[name])} {sign} {limit} {limits[limit]}")
     end = ", no count" if limits["count"] is None else f" of count {limits['count']}"
     return ", ".join(parts) + f", measured {change(measured(before), measured(after))}{end}"
 
 
-def progress_text(progress):
+def progress_text(progress: Object) -> str:
     if progress["count"] is None:
         return f"{progress['measured']} measured, no count"
     return f"{progress['measured']} of count {progress['count']}"
@@ -102,74 +117,80 @@ def progress_text(progress):
 
 # ---- the parts of a condition
 
-def failure_text(part, failure):
+
+def failure_text(part: Object, failure: str) -> str:
     """A failure, with the operands where it arose in the part."""
     return f": {failure}" + ("" if part["on"] is None else f": {part['on']}")
 
 
-def between(number, what):
+def between(number: int, what: str) -> str:
     return f"{number} {what}{'' if number == 1 else 's'} between"
 
 
-def gap(items, hold):
+def gap(items: int, hold: int) -> str:
     """How many items aren't shown, and of how many of them the part holds."""
     some = f"{hold} hold{'s' if hold == 1 else ''}"
     return f"{between(items, 'item')}, " + ("none holds" if hold == 0 else "each holds" if hold == items else some)
 
 
-def differ_text(differ):
+def differ_text(differ: Object | None) -> str:
     """Where two texts differ that are shown alike."""
     return "" if differ is None else f"; byte {differ['byte']} differs: {differ['left']} and {differ['right']}"
 
 
-def part_text(part):
+def part_text(part: Object) -> str:
     if part["between"] is not None:
         return gap(**part["between"])
     if not part["needed"]:
         return f"{part['part']}: not needed"
     if part["failure"] is not None:
-        return part["part"] + (" as a decimal" if part["asDecimal"] else "") + failure_text(part, part["failure"])
+        read = " as a decimal" if part["asDecimal"] else ""
+        return f"{part['part']}{read}{failure_text(part, part['failure'])}"
     return f"{part['part']} = {part['shown']}{differ_text(part['differ'])}"
 
 
-def part_line(part):
+def part_line(part: Object) -> str:
     items = "".join(f"item {number}: " for number in part["items"])
     return f"    {items}{part_text(part)}"
 
 
-def part_lines(condition):
+def part_lines(condition: Object) -> list[str]:
     """The first parts, how many come between, and the last ones."""
     lines, left_out = [part_line(part) for part in condition["parts"]], condition["leftOut"]
     return [*lines[:FIRST], *([f"    {between(left_out, 'line')}"] if left_out else []), *lines[FIRST:]]
 
 
-def answer_line(condition):
+def answer_line(condition: Object) -> str:
     answer = condition["answer"]
     if isinstance(answer, bool):
         return f"    answer = {str(answer).lower()}" + differ_text(condition["differ"])
     return "    answer" + failure_text(condition, answer)
 
 
-def head(condition):
+def head(condition: Object) -> str:
     return f"  {condition['condition']}: {' '.join(condition['text'].split())}"
 
 
 # ---- events, metrics and runs
 
-def reason_text(reason):
+
+def reason_text(reason: Object) -> str:
     """Why an event closed its run, didn't, or came late."""
     event, phase = reason["event"], reason["phase"]
     if reason["kind"] == "limit":
         name, limit = COUNTED[reason["limit"]], reason["limit"]
         return f"closed: the metric is {phase}: {name} {reason['count']} > {limit} {reason['value']}"
-    return {"stop": "closed: the run was stopped",
-            "complete": "closed: each metric is Successful, or dry and complete",
-            "dry": f"not closed: the metric is {phase}, but dry",
-            "runClosed": f"late: event {event} had closed the run",
-            "metricComplete": f"late: the metric was {phase} since event {event}"}[reason["kind"]]
+    texts = {
+        "stop": "closed: the run was stopped",
+        "complete": "closed: each metric is Successful, or dry and complete",
+        "dry": f"not closed: the metric is {phase}, but dry",
+        "runClosed": f"late: event {event} had closed the run",
+        "metricComplete": f"late: the metric was {phase} since event {event}",
+    }
+    return texts[reason["kind"]]
 
 
-def lines_of_event(one, head_of=head):
+def lines_of_event(one: Object, head_of: Callable[[Object], str] = head) -> list[str]:
     """The lines below an event's own; `head_of`: the line of a condition."""
     lines = given_lines(one)
     for condition in one["conditions"]:
@@ -179,10 +200,12 @@ def lines_of_event(one, head_of=head):
     return lines + ([f"  {reason_text(one['reason'])}"] if one["reason"] is not None else [])
 
 
-def lines_of_metric(one):
+def lines_of_metric(one: Object) -> list[str]:
     """The line of a metric, and what it waits for or that the close of its run settled it."""
-    metric = one["metric"]
-    lines = [metric_line({**metric, "name": clear(metric["name"])}).rstrip("\n")]
+    metric: MetricReport = one["metric"]
+    named = metric.copy()
+    named["name"] = clear(metric["name"])
+    lines = [metric_line(named).rstrip("\n")]
     if one["waitsFor"] is not None:
         end = ": until a limit is exceeded or the run is closed" if one["waitsFor"]["count"] is None else ""
         lines.append(f"  {metric['phase']}: {progress_text(one['waitsFor'])}{end}")
@@ -192,17 +215,20 @@ def lines_of_metric(one):
     return lines
 
 
-def waits_text(waits):
+def waits_text(waits: Iterable[Object]) -> str:
     return "; ".join(f"{clear(one['metric'])} {progress_text(one)}" for one in waits)
 
 
-def event_head(event):
+def event_head(event: EventReport) -> str:
     """The line of an event."""
-    metric = event["metric"]
-    return event_line({**event, "metric": None if metric is None else clear(metric)}).rstrip("\n")
+    named = event.copy()
+    named["metric"] = None if event["metric"] is None else clear(event["metric"])
+    return event_line(named).rstrip("\n")
 
 
-def lines_of_run(run, head_of=head, noted=lambda event: []):
+def lines_of_run(
+    run: Object, head_of: Callable[[Object], str] = head, noted: Callable[[EventReport], list[str]] = lambda event: []
+) -> list[str]:
     """All lines of a run; `noted`: what others say of an event."""
     lines = [f"run {clear(run['name'])} {run['phase']}"]
     lines += [f"  waits for: {waits_text(run['waitsFor'])}"] if run["waitsFor"] else []

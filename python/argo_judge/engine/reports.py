@@ -1,13 +1,50 @@
 """Reports of argo_judge as JSON (`run --output json`), held to the document that they are of, and printed as text.
 
-What has to be there is known by the document, but for phases, counts, limits, verdicts and effects, of which each is one
-that there is.
+What has to be there is known by the document, but for phases, counts, limits, verdicts and effects, of which each is
+one that there is.
 """
+from collections.abc import Iterable, Sequence
+from typing import TypeAlias, TypedDict, TypeVar
+
 from argo_judge.errors import Refused
 from argo_judge.jsontext import parsed
-from argo_judge.objects import member, shown
+from argo_judge.objects import Json, Object, member, shown
 
 VERSION = 1
+
+
+class MetricReport(TypedDict):
+    """A metric of a report."""
+
+    name: str
+    phase: str
+    dryRun: bool
+    counts: dict[str, int]
+    limits: dict[str, int | None]
+
+
+class EventReport(TypedDict):
+    """An event of a report: a measurement, or a stop."""
+
+    number: int
+    metric: str | None
+    stop: bool
+    verdict: str | None
+    cause: str | None
+    fault: str | None
+    effect: str
+    phase: str | None
+
+
+class RunReport(TypedDict):
+    """A run of a report. It stays an object, which is written again as the engine wrote it."""
+
+    name: str
+    phase: str
+    metrics: list[MetricReport]
+    events: list[EventReport]
+
+
 PHASES = ("Pending", "Running", "Successful", "Failed", "Error", "Inconclusive")
 BAD = {"Failed", "Error", "Inconclusive"}
 COUNTS = ("successful", "failed", "inconclusive", "error", "consecutiveError")
@@ -20,20 +57,25 @@ FAULTS = ("IndexOutOfRange", "NilOperand", "Overflow", "DivisionByZero")
 CAUSES = {"provider": (None,), "shape": MISFITS, "success": FAULTS, "failure": FAULTS}
 
 
-def texts(values, name):
+T = TypeVar("T")
+# An event by its place in `measurements`, with its metric's name; a stop has none.
+Expected: TypeAlias = tuple[int, str | None]
+
+
+def texts(values: Json, name: str) -> list[str] | None:
     """The texts of this name of the objects of a list, or None where they aren't all there."""
     found = [member(value, name) for value in values] if isinstance(values, list) else [None]
     return found if all(isinstance(text, str) for text in found) else None
 
 
-def events_of(document, where):
+def events_of(document: Json, where: str) -> dict[str, list[Expected]]:
     """What a report has to have of each run, by its name: the place of each of its entries in `measurements`, with the
     metric's name, or None of a stop."""
     names = texts(member(document, "runs"), "name")
     entries = member(document, "measurements", default=[])
     if not names or len(set(names)) != len(names) or texts(entries, "run") is None:
         raise Refused(f"{where}: expected a document with `runs` and `measurements`")
-    events = {name: [] for name in names}
+    events: dict[str, list[Expected]] = {name: [] for name in names}
     for place, entry in enumerate(entries):
         metric = None if member(entry, "stop") is True else member(entry, "metric")
         if entry["run"] not in events or not isinstance(metric, str) and member(entry, "stop") is not True:
@@ -44,16 +86,17 @@ def events_of(document, where):
 
 # ---- a report and its document
 
-def expect(is_so, where, expected, found):
+
+def expect(is_so: bool, where: str, expected: str, found: Json) -> None:
     if not is_so:
         raise Refused(f"{where}: expected {expected}, found {shown(found)}")
 
 
-def is_count(value):
+def is_count(value: Json) -> bool:
     return isinstance(value, int) and not isinstance(value, bool) and value >= 0
 
 
-def items_of(value, name, expected, where):
+def items_of(value: Json, name: str, expected: Sequence[T], where: str) -> list[tuple[Json, T, str]]:
     """The items of a list with a name, as many as are expected, each with what is expected of it and where it is."""
     items = member(value, name)
     expect(isinstance(items, list), f"{where}{name}", "a list", items)
@@ -62,30 +105,42 @@ def items_of(value, name, expected, where):
     return [(item, own, f"{where}{name}[{index}]") for index, (item, own) in enumerate(zip(items, expected))]
 
 
-def check_metric(metric, name, where):
+def check_metric(metric: Json, name: str, where: str) -> None:
     expect(member(metric, "name") == name, where, f"the metric {shown(name)}", member(metric, "name"))
     expect(member(metric, "phase") in PHASES, f"{where}.phase", "a phase", member(metric, "phase"))
     expect(isinstance(member(metric, "dryRun"), bool), f"{where}.dryRun", "true or false", member(metric, "dryRun"))
     for count in COUNTS:
-        expect(is_count(member(metric, "counts", count)), f"{where}.counts.{count}", "a count", member(metric, "counts", count))
+        expect(
+            is_count(member(metric, "counts", count)),
+            f"{where}.counts.{count}",
+            "a count",
+            member(metric, "counts", count),
+        )
     for limit in LIMITS:
-        expect(is_count(member(metric, "limits", limit)), f"{where}.limits.{limit}", "a limit", member(metric, "limits", limit))
+        expect(
+            is_count(member(metric, "limits", limit)),
+            f"{where}.limits.{limit}",
+            "a limit",
+            member(metric, "limits", limit),
+        )
 
 
-def event_name(number, metric, is_stop):
+def event_name(number: Json, metric: Json, is_stop: Json) -> str:
     return f"event {shown(number)}, a stop" if is_stop is True else f"event {shown(number)} of metric {shown(metric)}"
 
 
-def check_verdict(event, is_stop, where):
+def check_verdict(event: Json, is_stop: bool, where: str) -> None:
     verdict, cause, fault = (member(event, name) for name in ("verdict", "cause", "fault"))
-    expect(verdict in ((None,) if is_stop else VERDICTS), f"{where}.verdict", "null" if is_stop else "a verdict", verdict)
+    expect(
+        verdict in ((None,) if is_stop else VERDICTS), f"{where}.verdict", "null" if is_stop else "a verdict", verdict
+    )
     causes = tuple(CAUSES) if verdict == "Error" else (None,)
     expect(cause in causes, f"{where}.cause", "a cause" if verdict == "Error" else "null", cause)
     faults = CAUSES.get(cause, (None,))
     expect(fault in faults, f"{where}.fault", "null" if None in faults else "a fault of its cause", fault)
 
 
-def check_event(event, expected, where):
+def check_event(event: Json, expected: Expected, where: str) -> None:
     number, metric = expected
     own = (number, metric, metric is None)
     found = (member(event, "number"), member(event, "metric"), member(event, "stop"))
@@ -100,31 +155,31 @@ def check_event(event, expected, where):
     check_verdict(event, metric is None, where)
 
 
-def check_run(run, expected, metrics, where):
+def check_run(run: Json, expected: tuple[str, list[Expected]], metrics: Sequence[str], where: str) -> None:
     name, events = expected
     expect(member(run, "name") == name, where, f"the run {shown(name)}", member(run, "name"))
     expect(member(run, "phase") in PHASES, f"{where}.phase", "a phase", member(run, "phase"))
-    for metric, own, place in items_of(run, "metrics", metrics, f"{where}."):
-        check_metric(metric, own, place)
+    for metric, own_name, place in items_of(run, "metrics", metrics, f"{where}."):
+        check_metric(metric, own_name, place)
     for event, own, place in items_of(run, "events", events, f"{where}."):
         check_event(event, own, place)
 
 
-def of_version(text, where, version, what):
+def of_version(text: str, where: str, version: int, what: str) -> Object:
     """The object of a version that a text is; `what`: what it is expected to be."""
-    made = parsed(text, where)
+    made: Object = parsed(text, where)
     if member(made, "version") != version:
         found = f"version {shown(member(made, 'version'))}" if isinstance(made, dict) else shown(made)
         raise Refused(f"{where}: expected {what}, found {found}")
     return made
 
 
-def report_in(text, where):
+def report_in(text: str, where: str) -> Object:
     """The report that a text is."""
     return of_version(text, where, VERSION, f"a report of version {VERSION} as `run --output json` writes it")
 
 
-def checked(document, text, document_name, report_name):
+def checked(document: Json, text: str, document_name: str, report_name: str) -> list[RunReport]:
     """The runs of a report that has every run, every metric and every event of its document once, in its order."""
     metrics = texts(member(document, "manifest", "spec", "metrics"), "name")
     if not metrics:
@@ -133,31 +188,33 @@ def checked(document, text, document_name, report_name):
     report = report_in(text, report_name)
     for run, own, where in items_of(report, "runs", expected, f"{report_name}, "):
         check_run(run, own, metrics, where)
-    return report["runs"]
+    runs: list[RunReport] = report["runs"]
+    return runs
 
 
 # ---- the text of a report, as `run` prints it
 
-def verdict_text(event):
+
+def verdict_text(event: EventReport) -> str:
     words = (event["verdict"], member(event, "cause"), member(event, "fault"))
     return " ".join(word for word in words if word is not None)
 
 
-def effect_text(event):
+def effect_text(event: EventReport) -> str:
     return f"closed {event['phase']}" if event["effect"] == "closed" else event["effect"]
 
 
-def event_line(event):
+def event_line(event: EventReport) -> str:
     found = "stop" if event["stop"] else f"{event['metric']} {verdict_text(event)}"
     return f"event {event['number']} {found} {effect_text(event)}\n"
 
 
-def metric_line(metric):
+def metric_line(metric: MetricReport) -> str:
     counts = " ".join(f"{count}={metric['counts'][count]}" for count in COUNTS)
     return f"metric {metric['name']} {metric['phase']} {counts}{' dryRun' if metric['dryRun'] else ''}\n"
 
 
-def text_of(runs):
+def text_of(runs: Iterable[RunReport]) -> str:
     lines = []
     for run in runs:
         lines.append(f"run {run['name']} {run['phase']}\n")

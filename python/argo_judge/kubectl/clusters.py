@@ -1,17 +1,19 @@
 """Objects of a cluster, read by `kubectl get`. Nothing in the cluster is changed."""
 import subprocess
+from argparse import Namespace
+from collections.abc import Sequence
 from dataclasses import replace
 
 from argo_judge.errors import Refused
 from argo_judge.jsontext import parsed
-from argo_judge.manifests import objects_in
-from argo_judge.objects import member
-from argo_judge.options import command_line
+from argo_judge.manifests import Found, objects_in
+from argo_judge.objects import Object, member
+from argo_judge.options import CommandLine, command_line
 
 HANDED_ON = ("namespace", "context", "kubeconfig")
 
 
-def cluster_flags():
+def cluster_flags() -> CommandLine:
     """What each command takes that reads a cluster."""
     parser = command_line(None, add_help=False)
     parser.add_argument("-n", "--namespace", metavar="NAME", help="handed on to kubectl")
@@ -21,7 +23,7 @@ def cluster_flags():
     return parser
 
 
-def got(what, words):
+def got(what: Sequence[str], words: Namespace) -> str:
     """What `kubectl get` prints as JSON of a kind and names, or of a kind and a selector."""
     given = [(flag, getattr(words, flag)) for flag in HANDED_ON if getattr(words, flag) is not None]
     command = ["kubectl", "get", *what, "-o", "json", *(word for flag, value in given for word in (f"--{flag}", value))]
@@ -35,7 +37,7 @@ def got(what, words):
     return ended.stdout
 
 
-def fetched(kind, name, words):
+def fetched(kind: str, name: str, words: Namespace) -> Object:
     """An object of the cluster."""
     found = parsed(got([kind, name], words), f"{kind} {name}")
     if not isinstance(found, dict):
@@ -43,16 +45,18 @@ def fetched(kind, name, words):
     return found
 
 
-def fetched_all(kind, words, names=(), selector=None):
+def fetched_all(kind: str, words: Namespace, names: Sequence[str] = (), selector: str | None = None) -> list[Found]:
     """The objects of a kind, each by its name: those of the names, those of labels, or all."""
     text = got([kind, *names, *(["-l", selector] if selector else [])], words)
-    return [replace(found, file=f"{kind}/{member(found.value, 'metadata', 'name')}", pointer="")
-            for found in objects_in(text, f"kubectl get {kind}")]
+    return [
+        replace(found, file=f"{kind}/{member(found.value, 'metadata', 'name')}", pointer="")
+        for found in objects_in(text, f"kubectl get {kind}")
+    ]
 
 
-def kind_of_template(words):
+def kind_of_template(words: Namespace) -> str:
     return "clusteranalysistemplate" if words.cluster else "analysistemplate"
 
 
-def template_of(name, words):
+def template_of(name: str, words: Namespace) -> Object:
     return fetched(kind_of_template(words), name, words)

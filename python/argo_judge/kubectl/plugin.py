@@ -8,7 +8,8 @@
     kubectl argo-judge backtest             what a template would have made of the namespace's AnalysisRuns
 
 --template and --arg of `run` and `explain` judge what was measured by another template or by other arguments, a
-stricter threshold say; --arg of `check` gives an argument that the template has no value for. With --cluster a template is a
+stricter threshold say; --arg of `check` gives an argument that the template has no value for. \
+With --cluster a template is a
 ClusterAnalysisTemplate.
 
 kubectl finds it where a link of the name kubectl-argo_judge to this file is on the PATH. Nothing in the cluster is
@@ -16,7 +17,10 @@ changed: objects are read by `kubectl get`. The shapes of the metrics' answers a
 annotation argo-judge/shapes of the template or the run. The exit status is argo_judge's own; 2 also where kubectl has
 no such object.
 """
-from argo_judge.analysisruns import add_flags, document_of
+from argparse import ArgumentParser, Namespace
+from collections.abc import Callable, Sequence
+
+from argo_judge.analysisruns import Measured, add_flags, document_of, flags_of
 from argo_judge.backtest.command import add_flags as add_backtest_flags
 from argo_judge.backtest.command import backtest as tried
 from argo_judge.backtest.runs import runs_in
@@ -25,33 +29,34 @@ from argo_judge.dryruns import with_dry_names
 from argo_judge.engine.explanations import explained_in, lines_of_run
 from argo_judge.engine.program import handed_through, judged, shell_status
 from argo_judge.engine.refusals import hand_on
+from argo_judge.engine.reports import EventReport
 from argo_judge.files import write_text
 from argo_judge.kubectl.clusters import cluster_flags, fetched, fetched_all, kind_of_template, template_of
 from argo_judge.lint.command import add_flags as add_lint_flags
 from argo_judge.lint.command import lint as found_mistakes
 from argo_judge.notes import one_line
-from argo_judge.objects import member
-from argo_judge.options import add_arg_flag, add_engine_flag, add_shapes_flag, command_line
+from argo_judge.objects import Object, member
+from argo_judge.options import CommandLine, Commands, add_arg_flag, add_engine_flag, add_shapes_flag, command_line
 from argo_judge.shapes import shapes_of
 from argo_judge.suite.command import add_flags as add_test_flags
 from argo_judge.suite.command import test
 from argo_judge.templates import arguments_of, read_template
 
 
-def made_of_run(words):
+def made_of_run(words: Namespace) -> tuple[Object, list[Measured]]:
     """The document of an AnalysisRun, and its measurements in their order."""
     found = fetched("analysisrun", words.name, words)
     template = None if words.template is None else template_of(words.template, words)
-    return document_of(found, words, template, words.arg)
+    return document_of(found, flags_of(words), template, words.arg)
 
 
-def run(words):
+def run(words: Namespace) -> int:
     """Judges the measurements of an AnalysisRun."""
     made, _ = made_of_run(words)
     return handed_through(words.engine, ["run", "--plain"], made)
 
 
-def of_controller(measurements, event):
+def of_controller(measurements: Sequence[Measured], event: EventReport) -> list[str]:
     """What the controller says of the measurement that an event is."""
     if event["stop"]:
         return []
@@ -61,8 +66,9 @@ def of_controller(measurements, event):
     return [said if message is None else f"{said}: {one_line(message)}"]
 
 
-def explain(words):
-    """Says what led to the verdict and the effect of each measurement of an AnalysisRun, and what the controller says."""
+def explain(words: Namespace) -> int:
+    """Says what led to the verdict and the effect of each measurement of an AnalysisRun, and what the controller \
+says."""
     made, measurements = made_of_run(words)
     selected = [] if words.event is None else ["--event", words.event]
     selected += [] if words.metric is None else ["--metric", words.metric]
@@ -70,24 +76,28 @@ def explain(words):
     hand_on(ended.returncode, ended.stderr)
     if ended.returncode == 0:
         for one in explained_in(ended.stdout, "explain"):
-            write_text("".join(line + "\n" for line in lines_of_run(one, noted=lambda event: of_controller(measurements, event))))
+            write_text(
+                "".join(
+                    line + "\n" for line in lines_of_run(one, noted=lambda event: of_controller(measurements, event))
+                )
+            )
     return shell_status(ended.returncode)
 
 
-def check(words):
+def check(words: Namespace) -> int:
     """Says what the conditions of an AnalysisTemplate may cost at most."""
     template = with_dry_names(template_of(words.name, words))
     made = document(template, shapes_of(template, words.shapes), words.name, arguments_of(template, words.arg), [])
     return handed_through(words.engine, ["check"], made)
 
 
-def lint(words):
+def lint(words: Namespace) -> int:
     """Finds mistakes in AnalysisTemplates: in those that are named, or in all of the namespace."""
     kind = kind_of_template(words)
     return found_mistakes(words, lambda: fetched_all(kind, words, words.names, words.selector), f"kubectl get {kind}")
 
 
-def backtest(words):
+def backtest(words: Namespace) -> int:
     """Says what a template, of the cluster or of a file, would have made of the namespace's AnalysisRuns that ended."""
     template = template_of(words.template, words) if words.file is None else read_template(words.file)
     return tried(words, template, lambda: runs_in(fetched_all("analysisrun", words, selector=words.selector)))
@@ -95,14 +105,15 @@ def backtest(words):
 
 # ---- the command line
 
-def add_command(commands, does, help):
+
+def add_command(commands: Commands, does: Callable[[Namespace], int], help: str) -> CommandLine:
     """A command, with the flags that say which cluster it reads."""
     one = commands.add_parser(does.__name__, help=help, description=does.__doc__, parents=[cluster_flags()])
     one.set_defaults(does=does)
     return one
 
 
-def add_run_flags(one):
+def add_run_flags(one: ArgumentParser) -> None:
     """What the commands take that judge an AnalysisRun."""
     add_engine_flag(one)
     add_flags(one)
@@ -111,11 +122,11 @@ def add_run_flags(one):
     one.add_argument("name", metavar="ANALYSISRUN", help="its name")
 
 
-def add_selector_flag(one, help):
+def add_selector_flag(one: ArgumentParser, help: str) -> None:
     one.add_argument("-l", "--selector", metavar="LABELS", help=help)
 
 
-def add_commands(commands):
+def add_commands(commands: Commands) -> None:
     add_run_flags(add_command(commands, run, "judge an AnalysisRun"))
 
     one = add_command(commands, explain, "say why an AnalysisRun ended so")
@@ -146,8 +157,9 @@ def add_commands(commands):
     add_selector_flag(one, "the AnalysisRuns with these labels alone")
 
 
-def main():
+def main() -> int:
     parser = command_line(__doc__, prog="kubectl argo-judge")
     add_commands(parser.add_subparsers(required=True, metavar="COMMAND"))
     words = parser.parse_args()
-    return words.does(words)
+    does: Callable[[Namespace], int] = words.does
+    return does(words)

@@ -11,6 +11,9 @@ rule.
 
 The status is 0, 1 where there is an error (with --strict also a warning), or 2 where the input is refused.
 """
+from argparse import ArgumentParser, Namespace
+from collections.abc import Callable, Sequence
+
 from argo_judge.errors import Refused
 from argo_judge.files import read_json, write_text
 from argo_judge.lint.findings import Severity, chosen_rules
@@ -18,7 +21,7 @@ from argo_judge.lint.outputs import STANDARD_INPUT, Located, as_github, as_json,
 from argo_judge.lint.rules import findings_of
 from argo_judge.lint.sarif import as_sarif
 from argo_judge.lint.subjects import KINDS, Subject
-from argo_judge.manifests import found_in, of_kinds
+from argo_judge.manifests import Found, found_in, of_kinds
 from argo_judge.objects import listed, shown
 from argo_judge.options import add_arg_flag, add_engine_flag, add_shapes_flag, command_line
 from argo_judge.shapes import shapes_in
@@ -26,14 +29,14 @@ from argo_judge.shapes import shapes_in
 OUTPUTS = {"text": as_text, "json": as_json, "sarif": as_sarif, "github": as_github}
 
 
-def given_arguments(words):
+def given_arguments(words: Sequence[str]) -> dict[str, str]:
     for word in words:
         if "=" not in word:
             raise Refused(f"--arg {shown(word)}: expected NAME=VALUE")
     return dict(word.split("=", 1) for word in words)
 
 
-def subjects_of(words, objects, where):
+def subjects_of(words: Namespace, objects: Sequence[Found], where: str) -> list[Subject]:
     """The templates among objects; others are passed over in words."""
     given = given_arguments(words.arg)
     shapes = shapes_in(read_json(words.shapes, "shapes"), "shapes") if words.shapes else {}
@@ -47,30 +50,30 @@ def subjects_of(words, objects, where):
     return subjects
 
 
-def add_flags(parser):
+def add_flags(parser: ArgumentParser) -> None:
     flag = parser.add_argument
     flag("--output", choices=OUTPUTS, default="text", help="lines (text), or json, sarif or github")
     flag("--strict", action="store_true", help="end with status 1 for warnings, too")
-    repeated = {"action": "append", "default": [], "metavar": "RULE"}
-    flag("--rule", **repeated, help="apply this rule alone; may be given several times")
-    flag("--without", **repeated, help="leave this rule out; may be given several times")
+    for name, does in (("--rule", "apply this rule alone"), ("--without", "leave this rule out")):
+        flag(name, action="append", default=[], metavar="RULE", help=f"{does}; may be given several times")
     add_shapes_flag(parser)
     add_arg_flag(parser)
     add_engine_flag(parser)
 
 
-def lint(words, read_objects, where):
+def lint(words: Namespace, read_objects: Callable[[], list[Found]], where: str) -> int:
     """Writes the findings of the templates among objects, which are read once the words are checked."""
     chosen = chosen_rules(words.rule, words.without)
     subjects = subjects_of(words, read_objects(), where)
-    located = [Located(subject, finding) for subject in subjects
-               for finding in findings_of(words.engine, subject, chosen)]
+    located = [
+        Located(subject, finding) for subject in subjects for finding in findings_of(words.engine, subject, chosen)
+    ]
     write_text(OUTPUTS[words.output](located, subjects))
     failing = (Severity.ERROR, Severity.WARNING) if words.strict else (Severity.ERROR,)
     return int(any(one.finding.severity in failing for one in located))
 
 
-def main():
+def main() -> int:
     parser = command_line(__doc__)
     add_flags(parser)
     parser.add_argument("paths", nargs="+", metavar="TEMPLATE", help="a file, a folder, or - for standard input")

@@ -1,17 +1,31 @@
 """Fields that Argo Rollouts doesn't have, and values that aren't of their field's type."""
 import difflib
+from collections.abc import Callable, Iterable, Iterator
+from typing import TypeGuard
 
 from argo_judge.jsontext import NumberText
-from argo_judge.lint.findings import error, warning
-from argo_judge.lint.subjects import metric_pointer, placed
-from argo_judge.objects import member, shown
+from argo_judge.lint.findings import Finding, error, warning
+from argo_judge.lint.subjects import Subject, metric_pointer, placed
+from argo_judge.objects import Json, member, shown
 from argo_judge.pointers import pointer_to
 
 LIMITS = ("count", "failureLimit", "inconclusiveLimit", "consecutiveErrorLimit", "consecutiveSuccessLimit")
 TEXTS = ("name", "interval", "initialDelay", "successCondition", "failureCondition")
 TEXTS_OF_LISTS = (("args", "name"), ("args", "value"), ("dryRun", "metricName"), ("measurementRetention", "metricName"))
-PROVIDERS = ("prometheus", "kayenta", "web", "datadog", "wavefront", "newRelic", "job", "cloudWatch", "graphite",
-             "influxdb", "skywalking", "plugin")
+PROVIDERS = (
+    "prometheus",
+    "kayenta",
+    "web",
+    "datadog",
+    "wavefront",
+    "newRelic",
+    "job",
+    "cloudWatch",
+    "graphite",
+    "influxdb",
+    "skywalking",
+    "plugin",
+)
 OF_RUN = ("terminate", "ttlStrategy")
 # The fields of each part, by the name that a finding has for the part.
 KNOWN = {
@@ -27,7 +41,7 @@ KNOWN = {
 LONGEST_NAME = 64
 
 
-def parts_of(subject):
+def parts_of(subject: Subject) -> Iterator[tuple[str, str, Json]]:
     """Each part of a template whose fields are known: its pointer, what it is, and its value."""
     spec = member(subject.object, "spec")
     yield "", "the object", subject.object
@@ -40,14 +54,14 @@ def parts_of(subject):
         yield metric_pointer(place, "provider"), "provider", member(metric, "provider")
 
 
-def close_to(name, names):
+def close_to(name: str, names: Iterable[str]) -> str | None:
     """The name that another one is probably meant to be."""
     lower = {known.lower(): known for known in names}
     close = difflib.get_close_matches(name.lower(), lower, n=1, cutoff=0.7) if len(name) <= LONGEST_NAME else []
     return lower[close[0]] if close else None
 
 
-def unknown_field(pointer, part, name):
+def unknown_field(pointer: str, part: str, name: str) -> Finding:
     """The finding of a field that its part doesn't have."""
     at, has = pointer + pointer_to(name), f"{part} has no field {shown(name)}"
     home = next((other for other, known in KNOWN.items() if name in known), None)
@@ -59,7 +73,7 @@ def unknown_field(pointer, part, name):
     return warning("unknown-field", at, f"{has} in Argo Rollouts 1.8", f"remove it; fields are {fields}")
 
 
-def unknown_fields(subject):
+def unknown_fields(subject: Subject) -> Iterator[Finding]:
     for pointer, part, value in parts_of(subject):
         known = KNOWN[part] + (OF_RUN if part == "spec" and subject.kind == "AnalysisRun" else ())
         for name in value if isinstance(value, dict) else ():
@@ -69,22 +83,24 @@ def unknown_fields(subject):
 
 # ---- types
 
-def is_text(value):
+
+def is_text(value: Json) -> TypeGuard[str]:
     return isinstance(value, str) and not isinstance(value, NumberText)
 
 
-def is_whole(value):
+def is_whole(value: Json) -> TypeGuard[int]:
     return isinstance(value, int) and not isinstance(value, bool)
 
 
-def typed_fields(subject):
+def typed_fields(subject: Subject) -> Iterator[tuple[str, Json, Callable[[Json], bool], str]]:
     """The fields whose types are looked at: the pointer of each, its value, whether it fits, and what would."""
     for place, metric in subject.metrics:
         for name in TEXTS:
             yield metric_pointer(place, name), metric.get(name), is_text, "a text in quotes"
         for name in LIMITS:
-            yield metric_pointer(place, name), metric.get(name), lambda value: is_whole(value) or is_text(value), \
-                "a whole number, or a text"
+            yield metric_pointer(place, name), metric.get(name), lambda value: is_whole(value) or is_text(
+                value
+            ), "a whole number, or a text"
     for name, field in TEXTS_OF_LISTS:
         for place, item in placed(subject.object, name):
             yield pointer_to("spec", name, place, field), item.get(field), is_text, "a text in quotes"
@@ -92,10 +108,14 @@ def typed_fields(subject):
         yield pointer_to("spec", "measurementRetention", place, "limit"), item.get("limit"), is_whole, "a whole number"
 
 
-def wrong_types(subject):
+def wrong_types(subject: Subject) -> Iterator[Finding]:
     for pointer, value, fits, expected in typed_fields(subject):
         if value is not None and not fits(value):
             name = pointer.rpartition("/")[2]
             found = value if isinstance(value, NumberText) else shown(value)
-            yield error("refused-by-controller", pointer, f"`{name}` is {found}, which the API server refuses",
-                        f"write {expected}")
+            yield error(
+                "refused-by-controller",
+                pointer,
+                f"`{name}` is {found}, which the API server refuses",
+                f"write {expected}",
+            )

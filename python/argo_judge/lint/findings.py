@@ -1,4 +1,5 @@
 """What rules there are, and what a finding of one is."""
+from collections.abc import Sequence
 from enum import Enum
 from typing import NamedTuple
 
@@ -10,6 +11,7 @@ PAGE = "docs/use/lint.md"
 
 class Severity(str, Enum):
     """How bad a finding is: an error makes the status 1, a warning does by --strict."""
+
     ERROR = "error"
     WARNING = "warning"
     INFO = "info"
@@ -42,6 +44,7 @@ RULES = {
 
 class Finding(NamedTuple):
     """What a rule found at a JSON pointer of an object, in a sentence, and how to mend it."""
+
     rule: str
     severity: Severity
     pointer: str
@@ -49,19 +52,19 @@ class Finding(NamedTuple):
     mend: str
 
 
-def error(rule, pointer, message, mend):
+def error(rule: str, pointer: str, message: str, mend: str) -> Finding:
     return Finding(rule, Severity.ERROR, pointer, message, mend)
 
 
-def warning(rule, pointer, message, mend):
+def warning(rule: str, pointer: str, message: str, mend: str) -> Finding:
     return Finding(rule, Severity.WARNING, pointer, message, mend)
 
 
-def info(rule, pointer, message, mend):
+def info(rule: str, pointer: str, message: str, mend: str) -> Finding:
     return Finding(rule, Severity.INFO, pointer, message, mend)
 
 
-def chosen_rules(only, without):
+def chosen_rules(only: Sequence[str], without: Sequence[str]) -> list[str]:
     """The names of the rules that are applied."""
     for name in [*only, *without]:
         if name not in RULES:

@@ -1,10 +1,12 @@
 """Findings as lines, as JSON, and as commands of GitHub's workflows."""
 import json
+from collections.abc import Sequence
 from typing import NamedTuple
 
 from argo_judge.lint.findings import PAGE, Finding, Severity
 from argo_judge.lint.subjects import Subject
 from argo_judge.notes import one_line
+from argo_judge.objects import Object
 
 VERSION = 1
 STANDARD_INPUT = "standard input"
@@ -14,41 +16,42 @@ COMMANDS = {Severity.ERROR: "error", Severity.WARNING: "warning", Severity.INFO:
 
 class Located(NamedTuple):
     """A finding and the template that it is of."""
+
     subject: Subject
     finding: Finding
 
     @property
-    def file(self):
+    def file(self) -> str | None:
         """Its file; None of standard input."""
         return None if self.subject.found.file == "-" else self.subject.found.file
 
     @property
-    def line(self):
+    def line(self) -> int | None:
         return self.subject.found.line_of(self.finding.pointer)
 
     @property
-    def pointer(self):
+    def pointer(self) -> str:
         return self.subject.found.pointer + self.finding.pointer
 
     @property
-    def page(self):
+    def page(self) -> str:
         return f"{PAGE}#{self.finding.rule}"
 
 
-def sums_of(located):
+def sums_of(located: Sequence[Located]) -> dict[str, int]:
     return {severity.value: sum(one.finding.severity == severity for one in located) for severity in Severity}
 
 
-def counted(number, name):
+def counted(number: int, name: str) -> str:
     return f"{number} {name}" if number == 1 else f"{number} {name}s"
 
 
-def sums_line(located, subjects):
+def sums_line(located: Sequence[Located], subjects: Sequence[Subject]) -> str:
     sums = [counted(number, name) for name, number in sums_of(located).items() if number]
     return f"{counted(len(subjects), 'template')}: {', '.join(sums) or 'nothing found'}"
 
 
-def as_text(located, subjects):
+def as_text(located: Sequence[Located], subjects: Sequence[Subject]) -> str:
     lines = []
     for one in located:
         finding, place = one.finding, one.file or STANDARD_INPUT
@@ -59,28 +62,41 @@ def as_text(located, subjects):
     return "".join(f"{one_line(line)}\n" for line in [*lines, sums_line(located, subjects)])
 
 
-def member_of(one):
+def member_of(one: Located) -> Object:
     finding = one.finding
-    return {"file": one.file, "kind": one.subject.kind, "line": one.line, "mend": finding.mend,
-            "message": finding.message, "name": one.subject.name, "page": one.page, "pointer": one.pointer,
-            "rule": finding.rule, "severity": finding.severity.value}
+    return {
+        "file": one.file,
+        "kind": one.subject.kind,
+        "line": one.line,
+        "mend": finding.mend,
+        "message": finding.message,
+        "name": one.subject.name,
+        "page": one.page,
+        "pointer": one.pointer,
+        "rule": finding.rule,
+        "severity": finding.severity.value,
+    }
 
 
-def as_json(located, subjects):
-    made = {"findings": [member_of(one) for one in located], "sums": sums_of(located), "templates": len(subjects),
-            "version": VERSION}
+def as_json(located: Sequence[Located], subjects: Sequence[Subject]) -> str:
+    made = {
+        "findings": [member_of(one) for one in located],
+        "sums": sums_of(located),
+        "templates": len(subjects),
+        "version": VERSION,
+    }
     return json.dumps(made, ensure_ascii=False, indent=2) + "\n"
 
 
-def escaped(text):
+def escaped(text: str) -> str:
     return text.replace("%", "%25").replace("\r", "%0D").replace("\n", "%0A")
 
 
-def escaped_property(text):
+def escaped_property(text: str) -> str:
     return escaped(text).replace(":", "%3A").replace(",", "%2C")
 
 
-def command_of(one):
+def command_of(one: Located) -> str:
     finding = one.finding
     given = {"file": one.file, "line": one.line, "title": finding.rule}
     words = ",".join(f"{name}={escaped_property(str(value))}" for name, value in given.items() if value is not None)
@@ -89,5 +105,5 @@ def command_of(one):
     return f"::{COMMANDS[finding.severity]} {words}::" + "%0A".join(map(escaped, lines)) + "\n"
 
 
-def as_github(located, subjects):
+def as_github(located: Sequence[Located], subjects: Sequence[Subject]) -> str:
     return "".join(map(command_of, located)) + sums_line(located, subjects) + "\n"

@@ -1,42 +1,48 @@
 """References to arguments, as `{{args.name}}`, in texts of a template."""
-from argo_judge.objects import member
+from collections.abc import Iterator, Mapping
+from typing import TypeAlias
+
+from argo_judge.lint.subjects import Subject
+from argo_judge.objects import Json, member
 
 BEFORE_NAME = "args."
+# What leads to a value: names and indexes.
+Names: TypeAlias = tuple[str | int, ...]
 # The value of an argument that has none: it is a number, and in quotes a text.
 STAND_IN = "1"
 
 
-def pieces(text):
+def pieces(text: str) -> list[str] | None:
     """What is outside and inside of braces, by turns; the last piece is outside. None where braces stay open."""
     found, at = [], 0
     while (begin := text.find("{{", at)) >= 0:
         end = text.find("}}", begin + 2)
         if end < 0:
             return None
-        found += [text[at:begin], text[begin + 2:end].strip(" ")]
+        found += [text[at:begin], text[begin + 2 : end].strip(" ")]
         at = end + 2
     return [*found, text[at:]]
 
 
-def referred_in(text):
+def referred_in(text: str) -> list[str]:
     """The names of arguments that a text refers to."""
-    return [inside[len(BEFORE_NAME):] for inside in (pieces(text) or [])[1::2] if inside.startswith(BEFORE_NAME)]
+    return [inside[len(BEFORE_NAME) :] for inside in (pieces(text) or [])[1::2] if inside.startswith(BEFORE_NAME)]
 
 
-def bound(text, values):
+def bound(text: str, values: Mapping[str, str]) -> str | None:
     """A text with its arguments' values; None where one has no value, or where braces hold something else."""
     parts = pieces(text)
     if parts is None:
         return None
     for place in range(1, len(parts), 2):
-        name = parts[place][len(BEFORE_NAME):]
+        name = parts[place][len(BEFORE_NAME) :]
         if not parts[place].startswith(BEFORE_NAME) or name not in values:
             return None
         parts[place] = values[name]
     return "".join(parts)
 
 
-def texts_in(value, names=()):
+def texts_in(value: Json, names: Names = ()) -> Iterator[tuple[str, Names]]:
     """Each text in a value, with the names and indexes that lead to it."""
     waiting = [(value, names)]
     while waiting:
@@ -49,7 +55,7 @@ def texts_in(value, names=()):
             waiting += [(item, (*names, place)) for place, item in reversed(list(enumerate(value)))]
 
 
-def referring_texts(subject):
+def referring_texts(subject: Subject) -> list[tuple[str, Names]]:
     """Each text of a template that has braces, with what leads to it; arguments themselves have none."""
     spec = member(subject.object, "spec", default={})
     parts = {name: part for name, part in spec.items() if name != "args"} if isinstance(spec, dict) else {}

@@ -4,13 +4,14 @@ import itertools
 import json
 import math
 import re
+from collections.abc import Callable, Iterable, Sequence
 from fractions import Fraction
 from typing import NamedTuple
 
 from argo_judge.jsontext import NumberText
-from argo_judge.lint.tokens import tokens_of
+from argo_judge.lint.tokens import Token, tokens_of
 from argo_judge.literals import literals_of, number_of_literal
-from argo_judge.objects import member
+from argo_judge.objects import Json, Object, member
 
 MOST_VALUES, MOST_NODES, MOST_NODES_OF_ALL = 400, 2000, 10_000
 # The engine takes no deeper shape.
@@ -30,24 +31,25 @@ STRIDE = 7919
 
 class Material(NamedTuple):
     """What conditions mention: numbers, texts, lengths, and names of fields."""
-    numbers: list
-    texts: list
-    lengths: list
-    names: set
+
+    numbers: list[Fraction]
+    texts: list[str]
+    lengths: list[int]
+    names: set[str]
 
 
-def text_of(token):
+def text_of(token: str) -> str:
     """The text that a token in quotes writes."""
     return ESCAPE.sub(lambda found: ESCAPES.get(found[1], found[1]), token[1:-1])
 
 
-def lengths_in(tokens):
+def lengths_in(tokens: Iterable[Token]) -> list[int]:
     wholes = [number_of_literal(token.text) for token in tokens if token.kind == "number" and len(token.text) <= 4]
     near = {int(whole) + step for whole in wholes if whole.denominator == 1 for step in (-1, 0, 1)}
     return sorted(length for length in near if 0 <= length <= LONGEST_LENGTH)[:MOST_LITERALS]
 
 
-def material_of(conditions):
+def material_of(conditions: Sequence[str]) -> Material:
     """What some conditions mention."""
     tokens = [token for condition in conditions for token in tokens_of(condition)]
     numbers = [literal.number for condition in conditions if tokens_of(condition) for literal in literals_of(condition)]
@@ -58,7 +60,8 @@ def material_of(conditions):
 
 # ---- scalars
 
-def decimal_text(number):
+
+def decimal_text(number: Fraction) -> str:
     """A decimal of at most six digits after its point."""
     millionths = int(number * 1_000_000)
     whole, rest = divmod(abs(millionths), 1_000_000)
@@ -66,35 +69,45 @@ def decimal_text(number):
     return f"{'-' if millionths < 0 else ''}{whole}{'.' if fraction else ''}{fraction}"
 
 
-def decimals(material):
-    near = [number + step for number in material.numbers for step in (0, -LEAST_STEP, LEAST_STEP)]
-    return [NumberText(decimal_text(number)) for number in [*near, *USUAL_NUMBERS] if abs(number) <= GREATEST]
+def decimals(material: Material) -> list[NumberText]:
+    near = [number + step for number in material.numbers for step in (Fraction(0), -LEAST_STEP, LEAST_STEP)]
+    numbers = [*near, *map(Fraction, USUAL_NUMBERS)]
+    return [NumberText(decimal_text(number)) for number in numbers if abs(number) <= GREATEST]
 
 
-def wholes(material):
-    near = [near for number in material.numbers
-            for near in (math.floor(number), math.ceil(number) - 1, math.floor(number) + 1)]
+def wholes(material: Material) -> list[int]:
+    near = [
+        near
+        for number in material.numbers
+        for near in (math.floor(number), math.ceil(number) - 1, math.floor(number) + 1)
+    ]
     return [number for number in [*near, *USUAL_NUMBERS] if abs(number) < 2**63]
 
 
-def texts(material):
+def texts(material: Material) -> list[str]:
     parts = [part for part in material.texts if part]
     other = next((text for text in OTHERS if not any(part in text or text in part for part in parts)), "@")
     return [*material.texts, other, " ".join(material.texts)]
 
 
-SCALARS = {"bool": lambda material: [True, False], "decimal": decimals, "whole": wholes, "text": texts}
+SCALARS: dict[str, Callable[[Material], Sequence[Json]]] = {
+    "bool": lambda material: [True, False],
+    "decimal": decimals,
+    "whole": wholes,
+    "text": texts,
+}
 
 
 # ---- values of any shape
 
-def size_of(value):
+
+def size_of(value: Json) -> int:
     """How many values are in a value, itself among them."""
     items = value if isinstance(value, list) else value.values() if isinstance(value, dict) else ()
     return 1 + sum(map(size_of, items))
 
 
-def distinct(values):
+def distinct(values: Iterable[Json]) -> list[Json]:
     """Values of which none is there twice, the smallest first."""
     found = {json.dumps(value): value for value in values}
     return [found[text] for text in sorted(found, key=lambda text: (len(text), text.startswith("-"), text))]
@@ -103,10 +116,11 @@ def distinct(values):
 class Maker:
     """Makes the values; `is_complete` while each combination was taken."""
 
-    def __init__(self, material):
-        self.material, self.is_complete = material, True
+    def __init__(self, material: Material) -> None:
+        self.material = material
+        self.is_complete = True
 
-    def values(self, shape, level=1):
+    def values(self, shape: Json, level: int = 1) -> list[Json]:
         """Values of a shape at a level; none where it is no shape, which the engine refuses."""
         if level > MOST_LEVELS:
             return []
@@ -122,9 +136,10 @@ class Maker:
             made = []
         return self.smallest(made)
 
-    def smallest(self, made):
+    def smallest(self, made: Iterable[Json]) -> list[Json]:
         """As many of the smallest values as are tried, of a size that is."""
-        chosen, nodes = [], 0
+        chosen: list[Json] = []
+        nodes = 0
         for value in distinct([value for value in made if size_of(value) <= MOST_NODES]):
             nodes += size_of(value)
             if nodes > MOST_NODES_OF_ALL or len(chosen) == MOST_VALUES:
@@ -133,7 +148,7 @@ class Maker:
             chosen.append(value)
         return chosen
 
-    def records(self, fields, level):
+    def records(self, fields: Object, level: int) -> list[Object]:
         """Records; a field that no condition mentions has one value alone."""
         choices = []
         for name, shape in fields.items():
@@ -141,16 +156,21 @@ class Maker:
             choices.append(values if name in self.material.names else values[:1])
         return [dict(zip(fields, chosen)) for chosen in self.combined(choices)]
 
-    def lists(self, shape, longest, level):
+    def lists(self, shape: Json, longest: int, level: int) -> list[list[Json]]:
         """Lists of no item, of one, of two, and of equal items."""
         items = [(item, size_of(item)) for item in self.values(shape, level)]
         pairs = self.combined([[item for item, _ in items]] * 2) if longest >= 2 else []
         lengths = {1, longest, *self.material.lengths} - {0, 2}
-        equal = [[item] * length for length in sorted(lengths) if length <= longest
-                 for item, size in items if size * length < MOST_NODES]
+        equal = [
+            [item] * length
+            for length in sorted(lengths)
+            if length <= longest
+            for item, size in items
+            if size * length < MOST_NODES
+        ]
         return [[], *equal, *map(list, pairs)]
 
-    def combined(self, choices):
+    def combined(self, choices: Sequence[Sequence[Json]]) -> Iterable[tuple[Json, ...]]:
         """A choice of each: all of them or, where they are too many, as many as are tried, spread over all."""
         total = math.prod(map(len, choices))
         if total <= MOST_VALUES:
@@ -159,7 +179,7 @@ class Maker:
         return [self.combination(choices, number * STRIDE % total) for number in range(MOST_VALUES)]
 
     @staticmethod
-    def combination(choices, number):
+    def combination(choices: Sequence[Sequence[Json]], number: int) -> tuple[Json, ...]:
         """The combination of a number, of which the last choice changes fastest."""
         chosen = []
         for choice in reversed(choices):
@@ -168,13 +188,13 @@ class Maker:
         return tuple(reversed(chosen))
 
 
-def values_of(shape, conditions):
+def values_of(shape: Json, conditions: Sequence[str]) -> tuple[list[Json], bool]:
     """Values of a shape on which conditions are tried, the smallest first, and whether each combination is there."""
     maker = Maker(material_of(conditions))
     return maker.values(shape), maker.is_complete
 
 
-def value_text(value):
+def value_text(value: Json) -> str:
     """A value as a line shows it; decimals are numbers there."""
     if isinstance(value, NumberText):
         return str(value)

@@ -1,11 +1,12 @@
 """The cases of a suite: the answers of each metric, in their order, and what is expected of them."""
 import json
+from collections.abc import Iterator, Mapping, Sequence
 from dataclasses import dataclass
 from itertools import zip_longest
-from typing import NamedTuple, Optional
+from typing import NamedTuple
 
 from argo_judge.errors import Refused
-from argo_judge.objects import shown
+from argo_judge.objects import Object, shown
 from argo_judge.suite.expected import NOTHING, OfCase, OfEvent, of_case, of_event
 from argo_judge.suite.nodes import Node, check_fields, guess, known_name, text_of, whole_of
 
@@ -17,14 +18,15 @@ MOST_MEASUREMENTS, MOST_BYTES = 100_000, 16_777_216
 
 class Answer(NamedTuple):
     """An answer as often as it is repeated: the members of its entries, and what is expected of each event."""
-    metric: Optional[str]
-    members: dict
+
+    metric: str | None
+    members: Object
     repeat: int
     expected: OfEvent
     node: Node
 
     @property
-    def size(self):
+    def size(self) -> int:
         """How many bytes of a document it is, about."""
         return self.repeat * (len(json.dumps(self.members)) + len(json.dumps(self.metric)) + 32)
 
@@ -32,34 +34,36 @@ class Answer(NamedTuple):
 @dataclass
 class Case:
     """A test: its answers by metric, which are taken in rounds, or as they are listed."""
+
     name: str
     node: Node
-    args: dict
-    columns: list
+    args: dict[str, str]
+    columns: list[list[Answer]]
     expected: OfCase
 
     @property
-    def answers(self):
+    def answers(self) -> list[Answer]:
         return [answer for column in self.columns for answer in column]
 
-    def in_order(self):
+    def in_order(self) -> Iterator[Answer]:
         """Each answer, once for each time that it is given, in the order of the events."""
         repeated = [(answer for answer in column for _ in range(answer.repeat)) for column in self.columns]
         for one_round in zip_longest(*repeated):
             yield from (answer for answer in one_round if answer is not None)
 
     @property
-    def count(self):
+    def count(self) -> int:
         return sum(answer.repeat for answer in self.answers)
 
     @property
-    def size(self):
+    def size(self) -> int:
         return sum(answer.size + answer.repeat * len(json.dumps(self.name)) for answer in self.answers)
 
 
 # ---- answers
 
-def members_of(node):
+
+def members_of(node: Node) -> Object:
     """What an answer's object says of its entry: a value, an error or a stop."""
     given = [name for name in ("value", "error", "stop") if node.has(name)]
     if len(given) != 1:
@@ -72,22 +76,24 @@ def members_of(node):
     return {name: member.value}
 
 
-def answer_of(node, metric, more_fields=()):
+def answer_of(node: Node, metric: str | None, more_fields: tuple[str, ...] = ()) -> Answer:
     """An answer: a value that is no object by itself, or an object."""
     if not isinstance(node.value, dict):
         return Answer(metric, {"value": node.value}, 1, NOTHING, node)
     known = ANSWER_FIELDS + more_fields
     for name in node.value:
         if name not in known:
-            raise Refused(f"{node.member(name).where}: an answer has no field {shown(name)}; {guess(name, known)}; "
-                          "a record is written as `value: {..}`")
+            raise Refused(
+                f"{node.member(name).where}: an answer has no field {shown(name)}; {guess(name, known)}; "
+                "a record is written as `value: {..}`"
+            )
     members, repeat = members_of(node), node.member("repeat")
     times = 1 if repeat.value is None else whole_of(repeat, 1, MOST_MEASUREMENTS)
     is_stop = "stop" in members
     return Answer(None if is_stop else metric, members, times, of_event(node, is_stop), node)
 
 
-def measurement_of(node, metrics):
+def measurement_of(node: Node, metrics: Sequence[str]) -> Answer:
     """An answer of a list across metrics, which names its metric."""
     check_fields(node, (*ANSWER_FIELDS, "metric"), "a measurement")
     named = node.member("metric")
@@ -99,7 +105,7 @@ def measurement_of(node, metrics):
     return answer_of(node, named.value, ("metric",))
 
 
-def columns_of(node, metrics):
+def columns_of(node: Node, metrics: Sequence[str]) -> list[list[Answer]]:
     """The answers of a test: a list for each metric, in the template's order, or one list across metrics."""
     answers, measurements = node.member("answers"), node.member("measurements")
     if answers.value is not None and measurements.value is not None:
@@ -109,20 +115,22 @@ def columns_of(node, metrics):
     given = {} if answers.value is None else answers.members("an object that has a list of answers for a metric's name")
     for name, member in given.items():
         known_name(member, name, metrics, "metric")
-    return [[answer_of(item, name) for item in given[name].items("a list of answers")]
-            for name in metrics if name in given]
+    return [
+        [answer_of(item, name) for item in given[name].items("a list of answers")] for name in metrics if name in given
+    ]
 
 
 # ---- a test
 
-def argument_text(node):
+
+def argument_text(node: Node) -> str:
     """The value of an argument, which is a text; a number is one by its digits."""
     if isinstance(node.value, bool) or not isinstance(node.value, (str, int)):
         raise node.refused("a text, as arguments are")
     return str(node.value)
 
 
-def args_of(node, names):
+def args_of(node: Node, names: Sequence[str]) -> dict[str, str]:
     """The arguments that a suite or a test gives, by the names that the template has."""
     given = {} if node.value is None else node.members("an object of arguments by their names")
     for name, member in given.items():
@@ -130,7 +138,7 @@ def args_of(node, names):
     return {name: argument_text(member) for name, member in given.items()}
 
 
-def check_sizes(case):
+def check_sizes(case: Case) -> None:
     if case.count > MOST_MEASUREMENTS:
         raise Refused(f"{case.node.where}: found {case.count} measurements; expected at most {MOST_MEASUREMENTS}")
     if case.size > MOST_BYTES:
@@ -138,17 +146,19 @@ def check_sizes(case):
         raise Refused(f"{case.node.where}: {found}; expected at most {MOST_BYTES}")
 
 
-def check_expects(case):
+def check_expects(case: Case) -> None:
     """Refuses a test that would pass whatever the engine says."""
     of_events = any(answer.expected != NOTHING for answer in case.answers)
     if case.expected.refused is not None and of_events:
         raise Refused(f"{case.node.where}: a document that is refused has no events; expected `refused` alone")
     if not of_events and case.expected == OfCase(None, {}, None):
-        raise Refused(f"{case.node.where}: test {shown(case.name)} checks nothing; expected `expect`, or `verdict`, "
-                      "`effect` or `fault` of an answer")
+        raise Refused(
+            f"{case.node.where}: test {shown(case.name)} checks nothing; expected `expect`, or `verdict`, "
+            "`effect` or `fault` of an answer"
+        )
 
 
-def case_of(node, args, metrics, argument_names):
+def case_of(node: Node, args: Mapping[str, str], metrics: Sequence[str], argument_names: Sequence[str]) -> Case:
     """A test; `args`: the suite's arguments."""
     check_fields(node, FIELDS, "a test")
     name = text_of(node.member("name"), "a text as the test's `name`")

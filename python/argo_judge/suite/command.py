@@ -22,13 +22,15 @@ tests anew, and lists the moves that none of them notices.
 Status 0 where each test passes and, with --mutate, each move is noticed; 1 where one isn't; 2 where a file, or the
 command line, is refused.
 """
+from argparse import ArgumentParser, Namespace
+
 from argo_judge.errors import Refused
 from argo_judge.files import write_text
 from argo_judge.notes import kept_notes, note
 from argo_judge.objects import shown
 from argo_judge.options import add_engine_flag, command_line
-from argo_judge.suite.explaining import result_of
-from argo_judge.suite.files import suites_in
+from argo_judge.suite.explaining import Result, result_of
+from argo_judge.suite.files import Suite, suites_in
 from argo_judge.suite.judging import Subject, outcomes_of
 from argo_judge.suite.mutating import trials_of
 from argo_judge.suite.outputs import json_of, junit_of, text_of
@@ -36,7 +38,7 @@ from argo_judge.suite.outputs import json_of, junit_of, text_of
 WRITERS = {"text": text_of, "json": json_of, "junit": junit_of}
 
 
-def chosen(suites, text):
+def chosen(suites: list[Suite], text: str | None) -> list[Suite]:
     """The suites with the tests alone whose name has a text, where one is given."""
     if text is None:
         return suites
@@ -48,7 +50,7 @@ def chosen(suites, text):
     return found
 
 
-def results_of(engine, suite):
+def results_of(engine: str, suite: Suite) -> list[Result]:
     """The results of a suite. What is noted of it is noted once, though a case may be judged once more by itself."""
     subject = Subject(suite.template, suite.shapes)
     with kept_notes() as lines:
@@ -58,7 +60,7 @@ def results_of(engine, suite):
     return [result_of(engine, subject, suite, case, outcome) for case, outcome in outcomes]
 
 
-def add_flags(parser):
+def add_flags(parser: ArgumentParser) -> None:
     parser.add_argument("--filter", metavar="TEXT", help="run the tests alone whose name has this text")
     parser.add_argument("--mutate", action="store_true", help="list moves of limits and thresholds that none notices")
     parser.add_argument("--output", choices=WRITERS, default="text", help="what is written; text without it")
@@ -66,7 +68,7 @@ def add_flags(parser):
     parser.add_argument("files", nargs="+", metavar="FILE", help="a suite in YAML or JSON, or a folder; - is the input")
 
 
-def test(words):
+def test(words: Namespace) -> int:
     """Runs the tests of suites, and writes what came of them."""
     suites = chosen(suites_in(words.files), words.filter)
     results = [result for suite in suites for result in results_of(words.engine, suite)]
@@ -78,7 +80,7 @@ def test(words):
     return 0 if passed and not any(trial.unnoticed for trial in trials or ()) else 1
 
 
-def main():
+def main() -> int:
     parser = command_line(__doc__)
     add_flags(parser)
     return test(parser.parse_args())

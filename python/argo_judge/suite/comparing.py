@@ -1,36 +1,42 @@
 """What differs between what a case expects and what the engine says of it."""
+from collections.abc import Iterator
 from typing import NamedTuple
 
-from argo_judge.engine.reports import effect_text, verdict_text
+from argo_judge.engine.reports import EventReport, MetricReport, RunReport, effect_text, verdict_text
+from argo_judge.suite.cases import Answer, Case
+from argo_judge.suite.expected import OfMetric
+from argo_judge.suite.judging import Outcome
 
 
 class Difference(NamedTuple):
     """What was expected of something and what was found; `events`: the places of the events that led to it."""
+
     what: str
     expected: str
     got: str
-    events: tuple = ()
+    events: tuple[int, ...] = ()
 
 
-def begins(text, words):
-    return tuple(text.split()[:len(words)]) == words
+def begins(text: str, words: tuple[str, ...]) -> bool:
+    return tuple(text.split()[: len(words)]) == words
 
 
-def is_closing(event):
+def is_closing(event: EventReport) -> bool:
     return event["effect"] == "closed"
 
 
-def counting(run, metric):
+def counting(run: RunReport, metric: str) -> tuple[int, ...]:
     """The places of a metric's events that count."""
-    return tuple(place for place, event in enumerate(run["events"])
-                 if event["metric"] == metric and event["effect"] != "late")
+    return tuple(
+        place for place, event in enumerate(run["events"]) if event["metric"] == metric and event["effect"] != "late"
+    )
 
 
-def closing(run):
+def closing(run: RunReport) -> tuple[int, ...]:
     return tuple(place for place, event in enumerate(run["events"]) if is_closing(event))
 
 
-def of_event(answer, event, place):
+def of_event(answer: Answer, event: EventReport, place: int) -> Iterator[Difference]:
     """What differs of one event."""
     expected, line = answer.expected, answer.node.line
     at = f"line {line}" if line else answer.node.pointer
@@ -43,7 +49,7 @@ def of_event(answer, event, place):
         yield Difference(f"{what}, effect", " ".join(expected.effect), effect_text(event), (place,))
 
 
-def of_metric(run, metric, expected):
+def of_metric(run: RunReport, metric: MetricReport, expected: OfMetric) -> Iterator[Difference]:
     """What differs of one metric."""
     for name, wanted in expected.items():
         got = metric["phase"] if name == "phase" else metric["counts"][name]
@@ -54,7 +60,7 @@ def of_metric(run, metric, expected):
             yield Difference(what, str(wanted), str(got), places)
 
 
-def of_run(case, run):
+def of_run(case: Case, run: RunReport) -> Iterator[Difference]:
     """What differs of a run that was judged."""
     expected = case.expected
     if expected.run is not None and run["phase"] != expected.run:
@@ -66,12 +72,12 @@ def of_run(case, run):
         yield from of_event(answer, event, place)
 
 
-def differences(case, outcome):
+def differences(case: Case, outcome: Outcome) -> Iterator[Difference]:
     """What differs of a case, of which there may be much."""
-    wanted, refusal = case.expected.refused, outcome.refusal
-    if refusal is None and wanted is None:
+    wanted = case.expected.refused
+    if outcome.run is not None and wanted is None:
         yield from of_run(case, outcome.run)
-    elif refusal is None:
-        yield Difference("refused", wanted, f"no refusal, run {outcome.run['phase']}")
-    elif refusal.name != wanted:
-        yield Difference("refused", wanted or "no refusal", refusal.text)
+    elif outcome.run is not None:
+        yield Difference("refused", str(wanted), f"no refusal, run {outcome.run['phase']}")
+    elif outcome.refusal is not None and outcome.refusal.name != wanted:
+        yield Difference("refused", wanted or "no refusal", outcome.refusal.text)

@@ -1,27 +1,34 @@
 """What a test expects: of the run, of its metrics, of single events, or that the document is refused."""
-from typing import NamedTuple, Optional
+from collections.abc import Sequence
+from typing import NamedTuple, TypeAlias
 
 from argo_judge.engine.reports import CAUSES, COUNTS, EFFECTS, FAULTS, MISFITS, PHASES, VERDICTS
 from argo_judge.errors import Refused
 from argo_judge.objects import shown
-from argo_judge.suite.nodes import check_fields, guess, known_name, text_of, whole_of, word_of
+from argo_judge.suite.nodes import Node, check_fields, guess, known_name, text_of, whole_of, word_of
 
 MOST_COUNTED = 100_000
 FIELDS = ("run", "metrics", "refused")
 
 
+# Expected of a metric: its phase, and its counts by their names.
+OfMetric: TypeAlias = dict[str, str | int]
+
+
 class OfEvent(NamedTuple):
     """Expected of an event: the first words of its verdict and of its effect, and the name of its fault."""
-    verdict: tuple
-    effect: tuple
-    fault: Optional[str]
+
+    verdict: tuple[str, ...]
+    effect: tuple[str, ...]
+    fault: str | None
 
 
 class OfCase(NamedTuple):
     """Expected of a case: the phase of its run, and of metrics their phases and counts by the names of both."""
-    run: Optional[str]
-    metrics: dict
-    refused: Optional[str]
+
+    run: str | None
+    metrics: dict[str, OfMetric]
+    refused: str | None
 
 
 NOTHING = OfEvent((), (), None)
@@ -29,17 +36,19 @@ NOTHING = OfEvent((), (), None)
 
 # ---- events
 
-def check_verdict(node, words):
+
+def check_verdict(node: Node, words: tuple[str, ...]) -> None:
     causes = CAUSES.get(words[1], ()) if len(words) > 1 else ()
-    choices = (VERDICTS, tuple(CAUSES) if words[:1] == ("Error",) else (), causes)
-    if not words or len(words) > len(choices) or not any(choices[len(words) - 1]):
+    faults = tuple(fault for fault in causes if fault is not None)
+    choices = (VERDICTS, tuple(CAUSES) if words[:1] == ("Error",) else (), faults)
+    if not words or len(words) > len(choices) or not choices[len(words) - 1]:
         raise node.refused(f"{', '.join(VERDICTS)}, or Error with its cause, or with its cause and fault")
     for word, known in zip(words, choices):
         if word not in known:
             raise Refused(f"{node.where}: {shown(node.value)} is no verdict; {guess(word, known)}")
 
 
-def verdict_of(node):
+def verdict_of(node: Node) -> tuple[str, ...]:
     """A verdict's words; `Error` may be followed by its cause, and that by the fault."""
     if node.value is None:
         return ()
@@ -48,7 +57,7 @@ def verdict_of(node):
     return words
 
 
-def effect_of(node):
+def effect_of(node: Node) -> tuple[str, ...]:
     """An effect's words; `closed` may be followed by the run's phase."""
     if node.value is None:
         return ()
@@ -62,7 +71,7 @@ def effect_of(node):
     return words
 
 
-def of_event(node, is_stop):
+def of_event(node: Node, is_stop: bool) -> OfEvent:
     """What an answer of a suite expects of the event that it makes."""
     verdict, fault = verdict_of(node.member("verdict")), node.member("fault")
     name = None if fault.value is None else word_of(fault, FAULTS + MISFITS, "a fault or misfit")
@@ -73,7 +82,8 @@ def of_event(node, is_stop):
 
 # ---- the run and its metrics
 
-def of_metric(node):
+
+def of_metric(node: Node) -> OfMetric:
     """A metric's phase, alone or as `phase` next to counts."""
     if isinstance(node.value, str):
         return {"phase": word_of(node, PHASES, "a phase")}
@@ -81,11 +91,13 @@ def of_metric(node):
     given = {name: member for name, member in node.members("an object").items() if member.value is not None}
     if not given:
         raise node.refused(f"a phase, or an object with `phase` or counts ({', '.join(COUNTS)})")
-    return {name: word_of(member, PHASES, "a phase") if name == "phase" else whole_of(member, 0, MOST_COUNTED)
-            for name, member in given.items()}
+    return {
+        name: word_of(member, PHASES, "a phase") if name == "phase" else whole_of(member, 0, MOST_COUNTED)
+        for name, member in given.items()
+    }
 
 
-def of_case(node, metrics):
+def of_case(node: Node, metrics: Sequence[str]) -> OfCase:
     """What a test expects of its run; `metrics`: the names of the template's metrics."""
     if node.value is None:
         return OfCase(None, {}, None)
@@ -94,9 +106,11 @@ def of_case(node, metrics):
     found = {} if by_name.value is None else by_name.members("an object of what is expected by the names of metrics")
     for name, member in found.items():
         known_name(member, name, metrics, "metric")
-    expected = OfCase(None if run.value is None else word_of(run, PHASES, "a phase"),
-                      {name: of_metric(member) for name, member in found.items()},
-                      None if refused.value is None else text_of(refused, "the name of a refusal, as NoValue"))
+    expected = OfCase(
+        None if run.value is None else word_of(run, PHASES, "a phase"),
+        {name: of_metric(member) for name, member in found.items()},
+        None if refused.value is None else text_of(refused, "the name of a refusal, as NoValue"),
+    )
     if expected.refused is not None and (expected.run or expected.metrics):
         raise Refused(f"{node.where}: a document that is refused has no run; expected `refused` alone")
     return expected

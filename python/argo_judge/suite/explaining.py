@@ -1,11 +1,17 @@
 """Why a case differs: what the engine explains of the events that led to it."""
+from collections.abc import Sequence
 from dataclasses import replace
 from itertools import islice
 from typing import NamedTuple
 
 from argo_judge.engine.explanations import event_head, explained_in, lines_of_event, lines_of_metric
-from argo_judge.suite.comparing import differences
-from argo_judge.suite.judging import answered, document_of
+from argo_judge.engine.refusals import Refusal
+from argo_judge.errors import Refused
+from argo_judge.objects import Object
+from argo_judge.suite.cases import Case
+from argo_judge.suite.comparing import Difference, differences
+from argo_judge.suite.files import Suite
+from argo_judge.suite.judging import Outcome, Subject, answered, document_of
 
 # Of a case, how many differences are shown, and how many events are explained.
 MOST_DIFFERENCES, MOST_EVENTS = 8, 4
@@ -15,38 +21,40 @@ NAME = "test"
 
 class Result(NamedTuple):
     """A case, what differs of it (the first, and how many more there are), and the lines that say why."""
-    suite: object
-    case: object
-    differences: list
+
+    suite: Suite
+    case: Case
+    differences: list[Difference]
     more: int
-    reasons: list
+    reasons: list[str]
 
     @property
-    def passed(self):
+    def passed(self) -> bool:
         return not self.differences
 
 
-def explained(engine, document, place):
+def explained(engine: str, document: Object, place: int | None) -> Object:
     """What the engine explains of an event, and the metrics of its run; without an event, of a run that has none."""
     words = ["--event", str(place)] if place is not None else ["--run", NAME]
-    ended, _ = answered(engine, ["explain", "--output", "json", *words], document)
-    return explained_in(ended.stdout, "explain")[0]
+    found = answered(engine, ["explain", "--output", "json", *words], document)
+    if isinstance(found, Refusal):
+        raise Refused(f"the engine judges a document and refuses to explain it: {found.line}")
+    return explained_in(found.stdout, "explain")[0]
 
 
-def reasons(engine, subject, case, found):
+def reasons(engine: str, subject: Subject, case: Case, found: Sequence[Difference]) -> list[str]:
     """The lines that say why a run is as it is: the events that led to it, and its metrics."""
-    places = sorted({place for one in found for place in one.events})
+    places: list[int | None] = [*sorted({place for one in found for place in one.events})]
     document = document_of(subject, [replace(case, name=NAME)])
-    lines, run = [], None
-    for place in places[:MOST_EVENTS] or [None]:
-        run = explained(engine, document, place)
-        for one in run["events"]:
-            lines += [event_head(one["event"]), *lines_of_event(one)]
+    runs = [explained(engine, document, place) for place in places[:MOST_EVENTS] or [None]]
+    lines = []
+    for one in [one for run in runs for one in run["events"]]:
+        lines += [event_head(one["event"]), *lines_of_event(one)]
     lines += ["other events are left out"] if places[MOST_EVENTS:] else []
-    return lines + [line for one in run["metrics"] for line in lines_of_metric(one)]
+    return lines + [line for one in runs[-1]["metrics"] for line in lines_of_metric(one)]
 
 
-def result_of(engine, subject, suite, case, outcome):
+def result_of(engine: str, subject: Subject, suite: Suite, case: Case, outcome: Outcome) -> Result:
     """The result of a case. Where it differs the engine is asked why."""
     rest = differences(case, outcome)
     found = list(islice(rest, MOST_DIFFERENCES))

@@ -1,16 +1,17 @@
 """The files of suites: each names a template, shapes, arguments and tests."""
 import os
+from collections.abc import Sequence
 from dataclasses import dataclass
 
 from argo_judge.documents import with_conditions
 from argo_judge.dryruns import with_dry_names
 from argo_judge.errors import Refused
 from argo_judge.jsontext import NumberText
-from argo_judge.manifests import SUFFIXES, documents_of, files_in, objects_of
+from argo_judge.manifests import SUFFIXES, Found, documents_of, files_in, objects_of
 from argo_judge.notes import note
-from argo_judge.objects import listed, member, objects, shown
+from argo_judge.objects import Json, Object, listed, member, objects, shown
 from argo_judge.shapes import noted_shapes, with_own
-from argo_judge.suite.cases import args_of, case_of
+from argo_judge.suite.cases import Case, args_of, case_of
 from argo_judge.suite.nodes import Node, check_fields, text_of
 from argo_judge.templates import metric_names
 from argo_judge.yamltext import is_read
@@ -22,22 +23,24 @@ KINDS = ("AnalysisTemplate", "ClusterAnalysisTemplate")
 @dataclass
 class Suite:
     """The tests of one template. `equivalent` are moves, by their lines, that no test can notice."""
+
     file: str
-    template: dict
-    shapes: dict
-    equivalent: list
-    cases: list
+    template: Object
+    shapes: Object
+    equivalent: list[str]
+    cases: list[Case]
 
 
 # ---- the template
 
-def path_next_to(node, expected):
+
+def path_next_to(node: Node, expected: str) -> str:
     """The path of a file that a suite names, which is relative to the suite's own folder."""
     folder = "." if node.found.file == "-" else os.path.dirname(node.found.file)
     return os.path.join(folder, text_of(node, expected))
 
 
-def template_in_file(node, name):
+def template_in_file(node: Node, name: Node) -> Object:
     """The template of a file, by its name where there are several."""
     path = path_next_to(node, "the path of a template's file, or a template")
     found = [one.value for one in objects_of(path, f"{node.where}: template") if member(one.value, "kind") in KINDS]
@@ -46,10 +49,11 @@ def template_in_file(node, name):
     if len(chosen) != 1:
         wanted = "or its `templateName`" if name.value is None else f"of the name {shown(name.value)}"
         raise Refused(f"{node.where}: {path}: expected one template there, {wanted}; templates are {listed(names)}")
-    return chosen[0]
+    template: Object = chosen[0]
+    return template
 
 
-def check_arguments(node, template):
+def check_arguments(node: Node, template: Object) -> None:
     """Refuses an argument that is a number, which the engine would be given as a text and kubectl refuses."""
     for place, arg in enumerate(objects(member(template, "spec", "args"))):
         if isinstance(member(arg, "value"), NumberText):
@@ -57,7 +61,7 @@ def check_arguments(node, template):
             raise Refused(f"{where}: expected a text, found the number {arg['value']}")
 
 
-def template_of(suite):
+def template_of(suite: Node) -> Object:
     """The template of a suite: its own, or that of the file that it names."""
     node, name = suite.member("template"), suite.member("templateName")
     if isinstance(node.value, dict):
@@ -67,12 +71,14 @@ def template_of(suite):
     else:
         template = template_in_file(node, name)
     check_arguments(node, template)
-    return with_conditions(with_dry_names(template, is_noted=False))
+    made: Object = with_conditions(with_dry_names(template, is_noted=False))
+    return made
 
 
 # ---- shapes
 
-def given_shapes(node):
+
+def given_shapes(node: Node) -> Object | None:
     """The shapes that a suite has: an object, or the path of a file that has one."""
     if node.value is None or isinstance(node.value, dict):
         return node.value
@@ -83,7 +89,7 @@ def given_shapes(node):
     return found[0]
 
 
-def shapes_of(suite, template):
+def shapes_of(suite: Node, template: Object) -> Object:
     """The shapes of a template's metrics: those of the suite, else those of the template's annotation."""
     given = given_shapes(suite.member("shapes"))
     given = noted_shapes(template) if given is None else given
@@ -92,7 +98,8 @@ def shapes_of(suite, template):
 
 # ---- suites
 
-def suite_of(found):
+
+def suite_of(found: Found) -> Suite:
     """The suite that a document is."""
     node = Node(found.value, found, "")
     check_fields(node, FIELDS, "a suite")
@@ -100,7 +107,8 @@ def suite_of(found):
     named = [member(arg, "name") for arg in objects(member(template, "spec", "args"))]
     arguments = [name for name in named if isinstance(name, str)]
     args, metrics = args_of(node.member("args"), arguments), metric_names(template)
-    cases, places = [], {}
+    cases: list[Case] = []
+    places: dict[str, str] = {}
     for item in node.member("tests").items("a list of tests as `tests`"):
         case = case_of(item, args, metrics, arguments)
         if case.name in places:
@@ -115,18 +123,18 @@ def suite_of(found):
     return Suite(found.file, template, shapes_of(node, template), equivalent, cases)
 
 
-def is_of_kubernetes(value):
+def is_of_kubernetes(value: Json) -> bool:
     names = ("apiVersion", "kind")
     return all(member(value, name) is not None for name in names) and member(value, "tests") is None
 
 
-def check_readable(path):
+def check_readable(path: str) -> None:
     """Refuses YAML where PyYAML isn't installed: kubectl reads its own objects alone."""
     if not is_read() and path.endswith(SUFFIXES) and not path.endswith(".json"):
         raise Refused(f"{path}: found YAML; expected PyYAML, or the suite as JSON, as `yq -o json` writes it")
 
 
-def suites_in(paths):
+def suites_in(paths: Sequence[str]) -> list[Suite]:
     """The suites of files and folders. Objects of Kubernetes that are there, too, are counted in a line."""
     suites, passed_over = [], 0
     for path in files_in(paths):

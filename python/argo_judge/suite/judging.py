@@ -1,43 +1,53 @@
 """What the engine says of cases: many of them are runs of one document."""
 import json
-from typing import NamedTuple, Optional
+from collections.abc import Callable, Iterator, Sequence
+from subprocess import CompletedProcess
+from typing import NamedTuple, NoReturn
 
 from argo_judge.engine.program import judged, shell_status
-from argo_judge.engine.refusals import Refusal, hand_on, refusal_in, warnings_in
-from argo_judge.engine.reports import checked
+from argo_judge.engine.refusals import Refusal, Warned, hand_on, refusal_in, warnings_in
+from argo_judge.engine.reports import RunReport, checked
 from argo_judge.errors import REFUSED, Status
 from argo_judge.notes import note
-from argo_judge.suite.cases import MOST_BYTES, MOST_MEASUREMENTS
+from argo_judge.objects import Object
+from argo_judge.suite.cases import MOST_BYTES, MOST_MEASUREMENTS, Answer, Case
 
 MOST_RUNS = 64
 
 
 class Subject(NamedTuple):
     """What cases are judged by: a template, the shapes of its metrics, and the arguments of a case's run."""
-    template: dict
-    shapes: dict
-    args_of: object = lambda case: case.args
+
+    template: Object
+    shapes: Object
+    args_of: Callable[[Case], dict[str, str]] = lambda case: case.args
 
 
 class Outcome(NamedTuple):
     """What the engine says of a case: its run of a report, or a refusal."""
-    run: Optional[dict]
-    refusal: Optional[Refusal]
+
+    run: RunReport | None
+    refusal: Refusal | None
 
 
 # ---- documents
 
-def document_of(subject, cases):
+
+def document_of(subject: Subject, cases: Sequence[Case]) -> Object:
     """The document whose runs are these cases."""
     runs = [{"name": case.name, "args": subject.args_of(case)} for case in cases]
-    entries = [{"run": case.name, **({} if answer.metric is None else {"metric": answer.metric}), **answer.members}
-               for case in cases for answer in case.in_order()]
+    entries = [
+        {"run": case.name, **({} if answer.metric is None else {"metric": answer.metric}), **answer.members}
+        for case in cases
+        for answer in case.in_order()
+    ]
     return {"manifest": subject.template, "shapes": subject.shapes, "runs": runs, "measurements": entries}
 
 
-def parts_of(cases, first_size):
+def parts_of(cases: Sequence[Case], first_size: int) -> Iterator[list[Case]]:
     """Cases in parts that fit one document each. One that expects a refusal is alone: it would be one of all."""
-    part, count, size = [], 0, first_size
+    part: list[Case] = []
+    count, size = 0, first_size
     for case in cases:
         is_alone = case.expected.refused is not None
         is_larger = count + case.count > MOST_MEASUREMENTS or size + case.size > MOST_BYTES
@@ -55,27 +65,28 @@ def parts_of(cases, first_size):
 
 # ---- the engine
 
-def ended_otherwise(ended):
+
+def ended_otherwise(ended: CompletedProcess[str]) -> NoReturn:
     """Ends as the engine did where it neither judged nor refused a document, with its own line."""
     hand_on(ended.returncode, ended.stderr)
     raise Status(shell_status(ended.returncode))
 
 
-def answered(engine, words, document):
-    """What the engine writes of a document, to both outputs, or its refusal, one of which is None."""
+def answered(engine: str, words: Sequence[str], document: Object) -> CompletedProcess[str] | Refusal:
+    """What the engine writes of a document, or its refusal."""
     ended = judged(engine, words, document)
     if ended.returncode == REFUSED:
-        return None, refusal_in(ended.stderr)
+        return refusal_in(ended.stderr)
     if ended.returncode not in (0, 1):
         ended_otherwise(ended)
-    return ended, None
+    return ended
 
 
-def expects_error(answer):
+def expects_error(answer: Answer) -> bool:
     return answer.expected.verdict[:1] == ("Error",) or answer.expected.fault is not None
 
 
-def note_warnings(cases, warnings):
+def note_warnings(cases: Sequence[Case], warnings: Sequence[Warned]) -> None:
     """Notes what the engine warns of in a document of these cases: of the template under the suite's name, and of a
     measurement where its answer is, unless that expects an error."""
     answers = [answer for case in cases for answer in case.in_order()] if warnings else []
@@ -86,19 +97,19 @@ def note_warnings(cases, warnings):
             note(f"{answers[warning.entry].node.where}: {warning.found}; expected {warning.expected}")
 
 
-def outcomes_of_part(engine, subject, cases):
+def outcomes_of_part(engine: str, subject: Subject, cases: Sequence[Case]) -> list[Outcome]:
     """The outcome of each case of a part; where their document is refused each has one of its own."""
     document = document_of(subject, cases)
-    ended, refusal = answered(engine, ["run", "--plain", "--output", "json"], document)
-    if refusal is None:
-        note_warnings(cases, warnings_in(ended.stderr))
-        return [Outcome(run, None) for run in checked(document, ended.stdout, "document", "report")]
+    found = answered(engine, ["run", "--plain", "--output", "json"], document)
+    if not isinstance(found, Refusal):
+        note_warnings(cases, warnings_in(found.stderr))
+        return [Outcome(run, None) for run in checked(document, found.stdout, "document", "report")]
     if len(cases) == 1:
-        return [Outcome(None, refusal)]
+        return [Outcome(None, found)]
     return [outcome for case in cases for outcome in outcomes_of_part(engine, subject, [case])]
 
 
-def outcomes_of(engine, subject, cases):
+def outcomes_of(engine: str, subject: Subject, cases: Sequence[Case]) -> Iterator[tuple[Case, Outcome]]:
     """Each case with its outcome."""
     first_size = len(json.dumps([subject.template, subject.shapes])) + 1024
     for part in parts_of(cases, first_size):
