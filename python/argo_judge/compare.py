@@ -8,6 +8,7 @@ infinities are errors, a value that doesn't fit its shape is an error, and integ
 (docs/use/language.md, "Where this differs"); and results that come late change nothing. The engine's warnings are lines
 on standard error.
 """
+from argparse import ArgumentParser, Namespace
 from collections.abc import Iterator, Sequence
 from typing import NamedTuple
 
@@ -18,7 +19,7 @@ from argo_judge.engine.reports import RunReport, checked, effect_text, verdict_t
 from argo_judge.errors import Refused
 from argo_judge.files import read_json
 from argo_judge.objects import Object, member, objects, shown
-from argo_judge.options import add_engine_flag, command_line
+from argo_judge.options import add_engine_flag
 
 
 def report_of(engine: str, made: Object) -> RunReport:
@@ -53,15 +54,17 @@ def compared_in(run: Object, found: Sequence[Measured], report: RunReport) -> It
     yield from (Compared(what, their, ours, ours) for what, their, ours in pairs if their is not None)
 
 
-def main() -> int:
-    """The command."""
-    parser = command_line(__doc__)
+def add_arguments(parser: ArgumentParser) -> None:
+    """What the command takes."""
     add_flags(parser)
     add_engine_flag(parser)
     parser.add_argument(
         "run", nargs="?", default="-", metavar="FILE", help="the AnalysisRun; standard input without it"
     )
-    words = parser.parse_args()
+
+
+def main(words: Namespace) -> int:
+    """Prints each phase that differs, and how many were compared."""
     run = read_json(words.run, "input")
     made, found = document_of(run, flags_of(words))
     compared = list(compared_in(run, found, report_of(words.engine, made)))

@@ -13,6 +13,8 @@ its document, whose warnings aren't looked at:
 
     bin/argo_judge run --ordered --output json <document.json | recipes/go-on --document document.json
 """
+from argparse import ArgumentParser, Namespace
+
 from argo_judge.engine.program import judged_bytes, shell_status
 from argo_judge.engine.refusals import hand_on, warnings_in
 from argo_judge.engine.reports import BAD, checked, text_of
@@ -20,7 +22,7 @@ from argo_judge.errors import Refused, Status
 from argo_judge.files import read_bytes, read_text, write_text
 from argo_judge.jsontext import parsed
 from argo_judge.notes import say
-from argo_judge.options import add_engine_flag, command_line
+from argo_judge.options import add_engine_flag
 
 
 def show_warnings(errors: str, are_allowed: bool) -> None:
@@ -43,13 +45,16 @@ def made_report(engine: str, document: bytes, are_allowed: bool) -> tuple[str, b
     return ended.stdout.decode("utf-8", "replace"), ended.returncode == 0
 
 
-def main() -> int:
-    parser = command_line(__doc__)
+def add_arguments(parser: ArgumentParser) -> None:
+    """What the command takes."""
     parser.add_argument("--document", dest="of_report", metavar="DOCUMENT", help="that of the report on standard input")
     add_engine_flag(parser)
     parser.add_argument("--allow-warnings", action="store_true", help="judge a document with warnings, too")
     parser.add_argument("document", nargs="?", metavar="DOCUMENT", help="the document to judge; - is standard input")
-    words = parser.parse_args()
+
+
+def main(words: Namespace) -> int:
+    """Prints the report of a document, and ends with 0 where each of its runs is Successful."""
     if (words.document is None) == (words.of_report is None):
         raise Refused("command line: expected DOCUMENT, or --document DOCUMENT and its report on standard input")
     if words.of_report == "-":

@@ -3,6 +3,8 @@ import contextlib
 import sys
 from collections.abc import Iterator
 
+from argo_judge import PROGRAM
+
 
 def one_line(text: str) -> str:
     """A text without line feeds and other characters that a terminal would obey."""
@@ -34,9 +36,15 @@ def say(text: str) -> None:
         pass
 
 
+def program() -> str:
+    """The name that lines of the command begin with: that of the executable."""
+    name = sys.argv[0].rsplit("/", 1)[-1]
+    return PROGRAM if name == "__main__.py" else name
+
+
 def note(text: str) -> None:
     """Writes a line of the command itself to standard error, or keeps it."""
     if KEPT:
         KEPT[-1].append(text)
     else:
-        say(f"{sys.argv[0].rsplit('/', 1)[-1]}: {text}")
+        say(f"{program()}: {text}")

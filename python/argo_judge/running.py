@@ -3,7 +3,6 @@
 It is loaded before the command's own module, so that Ctrl-C is one line even while the rest is loaded.
 """
 import errno
-import importlib
 import os
 import signal
 import sys
@@ -80,7 +79,9 @@ def run(main: Callable[[], int | None]) -> NoReturn:
     os._exit(status)
 
 
-def run_command(module: str) -> NoReturn:
-    """Runs the `main` of a module, and ends."""
+def run_command(words: str = "") -> NoReturn:
+    """Runs one command, by its words, or what the command line says, and ends."""
     signal.signal(signal.SIGINT, stop)
-    run(importlib.import_module(module).main)
+    from argo_judge import cli  # which takes time to load
+
+    run(lambda: cli.main(words))

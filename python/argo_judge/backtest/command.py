@@ -24,7 +24,7 @@ from argo_judge.backtest.sweeps import Sweep, sweep_of
 from argo_judge.errors import Refused
 from argo_judge.manifests import found_in
 from argo_judge.objects import Object, listed, member, objects, shown
-from argo_judge.options import add_arg_flag, add_engine_flag, add_shapes_flag, command_line
+from argo_judge.options import add_arg_flag, add_engine_flag, add_shapes_flag
 from argo_judge.templates import arguments_of, read_template
 
 
@@ -68,10 +68,13 @@ def backtest(words: Namespace, template: Object, read_runs: Callable[[], list[Ob
     return 1 if any(one.flips for one in result.outcomes) else 0
 
 
-def main() -> int:
-    parser = command_line(__doc__)
+def add_arguments(parser: ArgumentParser) -> None:
+    """What the command takes."""
     parser.add_argument("--template", metavar="FILE", required=True, help="the AnalysisTemplate that is tried")
     add_flags(parser)
     parser.add_argument("runs", nargs="+", metavar="RUNS", help="a file or a folder; standard input is -")
-    words = parser.parse_args()
+
+
+def main(words: Namespace) -> int:
+    """Judges the runs of files and folders by a template."""
     return backtest(words, read_template(words.template), lambda: runs_in(found_in(words.runs)))

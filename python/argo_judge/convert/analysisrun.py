@@ -11,21 +11,26 @@ failed, of the shape "bool", and a Job's metric gets the success condition `resu
 a stop. The controller keeps the last measurements of a metric alone (10, or as measurementRetention says). A run that
 lacks measurements by the controller's own counts is refused, unless --partial takes its end for the whole.
 """
+from argparse import ArgumentParser, Namespace
+
 from argo_judge.analysisruns import add_flags, document_of, flags_of
 from argo_judge.files import read_json, write_json
-from argo_judge.options import add_arg_flag, command_line
+from argo_judge.options import add_arg_flag
 from argo_judge.templates import read_template
 
 
-def main() -> None:
-    parser = command_line(__doc__)
+def add_arguments(parser: ArgumentParser) -> None:
+    """What the command takes."""
     add_flags(parser)
     parser.add_argument("--template", metavar="FILE", help="an AnalysisTemplate in the place of the run's own")
     add_arg_flag(parser)
     parser.add_argument(
         "run", nargs="?", default="-", metavar="FILE", help="the AnalysisRun; standard input without it"
     )
-    words = parser.parse_args()
+
+
+def main(words: Namespace) -> None:
+    """Writes the document of an AnalysisRun."""
     template = None if words.template is None else read_template(words.template)
     made, _ = document_of(read_json(words.run, "input"), flags_of(words), template, words.arg)
     write_json(made)

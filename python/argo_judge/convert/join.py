@@ -11,13 +11,13 @@ part's order: a report that is missing, cut or of another part is refused with s
 """
 import json
 import os
+from argparse import ArgumentParser, Namespace
 from collections.abc import Iterator, Sequence
 
 from argo_judge.engine.reports import BAD, VERSION, RunReport, checked, text_of
 from argo_judge.errors import Refused
 from argo_judge.files import read_json, read_text, write_text
 from argo_judge.objects import Json, Object, member, shown
-from argo_judge.options import command_line
 
 
 def parts_of(folder: str) -> Iterator[tuple[str, str, Object]]:
@@ -62,13 +62,16 @@ def check_whole(names: Sequence[str], numbers: Sequence[Json]) -> None:
         raise Refused(f"parts: expected the numbers 0 to {len(numbers) - 1} once each; one is missing or there twice")
 
 
-def main() -> int:
-    parser = command_line(__doc__)
+def add_arguments(parser: ArgumentParser) -> None:
+    """What the command takes."""
     parser.add_argument("parts", metavar="FOLDER", help="the parts and their reports")
     parser.add_argument(
         "--output", choices=("text", "json"), default="text", help="how the report is printed; text without it"
     )
-    words = parser.parse_args()
+
+
+def main(words: Namespace) -> int:
+    """Prints the report of the whole document."""
     if not os.path.exists(os.path.join(words.parts, "0.json")):
         raise Refused(f"{words.parts}: expected 0.json, a part that recipes/split made")
     whole: list[RunReport] = []

@@ -9,17 +9,21 @@ they come after its measurements, since they have no times.
 
     recipes/from-jsonl --add-to document.json --metric latency latency.jsonl
 """
+from argparse import ArgumentParser, Namespace
+
 from argo_judge.convert.answers import add_flags, with_answers
 from argo_judge.files import read_text, write_json
 from argo_judge.jsontext import parsed_lines
 from argo_judge.objects import Object
-from argo_judge.options import command_line
 
 
-def main() -> None:
-    parser = command_line(__doc__)
+def add_arguments(parser: ArgumentParser) -> None:
+    """What the command takes."""
     add_flags(parser)
-    words = parser.parse_args()
+
+
+def main(words: Namespace) -> None:
+    """Writes the document of a metric's answers."""
 
     def answers_of() -> list[Object]:
         return [{"value": value} for value in parsed_lines(read_text(words.answers, "answers"), "answers")]

@@ -16,20 +16,24 @@ there, of another metric as a rule, in the order of their times where both sides
 
     recipes/from-prometheus --add-to document.json --metric error-rate answers.json
 """
+from argparse import ArgumentParser, Namespace
+
 from argo_judge.convert.answers import add_flags, with_answers
 from argo_judge.convert.samples import answers_of
 from argo_judge.files import read_text, write_json
 from argo_judge.jsontext import parsed_all
 from argo_judge.notes import note
 from argo_judge.objects import Object
-from argo_judge.options import command_line
 
 
-def main() -> None:
-    parser = command_line(__doc__)
+def add_arguments(parser: ArgumentParser) -> None:
+    """What the command takes."""
     add_flags(parser)
     parser.add_argument("--flat", action="store_true", help="a range is one measurement of all its values")
-    words = parser.parse_args()
+
+
+def main(words: Namespace) -> None:
+    """Writes the document of Prometheus' answers."""
     notes: list[str] = []
 
     def measured() -> list[Object]:

@@ -15,7 +15,7 @@ another the line says so, with status 2. Look at the greatest lengths (they boun
 """
 import json
 import shlex
-from argparse import Namespace
+from argparse import ArgumentParser, Namespace
 from collections.abc import Iterable
 
 from argo_judge.analysisruns import measurements_of
@@ -25,7 +25,6 @@ from argo_judge.files import read_json, read_text, write_json
 from argo_judge.jsontext import parsed
 from argo_judge.notes import note
 from argo_judge.objects import Json, Object, member, objects, shown
-from argo_judge.options import command_line
 from argo_judge.shapes import ANNOTATION, LEAST_MAX, usual_of
 
 NOT_FINITE = ("NaN", "Inf", "+Inf", "-Inf")
@@ -148,12 +147,15 @@ def answers_of(words: Namespace) -> tuple[dict[str, list[Json]], Object]:
     return answers, usual
 
 
-def main() -> None:
-    parser = command_line(__doc__)
+def add_arguments(parser: ArgumentParser) -> None:
+    """What the command takes."""
     parser.add_argument("--metric", metavar="NAME", help="the input has this metric's answers, one a line")
     parser.add_argument("--annotate", metavar="TEMPLATE", help="print the kubectl line that annotates this template")
     parser.add_argument("answers", nargs="?", default="-", metavar="FILE", help="the input; standard input without it")
-    words = parser.parse_args()
+
+
+def main(words: Namespace) -> None:
+    """Prints the proposed shapes, or the line that annotates a template with them."""
     answers, usual = answers_of(words)
     shapes = {metric: proposed(metric, answers[metric], usual.get(metric)) for metric in answers}
     shapes = {metric: shape for metric, shape in shapes.items() if shape is not None}

@@ -10,12 +10,12 @@ its number in the whole document as `number`; the engine ignores both. Where a p
 import json
 import os
 import re
+from argparse import ArgumentParser, Namespace
 from collections.abc import Iterable, Iterator
 
 from argo_judge.errors import Refused
 from argo_judge.files import read_json
 from argo_judge.objects import Json, Object, member
-from argo_judge.options import command_line
 
 
 def entries_of(document: Json) -> dict[str, list[Object]]:
@@ -82,12 +82,15 @@ def write_parts(folder: str, parts: Iterable[Object]) -> None:
         raise
 
 
-def main() -> None:
-    parser = command_line(__doc__)
+def add_arguments(parser: ArgumentParser) -> None:
+    """What the command takes."""
     parser.add_argument("--runs", type=int, required=True, metavar="N", help="how many runs a part has at most")
     parser.add_argument("document", metavar="FILE", help="the document; - is standard input")
     parser.add_argument("parts", metavar="FOLDER", help="where the parts go; it is made where it isn't there")
-    words = parser.parse_args()
+
+
+def main(words: Namespace) -> None:
+    """Writes the parts of a document."""
     if words.runs < 1:
         raise Refused("--runs: expected 1 or more")
     parts = list(parts_of(read_json(words.document, "document"), words.runs))

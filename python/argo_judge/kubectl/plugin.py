@@ -36,10 +36,10 @@ from argo_judge.lint.command import add_flags as add_lint_flags
 from argo_judge.lint.command import lint as found_mistakes
 from argo_judge.notes import one_line
 from argo_judge.objects import Object, member
-from argo_judge.options import CommandLine, Commands, add_arg_flag, add_engine_flag, add_shapes_flag, command_line
+from argo_judge.options import CommandLine, Commands, add_arg_flag, add_engine_flag, add_shapes_flag
 from argo_judge.shapes import shapes_of
-from argo_judge.suite.command import add_flags as add_test_flags
-from argo_judge.suite.command import test
+from argo_judge.suite.command import add_arguments as add_test_flags
+from argo_judge.suite.command import main as test
 from argo_judge.templates import arguments_of, read_template
 
 
@@ -157,9 +157,12 @@ def add_commands(commands: Commands) -> None:
     add_selector_flag(one, "the AnalysisRuns with these labels alone")
 
 
-def main() -> int:
-    parser = command_line(__doc__, prog="kubectl argo-judge")
+def add_arguments(parser: CommandLine) -> None:
+    """The plugin's own commands."""
     add_commands(parser.add_subparsers(required=True, metavar="COMMAND"))
-    words = parser.parse_args()
+
+
+def main(words: Namespace) -> int:
+    """Does what the command does."""
     does: Callable[[Namespace], int] = words.does
     return does(words)

@@ -23,7 +23,7 @@ from argo_judge.lint.sarif import as_sarif
 from argo_judge.lint.subjects import KINDS, Subject
 from argo_judge.manifests import Found, found_in, of_kinds
 from argo_judge.objects import listed, shown
-from argo_judge.options import add_arg_flag, add_engine_flag, add_shapes_flag, command_line
+from argo_judge.options import add_arg_flag, add_engine_flag, add_shapes_flag
 from argo_judge.shapes import shapes_in
 
 OUTPUTS = {"text": as_text, "json": as_json, "sarif": as_sarif, "github": as_github}
@@ -73,10 +73,13 @@ def lint(words: Namespace, read_objects: Callable[[], list[Found]], where: str) 
     return int(any(one.finding.severity in failing for one in located))
 
 
-def main() -> int:
-    parser = command_line(__doc__)
+def add_arguments(parser: ArgumentParser) -> None:
+    """What the command takes."""
     add_flags(parser)
     parser.add_argument("paths", nargs="+", metavar="TEMPLATE", help="a file, a folder, or - for standard input")
-    words = parser.parse_args()
+
+
+def main(words: Namespace) -> int:
+    """Writes the findings of the templates in files and folders."""
     places = [STANDARD_INPUT if path == "-" else path for path in words.paths]
     return lint(words, lambda: found_in(words.paths), ", ".join(places))

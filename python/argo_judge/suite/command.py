@@ -28,7 +28,7 @@ from argo_judge.errors import Refused
 from argo_judge.files import write_text
 from argo_judge.notes import kept_notes, note
 from argo_judge.objects import shown
-from argo_judge.options import add_engine_flag, command_line
+from argo_judge.options import add_engine_flag
 from argo_judge.suite.explaining import Result, result_of
 from argo_judge.suite.files import Suite, suites_in
 from argo_judge.suite.judging import Subject, outcomes_of
@@ -60,7 +60,7 @@ def results_of(engine: str, suite: Suite) -> list[Result]:
     return [result_of(engine, subject, suite, case, outcome) for case, outcome in outcomes]
 
 
-def add_flags(parser: ArgumentParser) -> None:
+def add_arguments(parser: ArgumentParser) -> None:
     parser.add_argument("--filter", metavar="TEXT", help="run the tests alone whose name has this text")
     parser.add_argument("--mutate", action="store_true", help="list moves of limits and thresholds that none notices")
     parser.add_argument("--output", choices=WRITERS, default="text", help="what is written; text without it")
@@ -68,7 +68,7 @@ def add_flags(parser: ArgumentParser) -> None:
     parser.add_argument("files", nargs="+", metavar="FILE", help="a suite in YAML or JSON, or a folder; - is the input")
 
 
-def test(words: Namespace) -> int:
+def main(words: Namespace) -> int:
     """Runs the tests of suites, and writes what came of them."""
     suites = chosen(suites_in(words.files), words.filter)
     results = [result for suite in suites for result in results_of(words.engine, suite)]
@@ -78,9 +78,3 @@ def test(words: Namespace) -> int:
         note("--mutate: nothing is moved, since a test fails")
     write_text(WRITERS[words.output](results, trials))
     return 0 if passed and not any(trial.unnoticed for trial in trials or ()) else 1
-
-
-def main() -> int:
-    parser = command_line(__doc__)
-    add_flags(parser)
-    return test(parser.parse_args())
