@@ -1,0 +1,50 @@
+"""The numbers of a condition, and what they are compared with."""
+from fractions import Fraction
+
+import pytest
+
+from argo_judge.literals import bound, compares_otherwise, literals_of, numbers_of
+
+
+def found_in(condition: str) -> list[tuple[str, str, bool]]:
+    """Each number as it is written, its comparison, and whether it is a size."""
+    return [(one.written, one.comparison, one.is_size) for one in numbers_of(condition)]
+
+
+@pytest.mark.parametrize(
+    ("condition", "found"),
+    [
+        ("result > 0.95", [("0.95", ">", False)]),
+        ("0.95 < result", [("0.95", ">", False)]),
+        ("result == -1", [("-1", "==", False)]),
+        ("result - 1 > 2", [("1", "", False), ("2", ">", False)]),
+        ("result[0] >= .5", [(".5", ">=", False)]),
+        ("len(result) > 0 && result[0] != 0x10", [("0", ">", True), ("0x10", "!=", False)]),
+        ("2 <= count(result, # > 3)", [("2", ">=", True), ("3", ">", False)]),
+        ("default(result, 0) > 1", [("1", ">", False)]),
+        ("result in [1, 2]", [("1", "", False), ("2", "", False)]),
+        ('result == "1 > 2"', []),
+        ("result > 1 // 2 > 3", [("1", ">", False)]),
+        ("result > /* 4 */ 5", [("5", ">", False)]),
+        ("", []),
+        (")]} 1", [("1", "", False)]),
+        ("((((", []),
+    ],
+)
+def test_numbers(condition: str, found: list[tuple[str, str, bool]]) -> None:
+    assert found_in(condition) == found
+
+
+def test_sizes_are_not_compared_with_what_was_measured() -> None:
+    assert [one.number for one in literals_of("len(result) > 5 && result[0] > 0.5")] == [Fraction(1, 2)]
+
+
+def test_arguments_are_bound_once() -> None:
+    values = {"a": "{{args.b}}", "b": "1"}
+    assert bound("result > {{ args.a }} + {{args.b}}{{args.c}}", values) == "result > {{args.b}} + 1"
+
+
+def test_compares_otherwise() -> None:
+    (one,) = literals_of("result > 0")
+    assert compares_otherwise(one, Fraction(42, 10**8), Fraction(0))
+    assert not compares_otherwise(one, Fraction(1), Fraction(2))
