@@ -70,6 +70,7 @@ def measurements_of(run: Json) -> list[Measured]:
 
 
 def checked_run(run: Json) -> Object:
+    """An AnalysisRun with a name; anything else is refused."""
     if member(run, "kind") != "AnalysisRun":
         raise Refused("input: expected an AnalysisRun, as `kubectl get analysisrun NAME -o json` prints it")
     if not isinstance(member(run, "metadata", "name"), str):

@@ -45,6 +45,7 @@ def difference(texts: Iterable[str], literals: Sequence[Literal]) -> str | None:
 
 
 def texts_in(args: Json) -> dict[str, str]:
+    """The arguments that are texts."""
     return {name: value for name, value in args.items() if isinstance(value, str)} if isinstance(args, dict) else {}
 
 
@@ -62,6 +63,7 @@ def literals_by_metric(document: Object) -> dict[str, list[Literal]]:
 
 
 def lines_of(document: Object) -> Iterator[str]:
+    """The line of each measurement that compares otherwise once it is cut."""
     literals = literals_by_metric(document)
     for place, entry in enumerate(document["measurements"]):
         run, metric = member(entry, "run"), member(entry, "metric")

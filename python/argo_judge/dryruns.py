@@ -24,6 +24,7 @@ ONLY_PYTHON = re.compile(r"\(\?[=!<>(]|\\[1-9Z]|[*+?}]\+")
 
 
 def compiled(pattern: str, where: str) -> re.Pattern[str]:
+    """A regular expression, where the controller has that form, too."""
     try:
         with warnings.catch_warnings():
             warnings.simplefilter("ignore")
@@ -36,6 +37,7 @@ def compiled(pattern: str, where: str) -> re.Pattern[str]:
 
 
 def out_of_time(_signal: int, _frame: FrameType | None) -> NoReturn:
+    """Ends a match that takes too long."""
     raise TimeoutError
 
 

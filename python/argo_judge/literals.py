@@ -50,6 +50,7 @@ def bound(condition: str, args: Mapping[str, str]) -> str:
 
 
 def number_of_literal(text: str) -> Fraction:
+    """The number that a literal writes."""
     return Fraction(int(text, 0) if text[:2] in ("0x", "0o", "0b") else text)
 
 

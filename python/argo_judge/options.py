@@ -14,6 +14,7 @@ class CommandLine(argparse.ArgumentParser):
     """Words of a command line; those that don't fit are refused in one line, too."""
 
     def error(self, message: str) -> NoReturn:
+        """Refuses words that don't fit."""
         raise Refused(f"command line: {message}")
 
 

@@ -44,6 +44,7 @@ def ordered(run: Json) -> list[tuple[str, Object]]:
     last = max((time_of(one) for _, one in found if id(one) in closing or one.get("startedAt") in begun), default="")
 
     def place(entry: tuple[str, Object]) -> tuple[str, int]:
+        """Where an entry is in the order."""
         one = entry[1]
         return (last, 1 + closing[id(one)]) if id(one) in closing else (time_of(one), 0)
 

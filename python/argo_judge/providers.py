@@ -26,6 +26,7 @@ WORDS = {"<nil>": None, "true": True, "false": False}
 
 
 def first(value: Json) -> Json:
+    """The first item of a list, if there is one."""
     return value[0] if isinstance(value, list) and value else None
 
 

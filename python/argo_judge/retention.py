@@ -15,6 +15,7 @@ MOST = 2**31 - 1
 
 
 def count_of(result: Object, name: str) -> int:
+    """A count of a result, which is 0 where it is left out."""
     count = member(result, name, default=0)
     if isinstance(count, bool) or not isinstance(count, int) or not 0 <= count <= MOST:
         metric = shown(member(result, "name"))

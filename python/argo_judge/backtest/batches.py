@@ -31,6 +31,7 @@ class Judged(NamedTuple):
 
 
 def weight(made: Object) -> int:
+    """How many bytes a document adds to a batch, about."""
     return len(json.dumps(made["measurements"])) + len(json.dumps(made["runs"]))
 
 

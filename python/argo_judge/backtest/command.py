@@ -29,6 +29,7 @@ from argo_judge.templates import arguments_of, read_template
 
 
 def add_flags(parser: ArgumentParser) -> None:
+    """What the plugin takes, too."""
     add_arg_flag(parser)
     add_shapes_flag(parser)
     parser.add_argument("--sweep", metavar="NAME=FROM:TO:STEP", help="judge by these values of an argument, too")

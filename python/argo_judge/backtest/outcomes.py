@@ -23,10 +23,12 @@ class Outcome(NamedTuple):
 
     @property
     def flips(self) -> bool:
+        """Whether the run ends otherwise by the other template."""
         return self.own["phase"] != self.other["phase"]
 
     @property
     def differs(self) -> bool:
+        """Whether the engine and the controller differ by the same template."""
         return self.own["phase"] != self.controller
 
 
@@ -77,6 +79,7 @@ def outcomes_of(judgements: Sequence[Judgement], engine: str) -> tuple[list[Outc
 
 
 def result_of(judgements: Sequence[Judgement], left_out: list[LeftOut], sweep: Sweep | None, engine: str) -> Result:
+    """The result of all runs: outcomes, what is left out, and the sums of each value of a sweep."""
     outcomes, refused = outcomes_of(judgements, engine)
     swept = [
         (value, sums_of([outcome.swept[place] for outcome in outcomes]))

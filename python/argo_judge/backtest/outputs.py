@@ -7,6 +7,7 @@ from argo_judge.files import write_json, write_text
 
 
 def write_result(result: Result, sweep: Sweep | None, output: str) -> None:
+    """Writes a result in a form."""
     if output == "json":
         write_json(object_of(result, sweep))
     elif output == "svg" and sweep is not None:

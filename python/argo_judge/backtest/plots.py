@@ -12,6 +12,7 @@ SERIES = (("stopped", "#c0392b"), ("inconclusive", "#d68910"), ("undecided", "#7
 
 
 def text(x: float, y: float, words: str, anchor: str = "middle", size: int = 12) -> str:
+    """Words at a place."""
     return f'<text x="{x:.1f}" y="{y:.1f}" text-anchor="{anchor}" font-size="{size}">{escape(words)}</text>'
 
 
@@ -35,11 +36,13 @@ def grid(most: int) -> Iterator[str]:
 
 
 def labels(values: Sequence[str]) -> Iterator[str]:
+    """The values below the plot, of which some are left out where there are many."""
     for place in range(0, len(values), max(1, -(-len(values) // MOST_LABELS))):
         yield text(across(place, len(values)), HEIGHT - BOTTOM + 20, values[place])
 
 
 def curve(numbers: Sequence[int], most: int, name: str, colour: str) -> Iterator[str]:
+    """A line through points, and the points."""
     points = [(across(place, len(numbers)), down(number, most)) for place, number in enumerate(numbers)]
     line = " ".join(f"{x:.1f},{y:.1f}" for x, y in points)
     yield f'<polyline points="{line}" fill="none" stroke="{colour}" stroke-width="2"><title>{name}</title></polyline>'
@@ -48,6 +51,7 @@ def curve(numbers: Sequence[int], most: int, name: str, colour: str) -> Iterator
 
 
 def legend(drawn: Sequence[tuple[str, str]]) -> Iterator[str]:
+    """What each curve is."""
     for place, (name, colour) in enumerate(drawn):
         x = LEFT + 110 * place
         yield f'<rect x="{x}" y="12" width="12" height="12" fill="{colour}"/>'

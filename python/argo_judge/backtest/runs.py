@@ -33,6 +33,7 @@ class LeftOut(NamedTuple):
 
 
 def name_of(run: Json) -> str:
+    """The name of a run, after its namespace."""
     names = [member(run, "metadata", name) for name in ("namespace", "name")]
     return "/".join(name for name in names if isinstance(name, str))
 

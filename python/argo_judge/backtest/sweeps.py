@@ -33,6 +33,7 @@ class Sums(NamedTuple):
 
 
 def number_in(text: str) -> Decimal:
+    """The number that a part of the word is."""
     if not NUMBER.fullmatch(text):
         raise Refused(f"--sweep: {EXPECTED}; found {shown(text)} as a number")
     return Decimal(text)
@@ -53,7 +54,10 @@ def sweep_of(word: str) -> Sweep:
 
 
 def sums_of(phases: Sequence[str]) -> Sums:
+    """How many runs ended in which way, by their phases."""
+
     def times(*wanted: str) -> int:
+        """How many have one of these phases."""
         return sum(phase in wanted for phase in phases)
 
     return Sums(times(*STOPPED), times("Inconclusive"), times("Successful"), times(*UNDECIDED))

@@ -18,6 +18,7 @@ def table(rows: Sequence[Sequence[str]]) -> list[str]:
 
 
 def rows_of_flips(outcomes: Sequence[Outcome]) -> Iterator[tuple[str, ...]]:
+    """A row for each run that flips."""
     for one in outcomes:
         if one.flips:
             differs = one_line("; ".join(why(one)))
@@ -25,6 +26,7 @@ def rows_of_flips(outcomes: Sequence[Outcome]) -> Iterator[tuple[str, ...]]:
 
 
 def lines_of_flips(result: Result) -> list[str]:
+    """The table of runs that flip; nothing where none does."""
     rows = list(rows_of_flips(result.outcomes))
     return table([HEADS, *rows]) if rows else []
 
@@ -39,6 +41,7 @@ def lines_of_differences(result: Result) -> list[str]:
 
 
 def sum_line(result: Result) -> str:
+    """The line of the sums."""
     judged = len(result.outcomes)
     flips = flips_of(result)
     times = ", ".join(f"{number} from {was} to {now}" for (was, now), number in sorted(flips.items()))
@@ -51,6 +54,7 @@ def sum_line(result: Result) -> str:
 
 
 def lines_of_sweep(sweep: Sweep | None, result: Result) -> list[str]:
+    """The table of a sweep, if there is one."""
     if sweep is None:
         return []
     heads = (one_line(sweep.argument), "stopped", "inconclusive", "successful", "undecided")
@@ -58,6 +62,7 @@ def lines_of_sweep(sweep: Sweep | None, result: Result) -> list[str]:
 
 
 def text_of(result: Result, sweep: Sweep | None) -> str:
+    """All lines of a result."""
     left_out = [f"left out: {one_line(one.name)}: {one_line(one.why)}" for one in result.left_out]
     lines = lines_of_flips(result) + lines_of_differences(result) + left_out + [sum_line(result)]
     return "".join(f"{line}\n" for line in lines + lines_of_sweep(sweep, result))
@@ -67,6 +72,7 @@ def text_of(result: Result, sweep: Sweep | None) -> str:
 
 
 def run_object(one: Outcome) -> Object:
+    """What JSON has of a run."""
     return {
         "name": one.name,
         "controller": one.controller,

@@ -26,6 +26,7 @@ def main(words: Namespace) -> None:
     """Writes the document of a metric's answers."""
 
     def answers_of() -> list[Object]:
+        """A value for each line."""
         return [{"value": value} for value in parsed_lines(read_text(words.answers, "answers"), "answers")]
 
     write_json(with_answers(words, answers_of))

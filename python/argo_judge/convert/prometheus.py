@@ -37,6 +37,7 @@ def main(words: Namespace) -> None:
     notes: list[str] = []
 
     def measured() -> list[Object]:
+        """What all answers measured; what is noted of them waits until they are written."""
         answers = enumerate(parsed_all(read_text(words.answers, "input"), "input"), 1)
         return [one for number, answer in answers for one in answers_of(answer, number, words.flat, notes)]
 

@@ -16,6 +16,7 @@ Sample: TypeAlias = tuple[str, str]
 
 
 def listed(value: Json, expected: str) -> list[Json]:
+    """A list; anything else is refused."""
     if not isinstance(value, list):
         raise UnexpectedData(f"expected {expected}, found {shown(value)}")
     return value

@@ -45,6 +45,7 @@ class Seen:
         self.are_wholes, self.why = True, NOTHING_SAID
 
     def add(self, value: Json) -> None:
+        """Minds a value."""
         if value is None:
             self.has_nil = True
             return
@@ -74,6 +75,7 @@ class Seen:
             self.large = value if self.large is None and not fits(millionths(number_of(value))) else self.large
 
     def number_shape(self) -> str | None:
+        """The shape of numbers; None where none takes all of them."""
         if self.large is not None and not self.are_wholes:
             self.why = f'{shown(self.large)} is too large for "decimal", and not each number is a "whole"'
             return None
@@ -96,6 +98,7 @@ class Seen:
         return {"optional": shape} if shape and self.has_nil else shape
 
     def fields_of_record(self, where: str) -> Object:
+        """The shapes of a record's fields, of which some are left out."""
         shapes = {}
         for name, field in sorted(self.fields.items()):
             field.has_nil = field.has_nil or field.times < self.times

@@ -69,12 +69,14 @@ def clear(name: str) -> str:
 
 
 def step_text(step: int | str) -> str:
+    """A step of a path to a value."""
     if isinstance(step, int):
         return f"[{step}]"
     return f".{step}" if WORD.fullmatch(step) else f"[{quoted(step)}]"
 
 
 def misfit_text(misfit: Object) -> str:
+    """Why a value doesn't fit its shape."""
     where = "".join(step_text(step) for step in misfit["path"]) or "the value"
     hint = "" if misfit["hint"] is None else f"; {misfit['hint']}"
     return f"{where}: {misfit['fault']}: expected {misfit['expected']}, found {misfit['found']}{hint}"
@@ -90,6 +92,7 @@ def given_lines(one: Object) -> list[str]:
 
 
 def change(before: int, after: int) -> str:
+    """A number, or both where it changed."""
     return f"{after}" if before == after else f"{before} -> {after}"
 
 
@@ -110,6 +113,7 @@ def counts_text(counts: Object) -> str:
 
 
 def progress_text(progress: Object) -> str:
+    """How far a metric is."""
     if progress["count"] is None:
         return f"{progress['measured']} measured, no count"
     return f"{progress['measured']} of count {progress['count']}"
@@ -124,6 +128,7 @@ def failure_text(part: Object, failure: str) -> str:
 
 
 def between(number: int, what: str) -> str:
+    """How many things aren't shown."""
     return f"{number} {what}{'' if number == 1 else 's'} between"
 
 
@@ -139,6 +144,7 @@ def differ_text(differ: Object | None) -> str:
 
 
 def part_text(part: Object) -> str:
+    """What came of a part of a condition."""
     if part["between"] is not None:
         return gap(**part["between"])
     if not part["needed"]:
@@ -150,6 +156,7 @@ def part_text(part: Object) -> str:
 
 
 def part_line(part: Object) -> str:
+    """The line of a part, with the items that it is of."""
     items = "".join(f"item {number}: " for number in part["items"])
     return f"    {items}{part_text(part)}"
 
@@ -161,6 +168,7 @@ def part_lines(condition: Object) -> list[str]:
 
 
 def answer_line(condition: Object) -> str:
+    """The line of a condition's answer."""
     answer = condition["answer"]
     if isinstance(answer, bool):
         return f"    answer = {str(answer).lower()}" + differ_text(condition["differ"])
@@ -168,6 +176,7 @@ def answer_line(condition: Object) -> str:
 
 
 def head(condition: Object) -> str:
+    """The line of a condition: its text, in which blanks are one each."""
     return f"  {condition['condition']}: {' '.join(condition['text'].split())}"
 
 
@@ -216,6 +225,7 @@ def lines_of_metric(one: Object) -> list[str]:
 
 
 def waits_text(waits: Iterable[Object]) -> str:
+    """What a run waits for."""
     return "; ".join(f"{clear(one['metric'])} {progress_text(one)}" for one in waits)
 
 

@@ -88,11 +88,13 @@ def events_of(document: Json, where: str) -> dict[str, list[Expected]]:
 
 
 def expect(is_so: bool, where: str, expected: str, found: Json) -> None:
+    """Refuses what isn't as it is expected."""
     if not is_so:
         raise Refused(f"{where}: expected {expected}, found {shown(found)}")
 
 
 def is_count(value: Json) -> bool:
+    """Whether a value is a whole number from 0."""
     return isinstance(value, int) and not isinstance(value, bool) and value >= 0
 
 
@@ -106,6 +108,7 @@ def items_of(value: Json, name: str, expected: Sequence[T], where: str) -> list[
 
 
 def check_metric(metric: Json, name: str, where: str) -> None:
+    """Refuses a metric that isn't the one of this name, or has no phase, counts or limits."""
     expect(member(metric, "name") == name, where, f"the metric {shown(name)}", member(metric, "name"))
     expect(member(metric, "phase") in PHASES, f"{where}.phase", "a phase", member(metric, "phase"))
     expect(isinstance(member(metric, "dryRun"), bool), f"{where}.dryRun", "true or false", member(metric, "dryRun"))
@@ -126,10 +129,12 @@ def check_metric(metric: Json, name: str, where: str) -> None:
 
 
 def event_name(number: Json, metric: Json, is_stop: Json) -> str:
+    """How a line names an event."""
     return f"event {shown(number)}, a stop" if is_stop is True else f"event {shown(number)} of metric {shown(metric)}"
 
 
 def check_verdict(event: Json, is_stop: bool, where: str) -> None:
+    """Refuses a verdict that isn't one, or whose cause and fault don't belong to it."""
     verdict, cause, fault = (member(event, name) for name in ("verdict", "cause", "fault"))
     expect(
         verdict in ((None,) if is_stop else VERDICTS), f"{where}.verdict", "null" if is_stop else "a verdict", verdict
@@ -141,6 +146,7 @@ def check_verdict(event: Json, is_stop: bool, where: str) -> None:
 
 
 def check_event(event: Json, expected: Expected, where: str) -> None:
+    """Refuses an event that isn't the one of the document's entry."""
     number, metric = expected
     own = (number, metric, metric is None)
     found = (member(event, "number"), member(event, "metric"), member(event, "stop"))
@@ -156,6 +162,7 @@ def check_event(event: Json, expected: Expected, where: str) -> None:
 
 
 def check_run(run: Json, expected: tuple[str, list[Expected]], metrics: Sequence[str], where: str) -> None:
+    """Refuses a run that isn't the one of this name, with its metrics and events."""
     name, events = expected
     expect(member(run, "name") == name, where, f"the run {shown(name)}", member(run, "name"))
     expect(member(run, "phase") in PHASES, f"{where}.phase", "a phase", member(run, "phase"))
@@ -196,25 +203,30 @@ def checked(document: Json, text: str, document_name: str, report_name: str) -> 
 
 
 def verdict_text(event: EventReport) -> str:
+    """A verdict with its cause and fault."""
     words = (event["verdict"], member(event, "cause"), member(event, "fault"))
     return " ".join(word for word in words if word is not None)
 
 
 def effect_text(event: EventReport) -> str:
+    """An effect, with the phase of the run that it closed."""
     return f"closed {event['phase']}" if event["effect"] == "closed" else event["effect"]
 
 
 def event_line(event: EventReport) -> str:
+    """The line of an event."""
     found = "stop" if event["stop"] else f"{event['metric']} {verdict_text(event)}"
     return f"event {event['number']} {found} {effect_text(event)}\n"
 
 
 def metric_line(metric: MetricReport) -> str:
+    """The line of a metric."""
     counts = " ".join(f"{count}={metric['counts'][count]}" for count in COUNTS)
     return f"metric {metric['name']} {metric['phase']} {counts}{' dryRun' if metric['dryRun'] else ''}\n"
 
 
 def text_of(runs: Iterable[RunReport]) -> str:
+    """All lines of a report."""
     lines = []
     for run in runs:
         lines.append(f"run {run['name']} {run['phase']}\n")

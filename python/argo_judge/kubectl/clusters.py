@@ -55,8 +55,10 @@ def fetched_all(kind: str, words: Namespace, names: Sequence[str] = (), selector
 
 
 def kind_of_template(words: Namespace) -> str:
+    """The kind of the template that is named."""
     return "clusteranalysistemplate" if words.cluster else "analysistemplate"
 
 
 def template_of(name: str, words: Namespace) -> Object:
+    """A template of the cluster."""
     return fetched(kind_of_template(words), name, words)

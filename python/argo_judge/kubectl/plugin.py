@@ -123,10 +123,12 @@ def add_run_flags(one: ArgumentParser) -> None:
 
 
 def add_selector_flag(one: ArgumentParser, help: str) -> None:
+    """The flag that chooses objects by labels."""
     one.add_argument("-l", "--selector", metavar="LABELS", help=help)
 
 
 def add_commands(commands: Commands) -> None:
+    """The plugin's commands, each with its flags."""
     add_run_flags(add_command(commands, run, "judge an AnalysisRun"))
 
     one = add_command(commands, explain, "say why an AnalysisRun ended so")

@@ -11,6 +11,7 @@ from argo_judge.templates import CONDITIONS
 
 
 def unknown_arguments(subject: Subject) -> Iterator[Finding]:
+    """References to arguments that aren't declared."""
     names = [name for _, name in subject.args]
     for text, leading in referring_texts(subject):
         for name in dict.fromkeys(referred_in(text)):
@@ -25,6 +26,7 @@ def unknown_arguments(subject: Subject) -> Iterator[Finding]:
 
 
 def unused_arguments(subject: Subject) -> Iterator[Finding]:
+    """Arguments that nothing refers to."""
     used = {name for text, _ in referring_texts(subject) for name in referred_in(text)}
     for place, name in subject.args if not subject.refers_to_others else ():
         if name not in used:

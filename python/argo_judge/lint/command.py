@@ -30,6 +30,7 @@ OUTPUTS = {"text": as_text, "json": as_json, "sarif": as_sarif, "github": as_git
 
 
 def given_arguments(words: Sequence[str]) -> dict[str, str]:
+    """The arguments of a command line."""
     for word in words:
         if "=" not in word:
             raise Refused(f"--arg {shown(word)}: expected NAME=VALUE")
@@ -51,6 +52,7 @@ def subjects_of(words: Namespace, objects: Sequence[Found], where: str) -> list[
 
 
 def add_flags(parser: ArgumentParser) -> None:
+    """What the plugin takes, too."""
     flag = parser.add_argument
     flag("--output", choices=OUTPUTS, default="text", help="lines (text), or json, sarif or github")
     flag("--strict", action="store_true", help="end with status 1 for warnings, too")

@@ -64,14 +64,17 @@ class Asked(NamedTuple):
 
     @property
     def pointer(self) -> str:
+        """Where the condition is."""
         return metric_pointer(self.place, self.name)
 
     @property
     def title(self) -> str:
+        """How a message names it."""
         return f"{metric_title(self.place, self.metric)}: {self.name}"
 
     @property
     def noted(self) -> str:
+        """What a message adds where arguments have no value."""
         return f" (with {STAND_IN} for arguments without a value)" if self.has_stand_in else ""
 
 
@@ -107,6 +110,7 @@ def asked_of_metric(subject: Subject, place: int, metric: Object, shape: Json) -
 
 
 def asked_of(subject: Subject) -> list[Asked]:
+    """What the engine is asked of all conditions."""
     shapes = shapes_of_metrics(subject)
     return [
         asked
@@ -119,6 +123,7 @@ def asked_of(subject: Subject) -> list[Asked]:
 
 
 def findings_of_text(subject: Subject, place: int, metric: Object, name: str, written: str) -> Iterator[Finding]:
+    """What the text of a condition says by itself."""
     title, pointer = f"{metric_title(place, metric)}: {name}", metric_pointer(place, name)
     parts = pieces(written)
     if parts is None:
@@ -153,12 +158,14 @@ def findings_of_text(subject: Subject, place: int, metric: Object, name: str, wr
 
 
 def findings_of_texts(subject: Subject) -> Iterator[Finding]:
+    """The same of all conditions."""
     for place, metric in subject.metrics:
         for name, written in written_conditions(metric).items():
             yield from findings_of_text(subject, place, metric, name, written)
 
 
 def conditions_missing(subject: Subject) -> Iterator[Finding]:
+    """Metrics without a condition, and conditions that nobody reads."""
     for place, metric in subject.metrics:
         title = metric_title(place, metric)
         given = {name: metric[name] for name in CONDITIONS if metric.get(name)}

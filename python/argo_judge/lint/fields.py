@@ -74,6 +74,7 @@ def unknown_field(pointer: str, part: str, name: str) -> Finding:
 
 
 def unknown_fields(subject: Subject) -> Iterator[Finding]:
+    """Fields that no part has."""
     for pointer, part, value in parts_of(subject):
         known = KNOWN[part] + (OF_RUN if part == "spec" and subject.kind == "AnalysisRun" else ())
         for name in value if isinstance(value, dict) else ():
@@ -85,10 +86,12 @@ def unknown_fields(subject: Subject) -> Iterator[Finding]:
 
 
 def is_text(value: Json) -> TypeGuard[str]:
+    """Whether a value is a text; a fraction is none."""
     return isinstance(value, str) and not isinstance(value, NumberText)
 
 
 def is_whole(value: Json) -> TypeGuard[int]:
+    """Whether a value is a whole number."""
     return isinstance(value, int) and not isinstance(value, bool)
 
 
@@ -109,6 +112,7 @@ def typed_fields(subject: Subject) -> Iterator[tuple[str, Json, Callable[[Json],
 
 
 def wrong_types(subject: Subject) -> Iterator[Finding]:
+    """Values that the API server refuses."""
     for pointer, value, fits, expected in typed_fields(subject):
         if value is not None and not fits(value):
             name = pointer.rpartition("/")[2]

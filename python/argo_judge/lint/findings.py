@@ -53,14 +53,17 @@ class Finding(NamedTuple):
 
 
 def error(rule: str, pointer: str, message: str, mend: str) -> Finding:
+    """A finding that makes the status 1."""
     return Finding(rule, Severity.ERROR, pointer, message, mend)
 
 
 def warning(rule: str, pointer: str, message: str, mend: str) -> Finding:
+    """A finding that makes the status 1 by --strict."""
     return Finding(rule, Severity.WARNING, pointer, message, mend)
 
 
 def info(rule: str, pointer: str, message: str, mend: str) -> Finding:
+    """A finding that never does."""
     return Finding(rule, Severity.INFO, pointer, message, mend)
 
 

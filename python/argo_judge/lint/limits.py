@@ -25,6 +25,7 @@ def limit_of(metric: Object, name: str, values: Mapping[str, str]) -> int | None
 
 
 def has_text(metric: Object, name: str) -> bool:
+    """Whether a field is a text that isn't empty."""
     return is_text(metric.get(name)) and metric[name] != ""
 
 
@@ -32,6 +33,7 @@ def refused_limits(subject: Subject, place: int, metric: Object) -> Iterator[Fin
     """What the controller refuses of a metric's limits."""
 
     def refused(name: str, message: str, mend: str) -> Finding:
+        """A finding of a limit."""
         sentence = f"{metric_title(place, metric)}: {message}"
         return error("refused-by-controller", metric_pointer(place, name), sentence, mend)
 
@@ -59,10 +61,12 @@ def refused_limits(subject: Subject, place: int, metric: Object) -> Iterator[Fin
 
 
 def is_duration(text: str) -> bool:
+    """Whether Go reads a text as a duration."""
     return len(text) <= LONGEST_DURATION and DURATION.fullmatch(text) is not None
 
 
 def refused_durations(subject: Subject, place: int, metric: Object) -> Iterator[Finding]:
+    """What the controller refuses of a metric's durations."""
     for name in ("interval", "initialDelay"):
         text = bound(metric[name], subject.values) if has_text(metric, name) else None
         if text is not None and not is_duration(text):
@@ -76,6 +80,7 @@ def refused_durations(subject: Subject, place: int, metric: Object) -> Iterator[
 
 
 def refused_providers(place: int, metric: Object) -> Iterator[Finding]:
+    """A metric without a provider, or with several."""
     provider = metric.get("provider")
     known = [name for name in PROVIDERS if member(provider, name) is not None]
     names = [name for name in provider if provider[name] is not None] if isinstance(provider, dict) else []
@@ -118,6 +123,7 @@ def refused_names(subject: Subject) -> Iterator[Finding]:
 
 
 def refused_by_controller(subject: Subject) -> Iterator[Finding]:
+    """All that the controller refuses."""
     yield from refused_names(subject)
     for place, metric in subject.metrics:
         yield from refused_limits(subject, place, metric)
@@ -137,6 +143,7 @@ def count_of(metric: Object, values: Mapping[str, str]) -> int | None:
 
 
 def unreachable_limits(subject: Subject) -> Iterator[Finding]:
+    """Limits that a metric's count never reaches."""
     for place, metric in subject.metrics:
         count = count_of(metric, subject.values)
         for name, phase in ENDS.items():

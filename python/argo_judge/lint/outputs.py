@@ -27,31 +27,38 @@ class Located(NamedTuple):
 
     @property
     def line(self) -> int | None:
+        """Its line, if it is known."""
         return self.subject.found.line_of(self.finding.pointer)
 
     @property
     def pointer(self) -> str:
+        """Its JSON pointer in the file."""
         return self.subject.found.pointer + self.finding.pointer
 
     @property
     def page(self) -> str:
+        """Where the pages say more of the rule."""
         return f"{PAGE}#{self.finding.rule}"
 
 
 def sums_of(located: Sequence[Located]) -> dict[str, int]:
+    """How many findings there are of each severity."""
     return {severity.value: sum(one.finding.severity == severity for one in located) for severity in Severity}
 
 
 def counted(number: int, name: str) -> str:
+    """A number of things."""
     return f"{number} {name}" if number == 1 else f"{number} {name}s"
 
 
 def sums_line(located: Sequence[Located], subjects: Sequence[Subject]) -> str:
+    """The last line: how many templates were looked at, and what was found."""
     sums = [counted(number, name) for name, number in sums_of(located).items() if number]
     return f"{counted(len(subjects), 'template')}: {', '.join(sums) or 'nothing found'}"
 
 
 def as_text(located: Sequence[Located], subjects: Sequence[Subject]) -> str:
+    """Lines as compilers write them."""
     lines = []
     for one in located:
         finding, place = one.finding, one.file or STANDARD_INPUT
@@ -63,6 +70,7 @@ def as_text(located: Sequence[Located], subjects: Sequence[Subject]) -> str:
 
 
 def member_of(one: Located) -> Object:
+    """What JSON has of a finding."""
     finding = one.finding
     return {
         "file": one.file,
@@ -79,6 +87,7 @@ def member_of(one: Located) -> Object:
 
 
 def as_json(located: Sequence[Located], subjects: Sequence[Subject]) -> str:
+    """One JSON object."""
     made = {
         "findings": [member_of(one) for one in located],
         "sums": sums_of(located),
@@ -89,14 +98,17 @@ def as_json(located: Sequence[Located], subjects: Sequence[Subject]) -> str:
 
 
 def escaped(text: str) -> str:
+    """A text in a command of GitHub's."""
     return text.replace("%", "%25").replace("\r", "%0D").replace("\n", "%0A")
 
 
 def escaped_property(text: str) -> str:
+    """A property's text there."""
     return escaped(text).replace(":", "%3A").replace(",", "%2C")
 
 
 def command_of(one: Located) -> str:
+    """The command that shows a finding."""
     finding = one.finding
     given = {"file": one.file, "line": one.line, "title": finding.rule}
     words = ",".join(f"{name}={escaped_property(str(value))}" for name, value in given.items() if value is not None)
@@ -106,4 +118,5 @@ def command_of(one: Located) -> str:
 
 
 def as_github(located: Sequence[Located], subjects: Sequence[Subject]) -> str:
+    """Commands of GitHub's workflows."""
     return "".join(map(command_of, located)) + sums_line(located, subjects) + "\n"

@@ -38,6 +38,7 @@ def of_pattern(pattern: str, names: Sequence[str], pointer: str, field: str) -> 
 
 
 def metric_patterns(subject: Subject) -> Iterator[Finding]:
+    """The findings of all expressions for names."""
     names = metric_names(subject)
     for field in EFFECT if names and not subject.refers_to_others else ():
         for place, rule in placed(subject.object, field):

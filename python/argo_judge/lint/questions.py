@@ -77,6 +77,7 @@ def ended(engine: str, words: Sequence[str], made: Object) -> CompletedProcess[s
 
 
 def answer_of(event: EventReport) -> bool | str:
+    """What the engine answered on a value: true, false, or a fault's name."""
     fault = event.get("fault")
     return event.get("verdict") == "Successful" if fault is None else fault
 

@@ -15,11 +15,13 @@ LEVELS = {Severity.ERROR: "error", Severity.WARNING: "warning", Severity.INFO: "
 
 
 def rule_of(name: str) -> Object:
+    """What SARIF has of a rule."""
     page = pathlib.Path(ROOT, PAGE).as_uri()
     return {"id": name, "shortDescription": {"text": RULES[name]}, "helpUri": f"{page}#{name}"}
 
 
 def location_of(one: Located) -> Object:
+    """Where a finding is."""
     where: Object = {"logicalLocations": [{"fullyQualifiedName": one.pointer or "/"}]}
     if one.file is not None:
         physical: Object = {"artifactLocation": {"uri": urllib.parse.quote(one.file)}}
@@ -30,6 +32,7 @@ def location_of(one: Located) -> Object:
 
 
 def result_of(one: Located) -> Object:
+    """What SARIF has of a finding."""
     finding = one.finding
     place = "" if one.file is not None else f"{STANDARD_INPUT}: "
     return {
@@ -42,6 +45,7 @@ def result_of(one: Located) -> Object:
 
 
 def as_sarif(located: Sequence[Located], _subjects: Sequence[Subject]) -> str:
+    """The log of one run."""
     driver = {"name": "argo_judge lint", "rules": [rule_of(name) for name in RULES]}
     run = {
         "tool": {"driver": driver},

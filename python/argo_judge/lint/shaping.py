@@ -60,10 +60,12 @@ def shapes_of_metrics(subject: Subject) -> dict[int, Shaped]:
 
 
 def has_conditions(metric: Object) -> bool:
+    """Whether a metric has a condition."""
     return any(isinstance(metric.get(name), str) and metric[name] for name in CONDITIONS)
 
 
 def provider_of(metric: Object) -> str | None:
+    """The name of a metric's provider, if it is known."""
     return next((name for name in PROVIDERS if member(metric, "provider", name) is not None), None)
 
 
@@ -120,6 +122,7 @@ def usual_taken(subject: Subject, shapes: Mapping[int, Shaped], noted: Object) -
 
 
 def findings_of_shapes(subject: Subject) -> Iterator[Finding]:
+    """All findings of shapes."""
     noted, fault = annotated(subject)
     yield from [] if fault is None else [fault]
     names = metric_names(subject)

@@ -18,15 +18,18 @@ class Subject(NamedTuple):
 
     @property
     def object(self) -> Object:
+        """The object itself."""
         template: Object = self.found.value
         return template
 
     @property
     def kind(self) -> str:
+        """Its kind, one of KINDS."""
         return str(self.object["kind"])
 
     @property
     def name(self) -> str:
+        """Its name, or the front of the name that it will get."""
         name = member(self.object, "metadata", "name", default=member(self.object, "metadata", "generateName"))
         return name if isinstance(name, str) else ""
 
@@ -61,13 +64,16 @@ def placed(value: Json, name: str) -> list[tuple[int, Object]]:
 
 
 def metric_pointer(place: int, *names: str | int) -> str:
+    """The pointer of a metric, or of what is in it."""
     return pointer_to("spec", "metrics", place, *names)
 
 
 def metric_title(place: int, metric: Object) -> str:
+    """How a message names a metric."""
     name = metric.get("name")
     return f"metric {shown(name)}" if isinstance(name, str) else f"metric {place}"
 
 
 def metric_names(subject: Subject) -> list[str]:
+    """The names of metrics that have one."""
     return [metric["name"] for _, metric in subject.metrics if isinstance(metric.get("name"), str)]

@@ -21,6 +21,7 @@ class Token(NamedTuple):
 
 
 def tokens_of(condition: str) -> list[Token]:
+    """The tokens of a condition; none of one that is too long."""
     if len(condition) > LONGEST:
         return []
     return [

@@ -44,6 +44,7 @@ def text_of(token: str) -> str:
 
 
 def lengths_in(tokens: Iterable[Token]) -> list[int]:
+    """The lengths next to whole numbers."""
     wholes = [number_of_literal(token.text) for token in tokens if token.kind == "number" and len(token.text) <= 4]
     near = {int(whole) + step for whole in wholes if whole.denominator == 1 for step in (-1, 0, 1)}
     return sorted(length for length in near if 0 <= length <= LONGEST_LENGTH)[:MOST_LITERALS]
@@ -70,12 +71,14 @@ def decimal_text(number: Fraction) -> str:
 
 
 def decimals(material: Material) -> list[NumberText]:
+    """Decimals round the numbers, and usual ones."""
     near = [number + step for number in material.numbers for step in (Fraction(0), -LEAST_STEP, LEAST_STEP)]
     numbers = [*near, *map(Fraction, USUAL_NUMBERS)]
     return [NumberText(decimal_text(number)) for number in numbers if abs(number) <= GREATEST]
 
 
 def wholes(material: Material) -> list[int]:
+    """Whole numbers round the numbers, and usual ones."""
     near = [
         near
         for number in material.numbers
@@ -85,6 +88,7 @@ def wholes(material: Material) -> list[int]:
 
 
 def texts(material: Material) -> list[str]:
+    """The texts that are mentioned, one that has none of them, and one that has all."""
     parts = [part for part in material.texts if part]
     other = next((text for text in OTHERS if not any(part in text or text in part for part in parts)), "@")
     return [*material.texts, other, " ".join(material.texts)]

@@ -25,6 +25,7 @@ def first_with(values: Sequence[Json], answers: Sequence[T], wanted: T) -> str |
 
 
 def faults(asked: Asked, answers: Sequence[bool | str]) -> Iterator[Finding]:
+    """The first value on which each fault is met."""
     for fault, mend in MENDS_OF_FAULTS.items():
         value = first_with(asked.question.values, answers, fault)
         if value is not None:
@@ -38,6 +39,7 @@ def faults(asked: Asked, answers: Sequence[bool | str]) -> Iterator[Finding]:
 
 
 def constants(asked: Asked, answers: Sequence[bool | str]) -> Iterator[Finding]:
+    """A condition that is the same for every value."""
     booleans = [answer for answer in answers if isinstance(answer, bool)]
     if len(booleans) < 2 or len(set(booleans)) != 1:
         return
@@ -73,6 +75,7 @@ def of_both(first: Asked, answers: Sequence[bool | str], others: Sequence[bool |
 
 
 def findings_of_answers(engine: str, subject: Subject) -> Iterator[Finding]:
+    """What the engine's answers show of each condition, and of both of a metric."""
     asked = asked_of(subject)
     answers = answered(engine, [one.question for one in asked])
     shapes = shapes_of_metrics(subject)

@@ -43,6 +43,7 @@ class Case:
 
     @property
     def answers(self) -> list[Answer]:
+        """All answers, by metric."""
         return [answer for column in self.columns for answer in column]
 
     def in_order(self) -> Iterator[Answer]:
@@ -53,10 +54,12 @@ class Case:
 
     @property
     def count(self) -> int:
+        """How many measurements there are."""
         return sum(answer.repeat for answer in self.answers)
 
     @property
     def size(self) -> int:
+        """How many bytes of a document they are, about."""
         return sum(answer.size + answer.repeat * len(json.dumps(self.name)) for answer in self.answers)
 
 
@@ -139,6 +142,7 @@ def args_of(node: Node, names: Sequence[str]) -> dict[str, str]:
 
 
 def check_sizes(case: Case) -> None:
+    """Refuses a test that is too large for the engine."""
     if case.count > MOST_MEASUREMENTS:
         raise Refused(f"{case.node.where}: found {case.count} measurements; expected at most {MOST_MEASUREMENTS}")
     if case.size > MOST_BYTES:

@@ -61,6 +61,7 @@ def results_of(engine: str, suite: Suite) -> list[Result]:
 
 
 def add_arguments(parser: ArgumentParser) -> None:
+    """What the command takes, and the plugin's, too."""
     parser.add_argument("--filter", metavar="TEXT", help="run the tests alone whose name has this text")
     parser.add_argument("--mutate", action="store_true", help="list moves of limits and thresholds that none notices")
     parser.add_argument("--output", choices=WRITERS, default="text", help="what is written; text without it")

@@ -18,10 +18,12 @@ class Difference(NamedTuple):
 
 
 def begins(text: str, words: tuple[str, ...]) -> bool:
+    """Whether a text begins with these words."""
     return tuple(text.split()[: len(words)]) == words
 
 
 def is_closing(event: EventReport) -> bool:
+    """Whether an event closed its run."""
     return event["effect"] == "closed"
 
 
@@ -33,6 +35,7 @@ def counting(run: RunReport, metric: str) -> tuple[int, ...]:
 
 
 def closing(run: RunReport) -> tuple[int, ...]:
+    """The place of the event that closed the run, if one did."""
     return tuple(place for place, event in enumerate(run["events"]) if is_closing(event))
 
 

@@ -38,6 +38,7 @@ NOTHING = OfEvent((), (), None)
 
 
 def check_verdict(node: Node, words: tuple[str, ...]) -> None:
+    """Refuses words that are no verdict."""
     causes = CAUSES.get(words[1], ()) if len(words) > 1 else ()
     faults = tuple(fault for fault in causes if fault is not None)
     choices = (VERDICTS, tuple(CAUSES) if words[:1] == ("Error",) else (), faults)

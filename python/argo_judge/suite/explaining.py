@@ -30,6 +30,7 @@ class Result(NamedTuple):
 
     @property
     def passed(self) -> bool:
+        """Whether nothing differs."""
         return not self.differences
 
 

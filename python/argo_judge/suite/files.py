@@ -124,6 +124,7 @@ def suite_of(found: Found) -> Suite:
 
 
 def is_of_kubernetes(value: Json) -> bool:
+    """Whether a value is an object of Kubernetes, and no suite."""
     names = ("apiVersion", "kind")
     return all(member(value, name) is not None for name in names) and member(value, "tests") is None
 

@@ -83,6 +83,7 @@ def answered(engine: str, words: Sequence[str], document: Object) -> CompletedPr
 
 
 def expects_error(answer: Answer) -> bool:
+    """Whether a test expects an error of an answer."""
     return answer.expected.verdict[:1] == ("Error",) or answer.expected.fault is not None
 
 

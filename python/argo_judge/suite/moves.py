@@ -53,10 +53,12 @@ class Move:
         return f"{self.what}: {self.before}" + ("" if self.after is None else f" -> {self.after}")
 
     def template_of(self, template: Object) -> Object:
+        """The template after the move."""
         moved_one: Object = changed(template, self.path, self.value) if self.path else template
         return moved_one
 
     def args_of(self, case: Case) -> dict[str, str]:
+        """The arguments of a case after the move."""
         if self.argument is None or self.argument not in case.args:
             return case.args
         after = moved(case.args[self.argument], self.by)
@@ -94,6 +96,7 @@ def changed(value: Json, path: Path, new: Json) -> Json:
 
 
 def need_of_limit(choice: Callable[[Fraction, Fraction], Fraction], counted: str) -> Need:
+    """What would notice that a limit is moved."""
     return lambda before, after: f"a test in which just {choice(before, after)} {counted}, and the metric's phase"
 
 
@@ -106,6 +109,7 @@ def need_of_literal(literal: Literal) -> Need:
     what = "a length or count" if literal.is_size else "a value"
 
     def need(before: Fraction, after: Fraction) -> str:
+        """A test whose value is compared otherwise."""
         before, after = (-before, -after) if is_signed else (before, after)
         seen = before if test(before, before) != test(before, after) else after
         return f"a test with {what} of {signed(seen)}, and its verdict"
@@ -235,6 +239,7 @@ def of_argument(name: str, use: Use, template: Object, cases: Sequence[Case]) ->
 def of_metric(
     metric: Object, place: int, shape: Json, values: Mapping[str, str], uses: dict[str, Use]
 ) -> Iterator[Move]:
+    """The moves of a metric's conditions and limits."""
     for field in CONDITIONS:
         if isinstance(text := member(metric, field), str):
             what = f"metric {metric['name']}, {field}"

@@ -21,17 +21,21 @@ class Node(NamedTuple):
 
     @property
     def line(self) -> int | None:
+        """Its line, if it is known."""
         return self.found.line_of(self.pointer)
 
     @property
     def where(self) -> str:
+        """How a refusal says where it is."""
         line = self.line
         return f"{self.found.file}, " + (f"line {line}" if line else f"at {self.pointer or 'its beginning'}")
 
     def refused(self, expected: str) -> Refused:
+        """The refusal of its value."""
         return Refused(f"{self.where}: expected {expected}, found {shown(self.value)}")
 
     def has(self, name: str) -> bool:
+        """Whether there is a member of a name."""
         return name in self.value
 
     def member(self, name: str) -> Node:
@@ -39,6 +43,7 @@ class Node(NamedTuple):
         return Node(self.value.get(name), self.found, self.pointer + pointer_to(name))
 
     def items(self, expected: str) -> list[Node]:
+        """The items of a list."""
         if not isinstance(self.value, list):
             raise self.refused(expected)
         return [Node(item, self.found, self.pointer + pointer_to(place)) for place, item in enumerate(self.value)]

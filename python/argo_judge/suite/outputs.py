@@ -30,6 +30,7 @@ def lines_of(result: Result) -> list[str]:
 
 
 def counted(number: int, what: str) -> str:
+    """A number of things."""
     return f"{number} {what}" if number == 1 else f"{number} {what}s"
 
 
@@ -50,6 +51,7 @@ def text_of_moves(trial: Trial) -> Iterator[str]:
 
 
 def text_of(results: Sequence[Result], trials: Sequence[Trial] | None) -> str:
+    """All lines, by file."""
     parts: list[str] = []
     by_file: dict[str, list[Result]] = {}
     for result in results:
@@ -66,6 +68,7 @@ def text_of(results: Sequence[Result], trials: Sequence[Trial] | None) -> str:
 
 
 def last_line(results: Sequence[Result], trials: Sequence[Trial] | None) -> str:
+    """The sums."""
     failed = sum(not one.passed for one in results)
     unnoticed = sum(len(trial.unnoticed) for trial in trials or ())
     moves = "" if trials is None else f"; {counted(unnoticed, 'move')} unnoticed"
@@ -76,6 +79,7 @@ def last_line(results: Sequence[Result], trials: Sequence[Trial] | None) -> str:
 
 
 def object_of(result: Result) -> Object:
+    """What JSON has of a result."""
     node = result.case.node
     found = [{"what": one.what, "expected": one.expected, "got": one.got} for one in result.differences]
     return {
@@ -91,6 +95,7 @@ def object_of(result: Result) -> Object:
 
 
 def object_of_move(file: str, move: Move, noticed: bool | None, why: str | None = None) -> Object:
+    """What JSON has of a move."""
     return {
         "file": file,
         "what": move.what,
@@ -103,6 +108,7 @@ def object_of_move(file: str, move: Move, noticed: bool | None, why: str | None 
 
 
 def objects_of_moves(trial: Trial) -> list[Object]:
+    """What JSON has of a trial's moves."""
     file = trial.suite.file
     return [
         *(object_of_move(file, move, True) for move in trial.noticed),
@@ -112,6 +118,7 @@ def objects_of_moves(trial: Trial) -> list[Object]:
 
 
 def json_of(results: Sequence[Result], trials: Sequence[Trial] | None) -> str:
+    """One JSON object."""
     moves = None if trials is None else [one for trial in trials for one in objects_of_moves(trial)]
     failed = sum(not one.passed for one in results)
     made = {
@@ -161,6 +168,7 @@ def add_case(parent: ElementTree.Element, one: JunitCase) -> None:
 
 
 def junit_of(results: Sequence[Result], trials: Sequence[Trial] | None) -> str:
+    """JUnit's XML."""
     by_file: dict[str, list[JunitCase]] = {}
     for one in junit_cases(results, trials):
         by_file.setdefault(one.file, []).append(one)
