@@ -3,6 +3,7 @@
 It is loaded before the command's own module, so that Ctrl-C is one line even while the rest is loaded.
 """
 import errno
+import io
 import os
 import signal
 import sys
@@ -54,7 +55,8 @@ def status_of(main: Callable[[], int | None]) -> int:
     try:
         if sys.stdout is None:
             raise OSError(errno.EBADF, "it is closed")
-        sys.stdout.reconfigure(encoding="utf-8")  # type: ignore[attr-defined]  # whatever the locale is
+        if isinstance(sys.stdout, io.TextIOWrapper):
+            sys.stdout.reconfigure(encoding="utf-8")  # whatever the locale is
         status = main()
     except SystemExit as done:
         status = done.code
