@@ -7,6 +7,7 @@ from argo_judge.backtest.sweeps import sums_of, sweep_of
 from argo_judge.backtest.tables import table
 from argo_judge.errors import Refused
 from argo_judge.notes import kept_notes
+from argo_judge.objects import Object
 
 
 @pytest.mark.parametrize(
@@ -48,7 +49,7 @@ def test_sums() -> None:
     assert sums == (2, 1, 1, 2)
 
 
-def document(name: str, size: int = 1, shape: str = "decimal") -> dict[str, object]:
+def document(name: str, size: int = 1, shape: str = "decimal") -> Object:
     """A document of one run, whose measurement has a text of some size."""
     manifest = {"metadata": {"name": name}, "spec": {"metrics": [{"name": "m"}]}}
     entries = [{"run": "r", "metric": "m", "value": "1" * size}]

@@ -12,6 +12,7 @@ from argo_judge.engine.program import ENGINE, judged, shell_status
 from argo_judge.engine.refusals import refusal_in, warnings_in
 from argo_judge.engine.reports import checked
 from argo_judge.errors import NO_MEMORY, NOT_WRITTEN, REFUSED, UNEXPECTED, Refused, Status
+from argo_judge.objects import Object
 from argo_judge.running import explained
 
 PYTHON = pathlib.Path(__file__).resolve().parents[1]
@@ -35,7 +36,8 @@ def test_each_command_has_help_and_each_recipe_a_command() -> None:
 
 def test_version_and_refusals() -> None:
     assert started("--version").stdout.startswith("argo-judge-tools ")
-    for words in ([], ["nothing"], ["convert"], ["lint"], ["split", "--runs", "x", "a", "b"]):
+    starts: list[list[str]] = [[], ["nothing"], ["convert"], ["lint"], ["split", "--runs", "x", "a", "b"]]
+    for words in starts:
         ended = started(*words)
         assert (ended.returncode, ended.stdout, len(ended.stderr.splitlines())) == (REFUSED, "", 1)
         assert ended.stderr.startswith("argo-judge-tools: command line: ")
@@ -109,20 +111,20 @@ def test_warnings() -> None:
         warnings_in(json.dumps({"version": 1, "warnings": [warning, {}]}))
 
 
-DOCUMENT = {
+DOCUMENT: Object = {
     "manifest": {"spec": {"metrics": [{"name": "m"}]}},
     "runs": [{"name": "r"}],
     "measurements": [{"run": "r", "metric": "m", "value": 1}, {"run": "r", "stop": True}],
 }
-METRIC = {
+METRIC: Object = {
     "name": "m",
     "phase": "Successful",
     "dryRun": False,
     "counts": {"successful": 1, "failed": 0, "inconclusive": 0, "error": 0, "consecutiveError": 0},
     "limits": {"failureLimit": 0, "inconclusiveLimit": 0, "consecutiveErrorLimit": 4},
 }
-NONE = {"cause": None, "fault": None, "phase": None}
-EVENTS = [
+NONE: Object = {"cause": None, "fault": None, "phase": None}
+EVENTS: list[Object] = [
     {**NONE, "number": 0, "metric": "m", "stop": False, "verdict": "Successful", "effect": "applied"},
     {**NONE, "number": 1, "metric": None, "stop": True, "verdict": None, "effect": "closed", "phase": "Successful"},
 ]
@@ -130,7 +132,7 @@ EVENTS = [
 
 def report(**members: object) -> str:
     """The report of the document, with other members of its run."""
-    run = {"name": "r", "phase": "Successful", "metrics": [METRIC], "events": EVENTS, **members}
+    run: Object = {"name": "r", "phase": "Successful", "metrics": [METRIC], "events": EVENTS, **members}
     return json.dumps({"version": 1, "runs": [run]})
 
 
@@ -154,6 +156,6 @@ def test_a_report_is_held_to_its_document() -> None:
         {"events": [{**EVENTS[0], "number": False}, EVENTS[1]]},
     ],
 )
-def test_another_report_is_refused(members: dict[str, object]) -> None:
+def test_another_report_is_refused(members: Object) -> None:
     with pytest.raises(Refused, match="^report, runs"):
         checked(DOCUMENT, report(**members), "document", "report")

@@ -8,17 +8,18 @@ from argo_judge.convert.shapes import proposed
 from argo_judge.convert.split import parts_of
 from argo_judge.errors import Refused
 from argo_judge.notes import kept_notes
+from argo_judge.objects import Json, Object
 
 
 @pytest.mark.parametrize(
     ("time", "value"),
     [(1, 1.0), ("1.5", 1.5), ("-1", -1.0), ("1e3", 1000.0), (True, None), ("1e999", None), ("x", None), ([], None)],
 )
-def test_seconds(time: object, value: float | None) -> None:
+def test_seconds(time: Json, value: float | None) -> None:
     assert seconds(time) == value
 
 
-def entry(name: str, time: object = None) -> dict[str, object]:
+def entry(name: str, time: Json = None) -> Object:
     """An entry with a time, or without."""
     return {"metric": name} if time is None else {"metric": name, "time": time}
 
@@ -33,7 +34,7 @@ def test_entries_are_merged_by_their_times() -> None:
 # ---- Prometheus
 
 
-def answered(data: object, is_flat: bool = False) -> tuple[list[dict[str, object]], list[str]]:
+def answered(data: Json, is_flat: bool = False) -> tuple[list[Object], list[str]]:
     """What an answer measured, and what is noted."""
     notes: list[str] = []
     return answers_of({"status": "success", "data": data}, 1, is_flat, notes), notes
@@ -71,7 +72,7 @@ def test_a_range_without_series_measures_nothing() -> None:
         {"resultType": "streams", "result": []},
     ],
 )
-def test_odd_data_is_refused(data: object) -> None:
+def test_odd_data_is_refused(data: Json) -> None:
     with pytest.raises(Refused, match="^input, answer 1: expected "):
         answered(data)
 
@@ -86,7 +87,7 @@ def test_an_error_is_one_of_the_provider() -> None:
 # ---- parts
 
 
-DOCUMENT = {
+DOCUMENT: Object = {
     "runs": [{"name": "a"}, {"name": "b"}, {"name": "c"}],
     "measurements": [{"run": "c"}, {"run": "a"}, {"run": "b"}, {"run": "a"}],
 }
@@ -102,13 +103,13 @@ def test_parts_keep_numbers() -> None:
     ("runs", "entries"),
     [([], []), ([{"name": "a"}] * 2, []), ([{"name": 7}], []), ([{"name": "a"}], [{"run": "b"}]), ({}, [])],
 )
-def test_what_parts_would_hide_is_refused(runs: object, entries: object) -> None:
+def test_what_parts_would_hide_is_refused(runs: Json, entries: Json) -> None:
     with pytest.raises(Refused):
         list(parts_of({"runs": runs, "measurements": entries}, 1))
 
 
 @pytest.mark.parametrize("numbers", [[0, 0], [1], [True], [None], ["0"]])
-def test_numbers_of_a_whole(numbers: list[object]) -> None:
+def test_numbers_of_a_whole(numbers: list[Json]) -> None:
     with pytest.raises(Refused, match="^parts: "):
         check_whole(["a"], numbers)
 
@@ -129,12 +130,12 @@ def test_numbers_of_a_whole(numbers: list[object]) -> None:
         ([{"a": 1}, {"b": "x"}], {"record": {"a": {"optional": "decimal"}, "b": {"optional": "text"}}}),
     ],
 )
-def test_proposed(answers: list[object], shape: object) -> None:
+def test_proposed(answers: list[Json], shape: Json) -> None:
     assert proposed("m", answers, None) == shape
 
 
 @pytest.mark.parametrize("answers", [[], [None], [[]], [9223372036855, "0.5"]])
-def test_nothing_is_proposed_with_a_note(answers: list[object]) -> None:
+def test_nothing_is_proposed_with_a_note(answers: list[Json]) -> None:
     with kept_notes() as noted:
         assert proposed("m", answers, None) is None
     assert len(noted) == 1

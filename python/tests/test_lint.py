@@ -10,12 +10,13 @@ from argo_judge.lint.tokens import conversions_in, guards_of_parts, without_conv
 from argo_judge.lint.values import MOST_VALUES, decimal_text, size_of, value_text, values_of
 from argo_judge.literals import number_of_literal
 from argo_judge.manifests import Found
+from argo_judge.objects import Json, Object
 
 
-def subject_of(*metrics: dict[str, object]) -> Subject:
+def subject_of(*metrics: Object) -> Subject:
     """A template with metrics that lack nothing but what they give."""
-    usual = {"name": "m", "interval": "1m", "provider": {"web": {}}}
-    template = {"kind": "AnalysisTemplate", "spec": {"metrics": [{**usual, **metric} for metric in metrics]}}
+    usual: Object = {"name": "m", "interval": "1m", "provider": {"web": {}}}
+    template: Object = {"kind": "AnalysisTemplate", "spec": {"metrics": [{**usual, **metric} for metric in metrics]}}
     return Subject(Found(template, "file", "", {}), {}, {})
 
 
@@ -44,7 +45,7 @@ def test_no_durations(text: str) -> None:
         ({"provider": 7}, ["/spec/metrics/0"]),
     ],
 )
-def test_what_the_controller_refuses(metric: dict[str, object], pointers: list[str]) -> None:
+def test_what_the_controller_refuses(metric: Object, pointers: list[str]) -> None:
     assert [one.pointer for one in refused_by_controller(subject_of(metric))] == pointers
 
 
@@ -61,7 +62,7 @@ def test_equal_names_are_refused_once_each() -> None:
         ({"interval": None, "failureLimit": 1}, 1),
     ],
 )
-def test_limits_out_of_reach(metric: dict[str, object], times: int) -> None:
+def test_limits_out_of_reach(metric: Object, times: int) -> None:
     assert len(list(unreachable_limits(subject_of(metric)))) == times
 
 
@@ -133,7 +134,7 @@ def test_decimals_are_written_shortly(number: str) -> None:
         {"list": {"record": {name: "whole" for name in "abcd"}}, "max": 1000},
     ],
 )
-def test_values_are_few_and_small(shape: object) -> None:
+def test_values_are_few_and_small(shape: Json) -> None:
     conditions = ["result == 1 && result != 2 || a in [3, 4] and b > 5 and c < 6 and d == 7 and len(result) > 63"]
     values, _ = values_of(shape, conditions)
     assert 0 < len(values) <= MOST_VALUES
@@ -141,13 +142,13 @@ def test_values_are_few_and_small(shape: object) -> None:
 
 
 @pytest.mark.parametrize("shape", [None, 7, [], {}, {"list": "decimal"}, {"record": 1}, {"optional": {}}, "number"])
-def test_no_shape_has_no_values(shape: object) -> None:
+def test_no_shape_has_no_values(shape: Json) -> None:
     values, is_complete = values_of(shape, ["result > 1"])
     assert values in ([], [None]) and is_complete
 
 
 def test_a_deep_shape_ends() -> None:
-    shape: object = "decimal"
+    shape: Json = "decimal"
     for _ in range(1000):
         shape = {"optional": shape}
     assert values_of(shape, []) == ([None], True)

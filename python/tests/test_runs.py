@@ -4,18 +4,19 @@ import pytest
 from argo_judge.analysisruns import Flags, document_of, measurements_of
 from argo_judge.errors import Refused
 from argo_judge.notes import kept_notes
+from argo_judge.objects import Json, Object
 from argo_judge.retention import difference
 
-SHAPES = {"metadata": {"annotations": {"argo-judge/shapes": '{"a": "decimal", "b": "decimal"}'}}}
+SHAPES: Object = {"metadata": {"annotations": {"argo-judge/shapes": '{"a": "decimal", "b": "decimal"}'}}}
 
 
-def result(name: str, phase: str, *measurements: tuple[str, str], **counts: object) -> dict[str, object]:
+def result(name: str, phase: str, *measurements: tuple[str, str], **counts: Json) -> Object:
     """A metric's result; of a measurement the phase and the second in which it began and ended."""
     made = [{"phase": one, "value": "1", "startedAt": at, "finishedAt": at} for one, at in measurements]
     return {"name": name, "phase": phase, "measurements": made, **counts}
 
 
-def run_of(*results: dict[str, object]) -> dict[str, object]:
+def run_of(*results: Object) -> Object:
     """An AnalysisRun with results."""
     metrics = [{"name": one["name"], "successCondition": "result > 0"} for one in results]
     metadata = {"name": "r", **SHAPES["metadata"]}
@@ -27,7 +28,7 @@ def run_of(*results: dict[str, object]) -> dict[str, object]:
     }
 
 
-def order_of(run: object) -> list[tuple[str, str]]:
+def order_of(run: Json) -> list[tuple[str, str]]:
     """The measurements of a run, each by its metric and its time."""
     return [(one.metric, one.measurement["finishedAt"]) for one in measurements_of(run)]
 
@@ -68,12 +69,12 @@ def test_a_time_that_is_none_is_refused() -> None:
         ({"failed": 2}, "lacks measurements (2 failed) and has measurements too many (1 successful)"),
     ],
 )
-def test_counts(counts: dict[str, object], said: str) -> None:
+def test_counts(counts: Object, said: str) -> None:
     assert difference({"count": 1, **result("a", "Successful", ("Successful", "1"), **counts)}) == said
 
 
 @pytest.mark.parametrize("count", [-1, True, "1", 2**31, 1.5])
-def test_odd_counts_are_refused(count: object) -> None:
+def test_odd_counts_are_refused(count: Json) -> None:
     with pytest.raises(Refused, match='^input, metric "a": expected a whole number as `successful`'):
         difference(result("a", "Successful", successful=count))
 

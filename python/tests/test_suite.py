@@ -6,12 +6,13 @@ from fractions import Fraction
 import pytest
 
 from argo_judge.errors import Refused
+from argo_judge.objects import Json, Object
 from argo_judge.suite.files import suites_in
 from argo_judge.suite.moves import moves_of
 from argo_judge.suite.numbers import moved, number_in, signed
 from argo_judge.suite.outputs import xml_text
 
-TEMPLATE = {
+TEMPLATE: Object = {
     "kind": "AnalysisTemplate",
     "metadata": {"name": "t"},
     "spec": {
@@ -21,14 +22,14 @@ TEMPLATE = {
         ],
     },
 }
-SUITE = {
+SUITE: Object = {
     "template": TEMPLATE,
     "shapes": {"m": "decimal"},
     "tests": [{"name": "one", "answers": {"m": [1]}, "expect": {"run": "Failed"}}],
 }
 
 
-def suite_with(folder: pathlib.Path, **members: object) -> str:
+def suite_with(folder: pathlib.Path, **members: Json) -> str:
     """The path of a suite, with other members."""
     path = folder / "suite.json"
     path.write_text(json.dumps({**SUITE, **members}), encoding="utf-8")
@@ -60,12 +61,11 @@ def test_no_number(text: str) -> None:
 def test_written_numbers_are_read_again() -> None:
     hypothesis = pytest.importorskip("hypothesis")
 
-    @hypothesis.given(hypothesis.strategies.integers(-(2**63), 2**63))
     def reads(millionths: int) -> None:
         number = Fraction(millionths, 10**6)
         assert number_in(signed(number)) == number
 
-    reads()
+    hypothesis.given(hypothesis.strategies.integers(-(2**63), 2**63))(reads)()
 
 
 def test_moves(tmp_path: pathlib.Path) -> None:
@@ -111,7 +111,7 @@ def test_moves(tmp_path: pathlib.Path) -> None:
         ({"equivalentMoves": "x"}, "expected a list of moves"),
     ],
 )
-def test_a_suite_is_refused(tmp_path: pathlib.Path, members: dict[str, object], said: str) -> None:
+def test_a_suite_is_refused(tmp_path: pathlib.Path, members: Object, said: str) -> None:
     path = suite_with(tmp_path, **members)
     with pytest.raises(Refused) as refused:
         suites_in([path])
