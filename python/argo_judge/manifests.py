@@ -10,7 +10,7 @@ from argo_judge.jsontext import parsed_all
 from argo_judge.notes import note
 from argo_judge.objects import Json, member, shown
 from argo_judge.pointers import pointer_to
-from argo_judge.yamltext import JSON_FRACTION, Lines, yaml_documents
+from argo_judge.yamltext import JSON_FRACTION, Document, Lines, yaml_documents
 
 SUFFIXES = (".json", ".yaml", ".yml")
 JSON_WORD = re.compile(rf"null|true|false|{JSON_FRACTION.pattern}", re.ASCII)
@@ -39,43 +39,35 @@ def is_json(path: str, text: str) -> bool:
     return text.lstrip()[:1] in ("{", "[") or JSON_WORD.fullmatch(text.strip()) is not None
 
 
-def documents_of(path: str, where: str) -> list[tuple[Json, Lines]]:
-    """Each document of a file, or of standard input where the path is `-`, with the lines of its values."""
+def documents_of(path: str, where: str) -> list[Document]:
+    """Each document of a file, or of standard input where the path is `-`."""
     text = read_text(path, where)
     if is_json(path, text):
-        return [(value, {}) for value in parsed_all(text, where)]
+        return [Document(value, {}) for value in parsed_all(text, where)]
     return yaml_documents(text, where)
 
 
-def items_of(value: Json, lines: Lines) -> list[tuple[Json, str, Lines]]:
+def items_of(document: Document, file: str) -> list[Found]:
     """The object itself or, of a List, each item, with its pointer and the lines of its values."""
-    items = member(value, "items")
-    if not str(member(value, "kind", default="")).endswith("List") or not isinstance(items, list):
-        return [(value, "", lines)]
+    items = member(document.value, "items")
+    if not str(member(document.value, "kind", default="")).endswith("List") or not isinstance(items, list):
+        return [Found(document.value, file, "", document.lines)]
     own: list[Lines] = [{} for _ in items]
-    for pointer, line in lines.items():
+    for pointer, line in document.lines.items():
         _, name, place, _ = (pointer + "///").split("/", 3)
         if name == "items" and place.isdecimal():
             own[int(place)][pointer[len(pointer_to(name, place)) :]] = line
-    return [(item, pointer_to("items", place), own[place]) for place, item in enumerate(items)]
+    return [Found(item, file, pointer_to("items", place), own[place]) for place, item in enumerate(items)]
 
 
 def objects_of(path: str, where: str) -> list[Found]:
     """The objects of a file."""
-    return [
-        Found(item, path, pointer, own)
-        for value, lines in documents_of(path, where)
-        for item, pointer, own in items_of(value, lines)
-    ]
+    return [found for document in documents_of(path, where) for found in items_of(document, path)]
 
 
 def objects_in(text: str, where: str) -> list[Found]:
     """The objects of a text of JSON."""
-    return [
-        Found(item, where, pointer, own)
-        for value in parsed_all(text, where)
-        for item, pointer, own in items_of(value, {})
-    ]
+    return [found for value in parsed_all(text, where) for found in items_of(Document(value, {}), where)]
 
 
 def files_in(paths: Iterable[str]) -> Iterator[str]:

@@ -5,6 +5,7 @@ lines its values are.
 import re
 import subprocess
 from collections.abc import Iterator
+from dataclasses import dataclass
 from decimal import Decimal
 from typing import Any, TypeAlias
 
@@ -72,6 +73,15 @@ def plain_scalar(text: str, where: str) -> Json:
 
 # ---- documents
 
+
+@dataclass(frozen=True)
+class Document:
+    """A value that a file has, and the lines of what is in it."""
+
+    value: Json
+    lines: Lines
+
+
 STANDARD_TAGS, TEXT_TAG = "tag:yaml.org,2002:", "tag:yaml.org,2002:str"
 # What PyYAML takes a scalar for that has no tag of its own.
 RESOLVER: Yaml = yaml and yaml.SafeLoader("")
@@ -124,8 +134,8 @@ class Reader:
         return values
 
 
-def by_pyyaml(text: str, where: str) -> Iterator[tuple[Json, Lines]]:
-    """Each document of a YAML text that isn't empty, and its lines."""
+def by_pyyaml(text: str, where: str) -> Iterator[Document]:
+    """Each document of a YAML text that isn't empty."""
     loader = getattr(yaml, "CSafeLoader", yaml.SafeLoader)
     try:
         for node in yaml.compose_all(text, Loader=loader):
@@ -133,7 +143,7 @@ def by_pyyaml(text: str, where: str) -> Iterator[tuple[Json, Lines]]:
                 reader = Reader(where)
                 value = reader.value(node, "", node.start_mark.line + 1)
                 if value is not None:
-                    yield value, reader.lines
+                    yield Document(value, reader.lines)
     except yaml.YAMLError as fault:
         mark = getattr(fault, "problem_mark", None)
         at = f"; the fault is on line {mark.line + 1}" if mark else ""
@@ -142,7 +152,7 @@ def by_pyyaml(text: str, where: str) -> Iterator[tuple[Json, Lines]]:
         raise Refused(f"{where}: found {fault}")
 
 
-def by_kubectl(text: str, where: str) -> list[tuple[Json, Lines]]:
+def by_kubectl(text: str, where: str) -> list[Document]:
     """The objects of a YAML text, as kubectl reads it."""
     try:
         ended = subprocess.run([*BY_KUBECTL, "-"], input=text, capture_output=True, encoding="utf-8")
@@ -151,9 +161,9 @@ def by_kubectl(text: str, where: str) -> list[tuple[Json, Lines]]:
     if ended.returncode != 0:
         said = ended.stderr.strip().splitlines() or [f"it ended with status {ended.returncode}"]
         raise Refused(f"{where}: found YAML; {CONVERT}; kubectl: {said[-1]}")
-    return [(value, {}) for value in parsed_all(ended.stdout, where)]
+    return [Document(value, {}) for value in parsed_all(ended.stdout, where)]
 
 
-def yaml_documents(text: str, where: str) -> list[tuple[Json, Lines]]:
-    """Each document of a YAML text, with the lines of its values where they are known."""
+def yaml_documents(text: str, where: str) -> list[Document]:
+    """Each document of a YAML text; its lines are empty where they aren't known."""
     return list(by_pyyaml(text, where)) if is_read() else by_kubectl(text, where)

@@ -13,6 +13,7 @@ import json
 import os
 from argparse import ArgumentParser, Namespace
 from collections.abc import Iterator, Sequence
+from typing import NamedTuple
 
 from argo_judge.engine.reports import BAD, VERSION, RunReport, checked, text_of
 from argo_judge.errors import Refused
@@ -20,7 +21,15 @@ from argo_judge.files import read_json, read_text, write_text
 from argo_judge.objects import Json, Object, member, shown
 
 
-def parts_of(folder: str) -> Iterator[tuple[str, str, Object]]:
+class Part(NamedTuple):
+    """A part of a split, with the names of its file and of its report's."""
+
+    name: str
+    report_name: str
+    document: Object
+
+
+def parts_of(folder: str) -> Iterator[Part]:
     """The parts of a split, of which each says its own number and how many there are."""
     first = read_json(os.path.join(folder, "0.json"), "0.json")
     count = member(first, "part", "of")
@@ -34,7 +43,7 @@ def parts_of(folder: str) -> Iterator[tuple[str, str, Object]]:
             raise Refused(f"{index}.json: expected part {index} of {count}, found {shown(member(part, 'part'))}")
         if any(member(part, name) != member(first, name) for name in ("manifest", "shapes")):
             raise Refused(f"{index}.json: its template or its shapes are others than those of 0.json")
-        yield f"{index}.json", f"{index}.report", part
+        yield Part(f"{index}.json", f"{index}.report", part)
 
 
 def joined(run: RunReport, numbers: Sequence[int]) -> RunReport:
@@ -76,10 +85,10 @@ def main(words: Namespace) -> int:
         raise Refused(f"{words.parts}: expected 0.json, a part that recipes/split made")
     whole: list[RunReport] = []
     numbers: list[Json] = []
-    for part_name, report_name, part in parts_of(words.parts):
-        report = read_text(os.path.join(words.parts, report_name), report_name)
-        runs = checked(part, report, part_name, report_name)
-        own = [member(entry, "number") for entry in member(part, "measurements", default=[])]
+    for part in parts_of(words.parts):
+        report = read_text(os.path.join(words.parts, part.report_name), part.report_name)
+        runs = checked(part.document, report, part.name, part.report_name)
+        own = [member(entry, "number") for entry in member(part.document, "measurements", default=[])]
         whole.extend(joined(run, own) for run in runs)
         numbers.extend(own)
     check_whole([run["name"] for run in whole], numbers)

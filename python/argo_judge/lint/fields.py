@@ -1,7 +1,7 @@
 """Fields that Argo Rollouts doesn't have, and values that aren't of their field's type."""
 import difflib
 from collections.abc import Callable, Iterable, Iterator
-from typing import TypeGuard
+from typing import NamedTuple, TypeGuard
 
 from argo_judge.jsontext import NumberText
 from argo_judge.lint.findings import Finding, error, warning
@@ -41,17 +41,25 @@ KNOWN = {
 LONGEST_NAME = 64
 
 
-def parts_of(subject: Subject) -> Iterator[tuple[str, str, Json]]:
-    """Each part of a template whose fields are known: its pointer, what it is, and its value."""
+class Part(NamedTuple):
+    """A part of a template whose fields are known: its pointer, its name in KNOWN, and its value."""
+
+    pointer: str
+    name: str
+    value: Json
+
+
+def parts_of(subject: Subject) -> Iterator[Part]:
+    """The parts of a template, of which some may be missing."""
     spec = member(subject.object, "spec")
-    yield "", "the object", subject.object
-    yield pointer_to("spec"), "spec", spec
+    yield Part("", "the object", subject.object)
+    yield Part(pointer_to("spec"), "spec", spec)
     for name, part in (("args", "an argument"), ("dryRun", "dryRun"), ("measurementRetention", "measurementRetention")):
         for place, item in placed(subject.object, name):
-            yield pointer_to("spec", name, place), part, item
+            yield Part(pointer_to("spec", name, place), part, item)
     for place, metric in subject.metrics:
-        yield metric_pointer(place), "a metric", metric
-        yield metric_pointer(place, "provider"), "provider", member(metric, "provider")
+        yield Part(metric_pointer(place), "a metric", metric)
+        yield Part(metric_pointer(place, "provider"), "provider", member(metric, "provider"))
 
 
 def close_to(name: str, names: Iterable[str]) -> str | None:
@@ -95,31 +103,44 @@ def is_whole(value: Json) -> TypeGuard[int]:
     return isinstance(value, int) and not isinstance(value, bool)
 
 
-def typed_fields(subject: Subject) -> Iterator[tuple[str, Json, Callable[[Json], bool], str]]:
-    """The fields whose types are looked at: the pointer of each, its value, whether it fits, and what would."""
+def is_limit(value: Json) -> bool:
+    """Whether a value may be a limit, which the API server takes as a number or a text."""
+    return is_whole(value) or is_text(value)
+
+
+class TypedField(NamedTuple):
+    """A field whose type is looked at: its pointer, its value, what fits, and what that is."""
+
+    pointer: str
+    value: Json
+    fits: Callable[[Json], bool]
+    expected: str
+
+
+def typed_fields(subject: Subject) -> Iterator[TypedField]:
+    """The fields whose types are looked at."""
     for place, metric in subject.metrics:
         for name in TEXTS:
-            yield metric_pointer(place, name), metric.get(name), is_text, "a text in quotes"
+            yield TypedField(metric_pointer(place, name), metric.get(name), is_text, "a text in quotes")
         for name in LIMITS:
-            yield metric_pointer(place, name), metric.get(name), lambda value: is_whole(value) or is_text(
-                value
-            ), "a whole number, or a text"
+            yield TypedField(metric_pointer(place, name), metric.get(name), is_limit, "a whole number, or a text")
     for name, field in TEXTS_OF_LISTS:
         for place, item in placed(subject.object, name):
-            yield pointer_to("spec", name, place, field), item.get(field), is_text, "a text in quotes"
+            yield TypedField(pointer_to("spec", name, place, field), item.get(field), is_text, "a text in quotes")
     for place, item in placed(subject.object, "measurementRetention"):
-        yield pointer_to("spec", "measurementRetention", place, "limit"), item.get("limit"), is_whole, "a whole number"
+        pointer = pointer_to("spec", "measurementRetention", place, "limit")
+        yield TypedField(pointer, item.get("limit"), is_whole, "a whole number")
 
 
 def wrong_types(subject: Subject) -> Iterator[Finding]:
     """Values that the API server refuses."""
-    for pointer, value, fits, expected in typed_fields(subject):
-        if value is not None and not fits(value):
-            name = pointer.rpartition("/")[2]
-            found = value if isinstance(value, NumberText) else shown(value)
+    for field in typed_fields(subject):
+        if field.value is not None and not field.fits(field.value):
+            name = field.pointer.rpartition("/")[2]
+            found = field.value if isinstance(field.value, NumberText) else shown(field.value)
             yield error(
                 "refused-by-controller",
-                pointer,
+                field.pointer,
                 f"`{name}` is {found}, which the API server refuses",
-                f"write {expected}",
+                f"write {field.expected}",
             )

@@ -83,7 +83,7 @@ def given_shapes(node: Node) -> Object | None:
     if node.value is None or isinstance(node.value, dict):
         return node.value
     path = path_next_to(node, "the path of a file of shapes, or an object of them")
-    found = [value for value, _ in documents_of(path, f"{node.where}: shapes")]
+    found = [document.value for document in documents_of(path, f"{node.where}: shapes")]
     if len(found) != 1 or not isinstance(found[0], dict):
         raise Refused(f"{node.where}: {path}: expected one object that has a shape for each metric, by its name")
     return found[0]

@@ -3,6 +3,7 @@ import os
 from collections.abc import Sequence
 from concurrent.futures import ThreadPoolExecutor
 from dataclasses import dataclass, field
+from typing import NamedTuple
 
 from argo_judge.errors import Refused
 from argo_judge.notes import kept_notes
@@ -14,6 +15,13 @@ from argo_judge.suite.judging import Subject, outcomes_of
 from argo_judge.suite.moves import Move, moves_of
 
 
+class PassedOver(NamedTuple):
+    """A move that isn't tried, or says nothing, and why."""
+
+    move: Move
+    why: str
+
+
 @dataclass
 class Trial:
     """What came of the moves of a suite's template; one that is passed over has a reason."""
@@ -22,7 +30,7 @@ class Trial:
     cases: list[Case]
     noticed: list[Move] = field(default_factory=list)
     unnoticed: list[Move] = field(default_factory=list)
-    passed_over: list[tuple[Move, str]] = field(default_factory=list)
+    passed_over: list[PassedOver] = field(default_factory=list)
 
 
 def judged_cases(suite: Suite) -> list[Case]:
@@ -70,13 +78,13 @@ def add(trial: Trial, move: Move, answer: bool | str | None) -> None:
     """Adds what came of a move to a trial."""
     is_equivalent = move.line in trial.suite.equivalent
     if move.after is None:
-        trial.passed_over.append((move, move.need))
+        trial.passed_over.append(PassedOver(move, move.need))
     elif isinstance(answer, str):
-        trial.passed_over.append((move, f"refused, {answer}"))
+        trial.passed_over.append(PassedOver(move, f"refused, {answer}"))
     elif is_equivalent and answer:
         said = f"a test notices {shown(move.line)}; expected none that does"
         raise Refused(f"{trial.suite.file}: equivalentMoves: {said}")
     elif is_equivalent:
-        trial.passed_over.append((move, "one of the suite's equivalentMoves"))
+        trial.passed_over.append(PassedOver(move, "one of the suite's equivalentMoves"))
     else:
         (trial.noticed if answer else trial.unnoticed).append(move)
