@@ -16,7 +16,7 @@ from argo_judge.analysisruns import Measured, add_flags, document_of, flags_of
 from argo_judge.engine.program import judged
 from argo_judge.engine.refusals import hand_on, said_in
 from argo_judge.engine.reports import RunReport, checked, effect_text, verdict_text
-from argo_judge.errors import Refused
+from argo_judge.errors import GOOD, JUDGED, VERDICT, Refused
 from argo_judge.files import read_json
 from argo_judge.objects import Object, member, objects, shown
 from argo_judge.options import add_engine_flag
@@ -25,7 +25,7 @@ from argo_judge.options import add_engine_flag
 def report_of(engine: str, made: Object) -> RunReport:
     """What the engine reports of a document's one run."""
     ended = judged(engine, ["run", "--plain", "--output", "json"], made)
-    if ended.returncode not in (0, 1):
+    if ended.returncode not in JUDGED:
         raise Refused(f"the engine ended with status {ended.returncode}: {said_in(ended.returncode, ended.stderr)}")
     hand_on(ended.returncode, ended.stderr)
     return checked(made, ended.stdout, "document", "report")[0]
@@ -72,4 +72,4 @@ def main(words: Namespace) -> int:
     for one in differing:
         print(f"{one.what}: the controller {one.controller}, argo_judge {one.said}")
     print(f"{len(compared)} phases compared, {len(differing)} differ")
-    return 1 if differing else 0
+    return VERDICT if differing else GOOD

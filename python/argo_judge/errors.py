@@ -1,5 +1,10 @@
-"""How a command may end besides with a verdict: what is refused, and the statuses of that and of failures."""
+"""How a command may end: the statuses, which are the engine's, too, and what ends it early."""
 
+# Where nothing is found, and by a verdict: a run that isn't Successful, a mistake, a test that fails, a difference.
+GOOD, VERDICT = 0, 1
+# What the engine ends with where it judged a document.
+JUDGED = (GOOD, VERDICT)
+# 70 is a fault of the command itself.
 REFUSED, NO_MEMORY, NOT_WRITTEN, UNEXPECTED = 2, 3, 4, 70
 
 

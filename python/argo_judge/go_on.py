@@ -18,7 +18,7 @@ from argparse import ArgumentParser, Namespace
 from argo_judge.engine.program import judged_bytes, shell_status
 from argo_judge.engine.refusals import hand_on, warnings_in
 from argo_judge.engine.reports import BAD, checked, text_of
-from argo_judge.errors import Refused, Status
+from argo_judge.errors import GOOD, JUDGED, VERDICT, Refused, Status
 from argo_judge.files import read_bytes, read_text, write_text
 from argo_judge.jsontext import parsed
 from argo_judge.notes import say
@@ -38,11 +38,11 @@ def made_report(engine: str, document: bytes, are_allowed: bool) -> tuple[str, b
     """The report that the engine makes of a document, and whether it found each run good."""
     ended = judged_bytes(engine, ["run", "--ordered", "--output", "json"], document)
     errors = ended.stderr.decode("utf-8", "replace")
-    if ended.returncode not in (0, 1):
+    if ended.returncode not in JUDGED:
         hand_on(ended.returncode, errors)
         raise Status(shell_status(ended.returncode))
     show_warnings(errors, are_allowed)
-    return ended.stdout.decode("utf-8", "replace"), ended.returncode == 0
+    return ended.stdout.decode("utf-8", "replace"), ended.returncode == GOOD
 
 
 def add_arguments(parser: ArgumentParser) -> None:
@@ -68,4 +68,4 @@ def main(words: Namespace) -> int:
     if good is not None and good != all(run["phase"] not in BAD for run in runs):
         raise Refused("report: its phases and the status of argo_judge contradict one another")
     write_text(text_of(runs))
-    return 0 if all(run["phase"] == "Successful" for run in runs) else 1
+    return GOOD if all(run["phase"] == "Successful" for run in runs) else VERDICT

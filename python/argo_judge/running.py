@@ -11,7 +11,7 @@ from collections.abc import Callable
 from types import FrameType
 from typing import NoReturn
 
-from argo_judge.errors import NO_MEMORY, NOT_WRITTEN, REFUSED, UNEXPECTED, Refused, Status
+from argo_judge.errors import GOOD, NO_MEMORY, NOT_WRITTEN, REFUSED, UNEXPECTED, Refused, Status
 from argo_judge.notes import note
 
 
@@ -63,7 +63,9 @@ def status_of(main: Callable[[], int | None]) -> int:
     except Status as given:
         status = given.status
     sys.stdout.flush()
-    return status if isinstance(status, int) else 0
+    if status is None:
+        return GOOD
+    return status if isinstance(status, int) else UNEXPECTED
 
 
 def run(main: Callable[[], int | None]) -> NoReturn:

@@ -9,7 +9,7 @@ from argo_judge.backtest.runs import report_notes
 from argo_judge.engine.program import judged
 from argo_judge.engine.refusals import Refusal, refusal_in, warnings_in
 from argo_judge.engine.reports import RunReport, checked
-from argo_judge.errors import Refused
+from argo_judge.errors import JUDGED, REFUSED, Refused
 from argo_judge.objects import Object
 
 # A document may have 16 MiB.
@@ -79,10 +79,10 @@ def reports_of(engine: str, documents: Sequence[Object], batch: Sequence[int]) -
     """The reported run of each document of a batch, and the warnings; where one is refused each is judged alone."""
     made = joined(documents, batch)
     ended = judged(engine, ["run", "--plain", "--output", "json"], made)
-    if ended.returncode in (0, 1):
+    if ended.returncode in JUDGED:
         reports = checked(made, ended.stdout, "document", "report")
         return Judged(dict(zip(batch, reports)), list(warned_in(made, batch, ended.stderr)))
-    if ended.returncode != 2:
+    if ended.returncode != REFUSED:
         raise Refused(f"the engine ended with status {ended.returncode}: {ended.stderr.strip()}")
     if len(batch) == 1:
         return Judged({batch[0]: refusal_in(ended.stderr)}, [])

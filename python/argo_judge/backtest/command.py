@@ -21,7 +21,7 @@ from argo_judge.backtest.outcomes import result_of
 from argo_judge.backtest.outputs import write_result
 from argo_judge.backtest.runs import judgements_of, runs_in
 from argo_judge.backtest.sweeps import Sweep, sweep_of
-from argo_judge.errors import Refused
+from argo_judge.errors import GOOD, VERDICT, Refused
 from argo_judge.manifests import found_in
 from argo_judge.objects import Object, listed, member, objects, shown
 from argo_judge.options import add_arg_flag, add_engine_flag, add_shapes_flag
@@ -66,7 +66,7 @@ def backtest(words: Namespace, template: Object, read_runs: Callable[[], list[Ob
         first = result.left_out[0]
         raise Refused(f"none of {len(runs)} runs can be judged; the first is {first.name}: {first.why}")
     write_result(result, sweep, words.output)
-    return 1 if any(one.flips for one in result.outcomes) else 0
+    return VERDICT if any(one.flips for one in result.outcomes) else GOOD
 
 
 def add_arguments(parser: ArgumentParser) -> None:

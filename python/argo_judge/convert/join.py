@@ -16,7 +16,7 @@ from collections.abc import Iterator, Sequence
 from typing import NamedTuple
 
 from argo_judge.engine.reports import BAD, VERSION, RunReport, checked, text_of
-from argo_judge.errors import Refused
+from argo_judge.errors import GOOD, VERDICT, Refused
 from argo_judge.files import read_json, read_text, write_text
 from argo_judge.objects import Json, Object, member, shown
 
@@ -93,4 +93,4 @@ def main(words: Namespace) -> int:
         numbers.extend(own)
     check_whole([run["name"] for run in whole], numbers)
     write_text(json_line(whole) if words.output == "json" else text_of(whole))
-    return 1 if any(run["phase"] in BAD for run in whole) else 0
+    return VERDICT if any(run["phase"] in BAD for run in whole) else GOOD

@@ -30,6 +30,7 @@ from argo_judge.engine.explanations import explained_in, lines_of_run
 from argo_judge.engine.program import handed_through, judged, shell_status
 from argo_judge.engine.refusals import hand_on
 from argo_judge.engine.reports import EventReport
+from argo_judge.errors import GOOD
 from argo_judge.files import write_text
 from argo_judge.kubectl.clusters import cluster_flags, fetched, fetched_all, kind_of_template, template_of
 from argo_judge.lint.command import add_flags as add_lint_flags
@@ -74,7 +75,7 @@ says."""
     selected += [] if words.metric is None else ["--metric", words.metric]
     ended = judged(words.engine, ["explain", "--output", "json", *selected], made)
     hand_on(ended.returncode, ended.stderr)
-    if ended.returncode == 0:
+    if ended.returncode == GOOD:
         for one in explained_in(ended.stdout, "explain"):
             write_text(
                 "".join(

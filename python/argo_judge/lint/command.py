@@ -14,7 +14,7 @@ The status is 0, 1 where there is an error (with --strict also a warning), or 2 
 from argparse import ArgumentParser, Namespace
 from collections.abc import Callable, Sequence
 
-from argo_judge.errors import Refused
+from argo_judge.errors import GOOD, VERDICT, Refused
 from argo_judge.files import read_json, write_text
 from argo_judge.lint.findings import Severity, chosen_rules
 from argo_judge.lint.outputs import STANDARD_INPUT, Located, as_github, as_json, as_text
@@ -72,7 +72,7 @@ def lint(words: Namespace, read_objects: Callable[[], list[Found]], where: str) 
     ]
     write_text(OUTPUTS[words.output](located, subjects))
     failing = (Severity.ERROR, Severity.WARNING) if words.strict else (Severity.ERROR,)
-    return int(any(one.finding.severity in failing for one in located))
+    return VERDICT if any(one.finding.severity in failing for one in located) else GOOD
 
 
 def add_arguments(parser: ArgumentParser) -> None:

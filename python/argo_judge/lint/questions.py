@@ -6,7 +6,7 @@ from typing import NamedTuple, TypeAlias
 from argo_judge.engine.program import judged, shell_status
 from argo_judge.engine.refusals import Refusal, refusal_in
 from argo_judge.engine.reports import EventReport, report_in
-from argo_judge.errors import REFUSED, Refused, Status
+from argo_judge.errors import JUDGED, REFUSED, Refused, Status
 from argo_judge.notes import note
 from argo_judge.objects import Json, Object
 from argo_judge.templates import API_VERSION, CONDITIONS
@@ -69,7 +69,7 @@ def document_of(questions: Sequence[Numbered], has_values: bool) -> Object:
 def ended(engine: str, words: Sequence[str], made: Object) -> CompletedProcess[str]:
     """A start of the engine that ended with a verdict or a refusal."""
     start = judged(engine, words, made)
-    if start.returncode not in (0, 1, REFUSED):
+    if start.returncode not in (*JUDGED, REFUSED):
         for line in start.stderr.splitlines()[:1]:
             note(line)
         raise Status(shell_status(start.returncode))

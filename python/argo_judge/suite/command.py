@@ -24,7 +24,7 @@ command line, is refused.
 """
 from argparse import ArgumentParser, Namespace
 
-from argo_judge.errors import Refused
+from argo_judge.errors import GOOD, VERDICT, Refused
 from argo_judge.files import write_text
 from argo_judge.notes import kept_notes, note
 from argo_judge.objects import shown
@@ -78,4 +78,4 @@ def main(words: Namespace) -> int:
     if words.mutate and not passed:
         note("--mutate: nothing is moved, since a test fails")
     write_text(WRITERS[words.output](results, trials))
-    return 0 if passed and not any(trial.unnoticed for trial in trials or ()) else 1
+    return GOOD if passed and not any(trial.unnoticed for trial in trials or ()) else VERDICT

@@ -7,7 +7,7 @@ from typing import NamedTuple, NoReturn
 from argo_judge.engine.program import judged, shell_status
 from argo_judge.engine.refusals import Refusal, Warned, hand_on, refusal_in, warnings_in
 from argo_judge.engine.reports import RunReport, checked
-from argo_judge.errors import REFUSED, Status
+from argo_judge.errors import JUDGED, REFUSED, Status
 from argo_judge.notes import note
 from argo_judge.objects import Object
 from argo_judge.suite.cases import MOST_BYTES, MOST_MEASUREMENTS, Answer, Case
@@ -77,7 +77,7 @@ def answered(engine: str, words: Sequence[str], document: Object) -> CompletedPr
     ended = judged(engine, words, document)
     if ended.returncode == REFUSED:
         return refusal_in(ended.stderr)
-    if ended.returncode not in (0, 1):
+    if ended.returncode not in JUDGED:
         ended_otherwise(ended)
     return ended
 
