@@ -7,9 +7,9 @@ import sys
 import tempfile
 
 ROOT = pathlib.Path("../../..").resolve()
-sys.path.insert(0, str(ROOT / "tests/docs"))
+sys.path.insert(0, str(ROOT))
 
-from pages import blocks_of
+from checks.docs.pages import blocks_of
 
 ENGINE = os.environ["ENGINE"]
 DOCUMENT = subprocess.run(["../many-runs"], capture_output=True, text=True, check=True).stdout

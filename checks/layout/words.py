@@ -53,7 +53,8 @@ def found_in(text):
 
 
 def in_names(code):
-    """The names in code, without its texts and comments, that have such a part, each with its line and what to write."""
+    """The names in code, without its texts and comments, that have such a part, each with its line and what to
+    write."""
     for match in NAME.finditer(code):
         parts = [part.lower() for part in PART.findall(match[0])]
         for part in parts if match[0] not in GIVEN else []:

@@ -1,16 +1,20 @@
 """The definitions that contracts rest on, read from crates/*/specs and crates/*/src.
 
-A definition is a declaration of a file in `specs/` with the comment above it. It reaches those that its text names, as the
-file's imports resolve them; names that a clause binds are none. A type of the program is one too: it reaches the types that
-it is made of, and what its model names; its private invariant is none of that. Libraries' own definitions are only named.
+A definition is a declaration of a file in `specs/` with the comment above it. It reaches those that its text names, as
+the file's imports resolve them; names that a clause binds are none. A type of the program is one too: it reaches the
+types that it is made of, and what its model names; its private invariant is none of that. Libraries' own definitions
+are only named.
 """
-import pathlib
+
 import re
 
-ROOT = pathlib.Path(__file__).resolve().parents[2]
+from checks import ROOT
+
 CRATES = ROOT / "crates"
 USE = re.compile(r"(?:pub )?(?:ghost )?use (Rattle\.[\w.]+?)(?:\.\{([^}]*)\}| as (\w+))?;?\s*$")
-DECLARATION = re.compile(r"(?:(?:abbrev|unfoldable|pub) )*(?:(?P<kind>record|data) )?(?P<name>[^\s:({]+)(?:\s[^=]*?)?\s?:(?:\s|$)")
+DECLARATION = re.compile(
+    r"(?:(?:abbrev|unfoldable|pub) )*(?:(?P<kind>record|data) )?(?P<name>[^\s:({]+)(?:\s[^=]*?)?\s?:(?:\s|$)"
+)
 TYPE = re.compile(r"pub (?:unsafe )?(?:struct|enum|trait) (\w+)")
 WORD = re.compile(r"[^\s(){}\[\];,]+")
 CODE_LINE = re.compile(r"\s*(?:--.*)?$")
@@ -145,7 +149,9 @@ class Source:
                 if line.rstrip().endswith((";", "{}")):
                     end = number
                 else:
-                    end = next((at for at in range(number + 1, len(lines)) if lines[at].startswith(("}", ");"))), number)
+                    end = next(
+                        (at for at in range(number + 1, len(lines)) if lines[at].startswith(("}", ");"))), number
+                    )
                 text = "\n".join(lines[number : end + 1])
                 if found:
                     self.types[name] = RustType(self, name, number + 1, text)
@@ -209,7 +215,11 @@ class Sources:
             text = CODE.sub(" ", piece)
             bound = bound_in(text, it.kind == "record")
             if number > 0:
-                bound |= {word for word in WORD.findall(re.split(r"\s=\s", text, maxsplit=1)[0]) if self.is_variable(it.module, word)}
+                bound |= {
+                    word
+                    for word in WORD.findall(re.split(r"\s=\s", text, maxsplit=1)[0])
+                    if self.is_variable(it.module, word)
+                }
                 bound -= {it.name}
             for word in WORD.findall(text):
                 word = word.rstrip(".")

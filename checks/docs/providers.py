@@ -1,8 +1,9 @@
 """Whether each table of docs/use/shapes.md says what the document that it names has."""
+
 import json
 import re
 
-from pages import ROOT
+from checks import ROOT
 
 ROW = re.compile(r"\| `?(\w+)`? \| (?:`(.*)`|\[`([\w-]+)\.json`\]\(.*\)) \|")
 FOLDER = ROOT / "examples/providers"

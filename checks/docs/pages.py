@@ -1,9 +1,11 @@
-"""README.md, CONTRIBUTING.md, CHANGELOG.md and the pages of docs/: their fenced blocks, their links, and how they run the program."""
-import pathlib
+"""README.md, CONTRIBUTING.md, CHANGELOG.md and the pages of docs/: their fenced blocks, their links, and how they run
+the program."""
+
 import re
 from dataclasses import dataclass, field
 
-ROOT = pathlib.Path(__file__).resolve().parent.parent.parent
+from checks import ROOT
+
 PAGES = [*sorted(ROOT.glob("*.md")), *sorted((ROOT / "docs").glob("**/*.md"))]
 NOTE = re.compile(r"<!-- (file|not run|needs): (.*) -->")
 # What starts `run` in the order in which workers come, and the files that are looked at for it, besides the pages.
@@ -15,6 +17,7 @@ LINK = re.compile(r"\]\(([^)\s]+)\)")
 @dataclass
 class Block:
     """A fenced block: where it begins, its language, its lines, and the notes in the comments right before it."""
+
     page: str
     number: int
     language: str
@@ -52,7 +55,9 @@ def without_code(text):
 def anchors_of(path):
     """The names that a page's headings have as targets of links."""
     found = set()
-    for line in re.sub(r"^```.*?^```$", "", path.read_text(encoding="utf-8"), flags=re.MULTILINE | re.DOTALL).splitlines():
+    for line in re.sub(
+        r"^```.*?^```$", "", path.read_text(encoding="utf-8"), flags=re.MULTILINE | re.DOTALL
+    ).splitlines():
         if heading := re.fullmatch(r"#+ (.*)", line):
             found.add(re.sub(r"[^\w\- ]", "", heading[1].lower()).replace(" ", "-"))
     return found

@@ -1,19 +1,16 @@
 """Which public functions have a contract of over six lines.
 
-    python3 .ci/contracts.py            says which, and fails where there is one
-    python3 .ci/contracts.py --print    prints each public function with its contract, by crate and file: what two states
-                                        of the sources print can be compared by `diff`
-
-The lines of a contract are those of its clauses `requires`, `ensures` and `ghost`, with the lines that go on; comments and
-empty lines between them are none. It reads sources as `rt fmt` lays them out: a clause begins a line, and the function's
-body, if it has one, a line of its own. Methods of public traits are public.
+The lines of a contract are those of its clauses `requires`, `ensures` and `ghost`, with the lines that go on; comments
+and empty lines between them are none. It reads sources as `rt fmt` lays them out: a clause begins a line, and the
+function's body, if it has one, a line of its own. Methods of public traits are public.
 """
-import pathlib
+
 import re
-import sys
 import textwrap
 
-ROOT = pathlib.Path(__file__).resolve().parent.parent
+from checks import ROOT
+from checks.harness import named
+
 MOST = 6
 FUNCTION = re.compile(r"( *)pub (?:(?:const|unsafe) )*fn (\w+)")
 METHOD = re.compile(r"( +)(?:(?:const|unsafe) )*fn (\w+)")
@@ -40,7 +37,8 @@ def contract_at(lines, first, margin):
 
 
 def contracts(text):
-    """Each public function of a file: the line that it begins in, its name with its type's, and its contract's lines."""
+    """Each public function of a file: the line that it begins in, its name with its type's, and its contract's
+    lines."""
     lines = text.splitlines()
     owner, in_trait = None, False
     for number, line in enumerate(lines):
@@ -60,19 +58,8 @@ def too_long(text):
     return [(number, name, len(contract)) for number, name, contract in contracts(text) if len(contract) > MOST]
 
 
-def main():
-    status = 0
+def show():
+    """Prints each public function with its contract, by crate and file."""
     for path in sorted((ROOT / "crates").glob("*/src/**/*.rt")):
-        text, shown = path.read_text(encoding="utf-8"), path.relative_to(ROOT)
-        if sys.argv[1:] == ["--print"]:
-            for _, name, contract in contracts(text):
-                print(f"{shown} {name}", textwrap.dedent("\n".join(contract)), "", sep="\n")
-            continue
-        for number, name, count in too_long(text):
-            print(f"{shown}:{number}: the contract of {name} has {count} lines, {MOST} at most are wanted")
-            status = 1
-    return status
-
-
-if __name__ == "__main__":
-    sys.exit(main())
+        for _, name, contract in contracts(path.read_text(encoding="utf-8")):
+            print(f"{named(path)} {name}", textwrap.dedent("\n".join(contract)), "", sep="\n")

@@ -9,15 +9,16 @@ import tempfile
 import time
 from functools import partial
 
-from documents import is_answer, repeated, with_events_sorted
-from program import NO_END, SECONDS, Ended, decoded
+from checks.faults.documents import is_answer, repeated, with_events_sorted
+from checks.faults.program import SECONDS, Ended
+from checks.harness import NO_END, decoded
 
 SEEDS = 200
 WORKERS = (2, 4, 16)
 PARTS = 4
 RUNS_ON_ONE = 10
 STOPPED_RUNS = 10
-STOPPED_COMMANDS = ('run --workers 4', 'run --ordered --workers 4', 'run --plain')
+STOPPED_COMMANDS = ("run --workers 4", "run --ordered --workers 4", "run --plain")
 # How many measurements a run has that is stopped, and how long it is left alone and stopped, in seconds.
 MANY, LONGEST_GO, LONGEST_STOP = 20_000, 0.02, 0.005
 
@@ -34,23 +35,24 @@ def sleep(program, seeds, counts):
     """Threads sleep at moments that a seed gives: the report in order is that of `run --plain`, and the other one has
     the same lines, apart from the order of each run's events. Several orders come."""
     document, answer = repeated(4, 40)
-    plain = program.run('run --plain', document)
-    counts.expect(is_answer(plain, answer, 'run --plain'), f'run --plain: {plain}')
+    plain = program.run("run --plain", document)
+    counts.expect(is_answer(plain, answer, "run --plain"), f"run --plain: {plain}")
     orders = set()
     for seed in seeds:
-        ordered = f'run --ordered --workers {WORKERS[seed % len(WORKERS)]}'
-        for words in [f'run --workers {workers}' for workers in WORKERS] + [ordered]:
+        ordered = f"run --ordered --workers {WORKERS[seed % len(WORKERS)]}"
+        for words in [f"run --workers {workers}" for workers in WORKERS] + [ordered]:
             ended = program.run(words, document, SLEEP_SEED=seed)
-            counts.expect(is_same(ended, plain, words), f'{words}, sleeping by seed {seed}: {ended}')
+            counts.expect(is_same(ended, plain, words), f"{words}, sleeping by seed {seed}: {ended}")
             orders.add(ended.output)
-    counts.expect(len(orders) > 1, 'workers that sleep always came in one order')
+    counts.expect(len(orders) > 1, "workers that sleep always came in one order")
 
 
 def is_same(ended, plain, words):
-    if '--ordered' in words:
+    if "--ordered" in words:
         return ended == plain
     return ended._replace(output=with_events_sorted(ended.output)) == plain._replace(
-        output=with_events_sorted(plain.output))
+        output=with_events_sorted(plain.output)
+    )
 
 
 def share_processor(program, counts):
@@ -60,10 +62,10 @@ def share_processor(program, counts):
     try:
         for entries in (40, 1_000):
             document, answer = repeated(4, entries)
-            commands = ('run --workers 16', 'run --ordered --workers 16')
+            commands = ("run --workers 16", "run --ordered --workers 16")
             for words, turn in itertools.product(commands, range(RUNS_ON_ONE)):
                 ended = program.run(words, document)
-                counts.expect(is_answer(ended, answer, words), f'{words} on one processor, turn {turn}: {ended}')
+                counts.expect(is_answer(ended, answer, words), f"{words} on one processor, turn {turn}: {ended}")
     finally:
         os.sched_setaffinity(0, processors)
 
@@ -84,8 +86,8 @@ def stop(program, words, seed, counts):
                 stops += stop_at_times(run, source)
             written = [decoded(read_whole(file)) for file in (output, errors)]
         ended = Ended(run.returncode if run.returncode != -signal.SIGKILL else NO_END, *written)
-        counts.expect(is_answer(ended, answer, words), f'{words}, stopped at times, turn {turn}: {str(ended)[:500]}')
-    counts.expect(stops > 0, f'{words}: the signals met it only {stops} times')
+        counts.expect(is_answer(ended, answer, words), f"{words}, stopped at times, turn {turn}: {str(ended)[:500]}")
+    counts.expect(stops > 0, f"{words}: the signals met it only {stops} times")
 
 
 def read_whole(file):

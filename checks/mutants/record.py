@@ -1,41 +1,29 @@
-"""The record of the mutants that were refused: the file `tried`, a line for each crate that has some, with a hash of all
-that they were tried on.
+"""The record of the mutants that were refused: the file `tried`, a line for each crate that has some, with a hash of
+all that they were tried on.
 
 That is the crate's own src, specs and proofs, its mutants, and what can be seen of each crate below it: the definitions
 and lemmas, and of the sources all but bodies, since a caller sees the contract of a function alone. Comments and blanks
 count nowhere.
 """
+
 import functools
 import hashlib
-import importlib.machinery
-import importlib.util
 import pathlib
 import re
-import sys
 import threading
 from collections.abc import Iterator
-from types import ModuleType
 
-HERE = pathlib.Path(__file__).resolve().parent
-ROOT = HERE.parents[1]
-RECORD = HERE / "tried"
+from checks import ROOT
+from checks.harness import loaded
+
+FOLDER = ROOT / "tests/mutants"
+RECORD = FOLDER / "tried"
 FUNCTION = re.compile(r"( *)(?:pub(?:\([\w:]+\))? )?(?:const |unsafe )*fn (\w+)")
 KEEPING = threading.Lock()
 COMMENT = {".rt": r"\s*//", ".antt": r"\s*--"}
 
 
-def load(path: pathlib.Path) -> ModuleType:
-    """A script or module of this repository or of the kit, by its file."""
-    loader = importlib.machinery.SourceFileLoader(path.stem.replace("-", "_"), str(path))
-    spec = importlib.util.spec_from_loader(loader.name, loader)
-    assert spec is not None
-    module = importlib.util.module_from_spec(spec)
-    loader.exec_module(module)
-    return module
-
-
-sys.dont_write_bytecode = True
-PROVE = load(ROOT / "bin" / "prove")
+PROVE = loaded(ROOT / "bin" / "prove")
 
 
 def uses() -> dict[str, list[str]]:
@@ -44,7 +32,7 @@ def uses() -> dict[str, list[str]]:
 
 
 def edits_of(crate: str) -> list[pathlib.Path]:
-    return sorted((HERE / crate).glob("*.edit"))
+    return sorted((FOLDER / crate).glob("*.edit"))
 
 
 def crates() -> list[str]:
@@ -80,8 +68,11 @@ def without_bodies(text: str) -> str:
             indent = found[1]
         if indent is None:
             continue
-        if line == indent + "{" or line.endswith(" {") and line.startswith((f"{indent})", f"{indent}fn", f"{indent}pub",
-                                                                             f"{indent}const", f"{indent}unsafe")):
+        if (
+            line == indent + "{"
+            or line.endswith(" {")
+            and line.startswith((f"{indent})", f"{indent}fn", f"{indent}pub", f"{indent}const", f"{indent}unsafe"))
+        ):
             ends, indent = indent + "}", None
         elif line.endswith((";", "}")) and FUNCTION.match(line):
             indent = None

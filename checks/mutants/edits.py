@@ -1,4 +1,5 @@
 """Mutants: edits of a crate's sources, each of which the prover has to refuse; and how they are tried."""
+
 import pathlib
 import re
 import shutil
@@ -6,7 +7,9 @@ import subprocess
 import tempfile
 from collections.abc import Iterable, Iterator
 
-from record import PROVE, ROOT, edits_of, functions, load
+from checks import ROOT
+from checks.harness import loaded
+from checks.mutants.record import PROVE, edits_of, functions
 
 GOAL = re.compile(r"^(?:note: )?(?:\./)?(src/\S+\.rt):(\d+):\d+: .*(?:is not proved|found no proof|no proof of)", re.M)
 ANSWER = re.compile(r"^(?:\./)?proofs/(\S+)/(?:Answers|Invariants)\.antt:\d+:\d+: error", re.M)
@@ -46,7 +49,7 @@ class Crate:
     """A crate in a copy of the repository in which the libraries below it are built."""
 
     def __init__(self, name: str, copy: pathlib.Path) -> None:
-        kit = load(KIT / "bin" / "rtlib.py")
+        kit = loaded(KIT / "bin" / "rtlib.py")
         kit.Crate.cuts_libraries = True
         self.name, self.folder = name, copy / "crates" / name
         self.words = kit.Crate(str(self.folder), str(copy), {}).words(["--jobs", "1"], keeps=False)
@@ -76,8 +79,14 @@ class Crate:
                 texts[file] = path.read_text(encoding="utf-8").replace(old, new)
                 path.write_text(texts[file], encoding="utf-8")
             modules = [word for file in sorted(files) for word in ("--only", file[4:-3].replace("/", "::"))]
-            ran = subprocess.run([KIT / "bin" / "rattle", "check", *self.words, *modules], cwd=room, capture_output=True,
-                                 text=True, errors="replace", check=False)
+            ran = subprocess.run(
+                [KIT / "bin" / "rattle", "check", *self.words, *modules],
+                cwd=room,
+                capture_output=True,
+                text=True,
+                errors="replace",
+                check=False,
+            )
             return ran.stdout + ran.stderr, texts
 
     def refused_together(self, edits: list[pathlib.Path]) -> set[pathlib.Path]:
@@ -87,10 +96,19 @@ class Crate:
         if NO_PROGRAM.search(said):
             return set()
         goals, answers = GOAL.findall(said), ANSWER.findall(said)
-        open_in = {(file, name) for file, text in texts.items() for name, first, end in functions(text)
-                   if any(at == file and first <= int(line) <= end for at, line in goals)}
-        open_in |= {(file, part) for file in texts for path in answers for part in re.split(r"[/+]", path)
-                    if path.startswith(file[4:-3] + "/")}
+        open_in = {
+            (file, name)
+            for file, text in texts.items()
+            for name, first, end in functions(text)
+            if any(at == file and first <= int(line) <= end for at, line in goals)
+        }
+        open_in |= {
+            (file, part)
+            for file in texts
+            for path in answers
+            for part in re.split(r"[/+]", path)
+            if path.startswith(file[4:-3] + "/")
+        }
         return {edit for edit in edits if touched[edit] & open_in}
 
     def is_refused_alone(self, edit: pathlib.Path) -> bool:

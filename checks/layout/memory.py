@@ -110,7 +110,7 @@ def skipped(items, place):
     if item == "impl":
         block = block_after(items, place)
         head = list(words(items[place:block]))
-        if head.count("for") and SOURCES & set(head[:head.index("for")]) and "From" in head:
+        if head.count("for") and SOURCES & set(head[: head.index("for")]) and "From" in head:
             return block + 1
     return place
 
@@ -127,7 +127,7 @@ def asks_for_too_much(items, place):
     """Whether a call that asks for memory is at a place, for more than there can be."""
     if items[place][0] not in GROWTHS:
         return False
-    following = [item for item, _ in items[place + 1:place + 3]]
+    following = [item for item, _ in items[place + 1 : place + 3]]
     group = next((item for item in following if isinstance(item, Group)), None)
     return group is not None and is_too_large(list(words(group.items)))
 
@@ -147,7 +147,7 @@ def made_up(group, allowed=False, pattern=False):
         in_pattern, good = pattern, allowed
         if arm:
             in_pattern = in_pattern or place < arm[1]
-            good = good or not ANSWERS.isdisjoint(words(items[arm[0]:arm[1]]))
+            good = good or not ANSWERS.isdisjoint(words(items[arm[0] : arm[1]]))
         if isinstance(item, Group):
             yield from made_up(item, good, in_pattern or is_let_pattern(items, place))
         elif item in NAMES and not (in_pattern or good or is_type(items, place)):
@@ -159,7 +159,7 @@ def made_up(group, allowed=False, pattern=False):
 
 def is_let_pattern(items, place):
     """Whether a group belongs to the pattern of a `let`, or to `matches!`."""
-    before = [item for item, _ in items[max(0, place - 6):place]]
+    before = [item for item, _ in items[max(0, place - 6) : place]]
     if len(before) > 1 and before[-2:] == ["matches", "!"]:
         return True
     for item in reversed(before):

@@ -1,0 +1,1 @@
+"""Programs to which the system refuses, cuts, interrupts or delays what they ask for."""

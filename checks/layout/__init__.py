@@ -1,0 +1,1 @@
+"""How code has to be laid out, and what neither it nor pages may have."""

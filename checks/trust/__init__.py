@@ -1,0 +1,1 @@
+"""The definitions that promises rest on, and the page that lists them."""
