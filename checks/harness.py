@@ -41,6 +41,13 @@ def built(words: Sequence[str], program: pathlib.Path = ENGINE, builds: str = ""
     return path
 
 
+def current(words: Sequence[str]) -> pathlib.Path:
+    """The same; that of this repository is built first where that is due."""
+    if not words:
+        subprocess.run([ROOT / "bin/argo_judge", "--version"], stdout=subprocess.DEVNULL, check=True)
+    return built(words)
+
+
 class Ended(NamedTuple):
     """How a program ended: its status, or NO_END, and what it wrote to standard output and to standard error."""
 

@@ -13,8 +13,8 @@ failed.
 import tempfile
 
 from checks.faults import devices, lines, memory, schedules
-from checks.faults.program import LeftOut, Program, path_of_program
-from checks.harness import Counts, side_by_side
+from checks.faults.program import LeftOut, Program
+from checks.harness import Counts, current, side_by_side
 
 PARTS = (memory, devices, schedules, lines)
 
@@ -30,7 +30,7 @@ def counted(job):
 
 
 def main(words):
-    path, counts = path_of_program(words), Counts("faults")
+    path, counts = current(words), Counts("faults")
     with tempfile.TemporaryDirectory() as folder:
         program = Program(path, folder)
         for found in side_by_side(counted, [job for part in PARTS for job in part.jobs(program)]):

@@ -14,8 +14,7 @@ import shutil
 import subprocess
 
 from checks import ROOT
-from checks.faults.program import path_of_program
-from checks.harness import Counts, named, side_by_side, started
+from checks.harness import Counts, current, named, side_by_side, started
 
 # The status of a run in which memcheck found an error; the program has none of this number.
 FOUND = 99
@@ -76,7 +75,7 @@ def fault_of(program, case):
 
 
 def main(words):
-    program, counts = path_of_program(words), Counts("memcheck")
+    program, counts = current(words), Counts("memcheck")
     if not has_valgrind():
         print("memcheck: skipped, since valgrind is not there and could not be installed")
         return counts.end("1 skipped, ", may_be_empty=True)

@@ -1,24 +1,15 @@
 """Runs the program while the library refuses, cuts, interrupts or delays what it asks the system for."""
 
-import pathlib
 import subprocess
 from typing import NamedTuple
 
-from checks import ROOT
 from checks.faults.library import Library
-from checks.harness import NO_END, built, started
+from checks.harness import NO_END, started
 
 # A run that takes longer never ends, as where workers wait for each other.
 SECONDS = 60
 # After this many runs that never ended no other one is started.
 MOST_WITHOUT_END = 8
-
-
-def path_of_program(words: list[str]) -> pathlib.Path:
-    """The program that a command line names, or else that of this repository, built first where that is due."""
-    if not words:
-        subprocess.run([ROOT / "bin/argo_judge", "--version"], stdout=subprocess.DEVNULL, check=True)
-    return built(words)
 
 
 class LeftOut(Exception):

@@ -1,0 +1,1 @@
+"""Random code, and images of it: cases of the suite are made here."""

@@ -1,0 +1,459 @@
+"""Random code of good kinds, random changes of it, shapes and values, for make_codes.
+
+Of version 1 there are the operations that images of version 1 have, of version 2 all; what is made of version 1 from
+a seed stays as it is.
+"""
+
+from checks.oracle.kinds import is_list, is_optional, is_record
+from checks.oracle.operations import ENTERS, ENTERS_1, JUMPS, PLAIN, SCALARS, STEPS, STEPS_1, TEXT_TESTS, has_place
+
+WHOLES = (0, 0, 1, 1, 2, 3, -1, -2, 5, 10, 1000, -7, 2**63 - 1, -(2**63), 9_223_372_036_855)
+DECIMALS = (0, 1, -1, 500_000, 950_000, 1_000_000, 2_000_000, -1_500_000, 2**63 - 1, -(2**63), 333_333)
+TEXTS = ("", "a", "b", "retry", "é", "x-y")
+# Texts of which many have, begin or end with another one; the last bytes of é and ũ are the same.
+TEXTS_2 = ("", "", "a", "é", "ab", "aé", "éa", "aab", "retry", "re", "try", "ret", "ũ", "€", "a€", "𐀀", "aé€é")
+NAMES = ("a", "b", "errors", "p99", "é", "")
+
+LIST_3 = ("list", "whole", 3)
+SERIES = ("record", (("Values", ("list", "decimal", 4)), ("ok", "bool")))
+SHAPES = (
+    "bool",
+    "whole",
+    "decimal",
+    "text",
+    ("optional", "bool"),
+    ("optional", "whole"),
+    ("optional", "decimal"),
+    ("optional", "text"),
+    LIST_3,
+    ("list", "decimal", 10),
+    ("list", "bool", 2),
+    ("list", "text", 4),
+    ("list", "whole", 0),
+    ("list", ("optional", "whole"), 3),
+    ("list", ("optional", "text"), 2),
+    ("optional", ("list", "decimal", 5)),
+    ("list", ("list", "whole", 3), 2),
+    ("list", ("list", ("list", "decimal", 2), 2), 3),
+    ("list", "decimal", 10_000),
+    ("list", ("list", "whole", 10_000), 1_000),
+    ("record", ()),
+    SERIES,
+    ("list", SERIES, 3),
+    ("optional", SERIES),
+    ("record", (("errors", ("optional", "whole")), ("retry", "text"))),
+    ("record", (("a", ("optional", "decimal")), ("b", ("list", ("optional", "decimal"), 2)), ("p99", "decimal"))),
+    ("record", (("", "bool"), ("b", ("list", ("record", (("a", "whole"), ("é", ("optional", "text")))), 3)))),
+)
+
+
+# Shapes of version 2, besides those above: of texts.
+TEXT_SHAPES = (
+    "text",
+    ("optional", "text"),
+    ("list", "text", 4),
+    ("list", ("optional", "text"), 3),
+    ("list", ("list", "text", 2), 3),
+    ("optional", ("list", "text", 5)),
+    ("record", (("contains", "text"), ("none", ("optional", "text")))),
+    ("list", ("record", (("endsWith", ("optional", "text")), ("one", ("list", "bool", 3)))), 3),
+)
+
+
+def random_shape(random, levels=3):
+    choice = random.randrange(10 if levels else 4)
+    if choice < 5:
+        return random.choice(SCALARS)
+    if choice < 7:
+        inner = random_shape(random, levels - 1)
+        return inner if is_optional(inner) else ("optional", inner)
+    if choice < 9:
+        most = random.choice((0, 1, 2, 3, 3, 5, 10, 100))
+        return ("list", random_shape(random, levels - 1), most)
+    names = sorted(random.sample(NAMES, random.randrange(1, 4)), key=str.encode)
+    return ("record", tuple((name, random_shape(random, levels - 1)) for name in names))
+
+
+def literals(version):
+    """Values of each scalar kind."""
+    return {"bool": (True, False), "whole": WHOLES, "decimal": DECIMALS, "text": TEXTS if version == 1 else TEXTS_2}
+
+
+def random_value(random, kind, fill, version=1):
+    """A value of the kind; fill is 'empty', 'full' or 'any', for lists and what is optional."""
+    if is_optional(kind):
+        nil = fill == "empty" or (fill == "any" and random.random() < 0.4)
+        return ("nil",) if nil else random_value(random, kind[1], fill, version)
+    if is_list(kind):
+        most = min(kind[2], 4 if fill == "full" else 3)
+        count = {"empty": 0, "full": most}.get(fill, random.randrange(most + 1))
+        return ("list", [random_value(random, kind[1], fill, version) for _ in range(count)])
+    if is_record(kind):
+        return ("record", {name: random_value(random, inner, fill, version) for name, inner in kind[1]})
+    return (kind, random.choice(literals(version)[kind]))
+
+
+class Label:
+    """A place that is known once its code is written."""
+
+    def __init__(self):
+        self.place = None
+
+
+class Writer:
+    """Writes random code that leaves an operand of a wanted kind."""
+
+    def __init__(self, random, shape, version):
+        self.random = random
+        self.shape = shape
+        self.version = version
+        self.ops = []
+        self.items = []
+
+    def put(self, name, *fields):
+        self.ops.append((name,) + fields)
+
+    def here(self, label):
+        label.place = len(self.ops)
+
+    def finished(self):
+        return [
+            op[:1] + tuple(field.place if isinstance(field, Label) else field for field in op[1:]) for op in self.ops
+        ]
+
+    def chance(self, share):
+        return self.random.random() < share
+
+    # What can be reached from the shape and the item by fields and indexes
+
+    def reach(self, wanted):
+        """Writes a way to a part of a kind that is wanted, if one is found in a few attempts."""
+        for _ in range(12):
+            start = len(self.ops)
+            if wanted(self.walk()):
+                return True
+            del self.ops[start:]
+        return False
+
+    def walk(self):
+        kind = self.shape
+        if self.items and self.chance(0.75):
+            kind = self.items[-1]
+            self.put("Item")
+        else:
+            self.put("LoadResult")
+        while self.chance(0.75):
+            if is_optional(kind):
+                self.put("Need")
+                kind = kind[1]
+            elif is_record(kind) and kind[1]:
+                name, kind = self.random.choice(kind[1])
+                self.put("Field", name)
+            elif is_list(kind):
+                self.put("PushWhole", self.random.choice((0, 0, -1, 1)))
+                self.put("Index")
+                kind = kind[1]
+            else:
+                break
+        return kind
+
+    # Operands by kind
+
+    def write(self, kind, depth):
+        """Leaves an operand of just this scalar kind."""
+        {"bool": self.boolean, "whole": self.whole, "decimal": self.decimal, "text": self.text}[kind](depth)
+
+    def leaf(self, kind):
+        if self.chance(0.6) and self.reach(lambda found: found == kind):
+            return
+        self.put("Push" + kind.capitalize(), self.random.choice(literals(self.version)[kind]))
+
+    def choose(self, kind, depth, ways):
+        """A leaf, a choice between branches, a default, or one of the ways."""
+        if depth <= 0 or self.chance(0.12):
+            return self.leaf(kind)
+        common = [
+            lambda: self.branches(lambda: self.write(kind, depth - 2), depth),
+            lambda: self.default(kind, depth - 1),
+            lambda: self.needed(kind, depth - 1),
+        ]
+        return self.random.choice(ways * 2 + common)()
+
+    def branches(self, branch, depth):
+        """Two to four branches that meet after the last."""
+        end = Label()
+        for _ in range(self.random.choice((1, 1, 1, 2, 3))):
+            other = Label()
+            self.boolean(depth - 2)
+            self.put("BranchFalse", other)
+            branch()
+            self.put("Jump", end)
+            self.here(other)
+        branch()
+        self.here(end)
+
+    def default(self, kind, depth):
+        self.optional(kind, depth)
+        self.write(kind, depth - 1)
+        self.put("Default")
+
+    def needed(self, kind, depth):
+        self.optional(kind, depth)
+        self.put("Need")
+
+    def optional(self, kind, depth):
+        """Leaves an operand of the scalar kind or of the optional one."""
+        choice = self.random.randrange(4)
+        if choice == 0 and self.reach(lambda found: found == ("optional", kind)):
+            return
+        if choice == 1:
+            self.write(kind, depth - 1)
+        elif choice == 2 and kind == "decimal":
+            self.optional("whole", depth - 1)
+            self.put("ToDecimal")
+        else:
+            nil = [lambda: self.put("PushNil"), lambda: self.write(kind, depth - 2)]
+            self.random.shuffle(nil)
+            self.branches(lambda: nil.pop()() if nil else self.write(kind, depth - 2), depth)
+
+    def boolean(self, depth):
+        second = [
+            lambda: self.text_test(depth),
+            lambda: self.text_test(depth),
+            lambda: self.text_test(depth),
+            lambda: self.loop("None", depth),
+            lambda: self.loop("One", depth),
+            lambda: self.loop("One", depth),
+        ]
+        self.choose(
+            "bool",
+            depth,
+            (second if self.version == 2 else [])
+            + [
+                lambda: self.negated(depth),
+                lambda: self.comparison(depth),
+                lambda: self.comparison(depth),
+                lambda: self.comparison(depth),
+                lambda: self.equality(depth),
+                lambda: self.membership(depth),
+                lambda: self.nil_test(depth),
+                lambda: self.decided(depth),
+                lambda: self.decided(depth),
+                lambda: self.loop(self.random.choice(("All", "Any")), depth),
+                lambda: self.loop(self.random.choice(("All", "Any")), depth),
+            ],
+        )
+
+    def negated(self, depth):
+        self.boolean(depth - 1)
+        self.put("Not")
+
+    def comparison(self, depth):
+        kinds = [self.random.choice(("whole", "decimal")) for _ in range(2)]
+        for kind in kinds:
+            self.write(kind, depth - 1)
+        fitting = kinds[0][0].upper() if kinds[0] == kinds[1] and self.chance(0.8) else "M"
+        self.put(self.random.choice(("Lt", "Le", "Gt", "Ge")) + fitting)
+
+    def equality(self, depth):
+        family = self.random.choice(("Bool", "Number", "Number", "Text"))
+        for _ in range(2):
+            kind = self.random.choice(("whole", "decimal")) if family == "Number" else family.lower()
+            self.optional(kind, depth - 1)
+        self.put("Eq" + family)
+
+    def text_test(self, depth):
+        for _ in range(2):
+            self.text(depth - 1)
+        self.put(self.random.choice(TEXT_TESTS))
+
+    def membership(self, depth):
+        kind = self.random.choice(SCALARS)
+        self.optional(kind, depth - 1)
+        items = [kind, ("optional", kind)]
+        if not (self.chance(0.5) and self.reach(lambda found: is_list(found) and found[1] in items)):
+            self.literal(kind, depth - 2)
+        self.put("IsIn")
+
+    def literal(self, kind, depth):
+        count = self.random.choice((0, 1, 2, 2, 3, 5))
+        for _ in range(count):
+            self.write(kind, depth - 1)
+        self.put("MakeList", kind, count)
+
+    def nil_test(self, depth):
+        if self.chance(0.5):
+            self.walk()
+        else:
+            self.optional(self.random.choice(SCALARS), depth - 1)
+        self.put("IsNil")
+
+    def decided(self, depth):
+        """A chain of `and` and `or`, of one end or nested."""
+        end = Label()
+        name = self.random.choice(("AndJump", "OrJump"))
+        for _ in range(self.random.choice((1, 1, 2, 3))):
+            self.boolean(depth - 1)
+            self.put(name, end)
+            if self.chance(0.2):
+                name = "OrJump" if name == "AndJump" else "AndJump"
+        self.boolean(depth - 1)
+        self.here(end)
+
+    def number(self, kind, depth):
+        letter = kind[0].upper()
+        sign = self.random.choice(("Add", "Sub", "Mul", "Neg") + (("Rem",) if letter == "W" else ("Div",)))
+        for _ in PLAIN[sign + letter][0]:
+            self.write(kind, depth - 1)
+        self.put(sign + letter)
+
+    def whole(self, depth):
+        self.choose(
+            "whole",
+            depth,
+            [
+                lambda: self.number("whole", depth),
+                lambda: self.length(depth),
+                lambda: self.loop("Count", depth),
+            ],
+        )
+
+    def length(self, depth):
+        self.list(depth - 1)
+        self.put("Len")
+
+    def decimal(self, depth):
+        self.choose(
+            "decimal",
+            depth,
+            [
+                lambda: self.number("decimal", depth),
+                lambda: self.converted(depth),
+                lambda: self.quotient(depth),
+            ],
+        )
+
+    def converted(self, depth):
+        self.whole(depth - 1)
+        self.put("ToDecimal")
+
+    def quotient(self, depth):
+        self.whole(depth - 1)
+        self.whole(depth - 1)
+        self.put("DivW")
+
+    def text(self, depth):
+        self.choose("text", depth, [lambda: self.leaf("text")])
+
+    def list(self, depth):
+        """Leaves a list and answers its item's kind."""
+        choice = self.random.randrange(6)
+        if choice < 4 or len(self.items) >= 4:
+            found = []
+            if self.reach(lambda kind: is_list(kind) and not found.append(kind[1])):
+                return found[-1]
+        kind = self.random.choice(SCALARS)
+        if choice == 4 and depth > 0 and len(self.items) < 4:
+            return self.filtered(depth)
+        if choice == 5 and depth > 0:
+            self.branches(lambda: self.literal(kind, depth - 2), depth)
+        else:
+            self.literal(kind, depth - 1)
+        return kind
+
+    def filtered(self, depth):
+        found = []
+        self.loop("Filter", depth, found)
+        return found[0]
+
+    def loop(self, family, depth, found=None):
+        if len(self.items) >= 4:
+            return self.literal_answer(family, found)
+        item = self.list(depth - 1)
+        if found is not None:
+            found.append(item)
+        enter, step = Label(), Label()
+        self.here(enter)
+        self.put(family + "Enter", step)
+        self.items.append(item)
+        self.boolean(depth - 1)
+        self.items.pop()
+        self.here(step)
+        self.put(family + "Step", enter)
+
+    def literal_answer(self, family, found):
+        """What replaces a loop where there are as many as may be."""
+        if family in ("All", "Any", "None", "One"):
+            return self.put("PushBool", True)
+        if family == "Count":
+            return self.put("PushWhole", 1)
+        found.append("bool")
+        return self.put("MakeList", "bool", 0)
+
+
+def random_code(random, shape, depth, version=1):
+    writer = Writer(random, shape, version)
+    for _ in range(random.choice((0, 0, 0, 0, 1, 2))):
+        writer.write(random.choice(SCALARS), 1)
+    writer.boolean(depth)
+    writer.put("Return")
+    return writer.finished()
+
+
+# Changes
+
+
+def moved(ops, at, by):
+    """The operations with every place that isn't before `at` moved."""
+    return [op[:1] + (op[1] + by,) if has_place(op) and op[1] >= at else op for op in ops]
+
+
+def random_op(random, ops, place, version):
+    """One operation, of any sort."""
+    loops = ENTERS_1 + STEPS_1 if version == 1 else ENTERS + STEPS
+    near = max(0, place + random.choice((-2, -1, 1, 1, 2, 2, 3, 4, 6)))
+    sorts = (
+        lambda: (random.choice(JUMPS), near),
+        lambda: (random.choice(loops), near),
+        lambda: (random.choice(list(PLAIN)),),
+        lambda: (random.choice(("LtM", "GeM", "EqBool", "EqNumber", "EqText", "IsIn", "Default", "Index")),),
+        lambda: (random.choice(("Need", "IsNil", "Len", "ToDecimal", "Item", "LoadResult", "PushNil", "Not")),),
+        lambda: ("PushBool", random.random() < 0.5),
+        lambda: ("PushWhole", random.choice(WHOLES)),
+        lambda: ("PushDecimal", random.choice(DECIMALS)),
+        lambda: ("MakeList", random.choice(SCALARS), random.randrange(3)),
+        lambda: ("Return",),
+        lambda: random.choice(ops),
+    )
+    if version == 2:
+        sorts += (lambda: (random.choice(TEXT_TESTS),), lambda: ("PushText", random.choice(TEXTS_2)))
+    return random.choice(sorts)()
+
+
+def change(random, ops, version):
+    """One operation changed, removed, added or swapped, or one place moved."""
+    ops = list(ops)
+    at = random.randrange(len(ops))
+    placed = [place for place, op in enumerate(ops) if has_place(op)]
+    choice = random.randrange(8)
+    if choice == 0:
+        ops[at] = random_op(random, ops, at, version)
+    elif choice in (1, 2):
+        ops = moved(ops[:at] + ops[at + 1 :], at + 1, -1) if choice == 1 else ops[:at] + ops[at + 1 :]
+    elif choice in (3, 4):
+        if choice == 3:
+            ops = moved(ops, at, 1)
+        ops.insert(at, random_op(random, ops, at, version))
+    elif choice == 5:
+        other = min(len(ops) - 1, at + 1)
+        ops[at], ops[other] = ops[other], ops[at]
+    elif placed:
+        at = random.choice(placed)
+        ops[at] = (ops[at][0], max(0, ops[at][1] + random.choice((-3, -2, -1, 1, 1, 2, 3, 8))))
+    return ops or [("Return",)]
+
+
+def changed(random, ops, version=1):
+    for _ in range(random.choice((1, 1, 2))):
+        ops = change(random, ops, version)
+    return ops

@@ -1,0 +1,1 @@
+"""Random inputs and changes of stored ones, to which programs are held."""
