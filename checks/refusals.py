@@ -84,7 +84,7 @@ OTHERS = {
     ("Lost", "Lost"): (BOARDS, "lost 1: "),
     ("ServeError", "Read"): (DEVICES, "EISDIR"),
     ("ServeError", MEMORY): (REFUSED, "REFUSE_CALL"),
-    ("ServeError", "Refused"): ("examples/check", ".refused"),
+    ("ServeError", "Refused"): ("checks/examples/check.py", ".refused"),
     ("ServeError", "Work"): (REFUSED, "is_without_thread"),
     ("ServeError", "Write"): (DEVICES, "ENOSPC"),
     ("StreamError", "NotJson"): ("examples/commands.jsonl", "Utf8OrJson"),

@@ -12,13 +12,23 @@ import urllib.request
 MINUTES = 5
 RATES = {"a": ["0.95", "0.96", "0.97", "0.98", "0.99"], "b": ["0.9", "0.91", "0.92", "0.93", "0.94"]}
 TEMPLATE = {
-    "apiVersion": "argoproj.io/v1alpha1", "kind": "AnalysisTemplate", "metadata": {"name": "real"},
-    "spec": {"metrics": [{"name": "rate", "count": 1, "successCondition": "len(result) > 0 && result[0] >= 0.94",
-                          "provider": {"prometheus": {"address": "http://127.0.0.1", "query": "rate"}}}]},
+    "apiVersion": "argoproj.io/v1alpha1",
+    "kind": "AnalysisTemplate",
+    "metadata": {"name": "real"},
+    "spec": {
+        "metrics": [
+            {
+                "name": "rate",
+                "count": 1,
+                "successCondition": "len(result) > 0 && result[0] >= 0.94",
+                "provider": {"prometheus": {"address": "http://127.0.0.1", "query": "rate"}},
+            }
+        ]
+    },
 }
 LIST, SCALAR, TEXT = {"list": "decimal", "max": 10}, "decimal", "text"
-# Of each query its shape, what is measured (an error where it is None), and the first event's verdict by the condition of
-# its shape.
+# Of each query its shape, what is measured (an error where it is None), and the first event's verdict by the condition
+# of its shape.
 QUERIES = [
     ("an instant vector", "sort(rate)", LIST, ["0.94", "0.99"], "Successful"),
     ("one series", 'rate{pod="b"} - 0.04', LIST, ["0.8999999999999999"], "Failed"),
@@ -35,7 +45,9 @@ CONDITIONS = {SCALAR: "result >= 0.94", TEXT: 'result == "ready"'}
 def open_metrics(now):
     lines = ["# TYPE rate gauge"]
     for pod, values in RATES.items():
-        lines += [f'rate{{pod="{pod}"}} {value} {now - 60 * (MINUTES - 1 - minute)}' for minute, value in enumerate(values)]
+        lines += [
+            f'rate{{pod="{pod}"}} {value} {now - 60 * (MINUTES - 1 - minute)}' for minute, value in enumerate(values)
+        ]
     return "\n".join([*lines, "# EOF", ""])
 
 
@@ -62,10 +74,18 @@ def server_of(folder, now):
     """The address of a Prometheus that has the rates."""
     (folder / "rates").write_text(open_metrics(now), encoding="utf-8")
     (folder / "config.yml").write_text("{}\n", encoding="utf-8")
-    subprocess.run(["promtool", "tsdb", "create-blocks-from", "openmetrics", folder / "rates", folder / "data"], check=True,
-                   stdout=subprocess.DEVNULL, stderr=subprocess.DEVNULL)
+    subprocess.run(
+        ["promtool", "tsdb", "create-blocks-from", "openmetrics", folder / "rates", folder / "data"],
+        check=True,
+        stdout=subprocess.DEVNULL,
+        stderr=subprocess.DEVNULL,
+    )
     port = free_port()
-    flags = [f"--config.file={folder}/config.yml", f"--storage.tsdb.path={folder}/data", f"--web.listen-address=127.0.0.1:{port}"]
+    flags = [
+        f"--config.file={folder}/config.yml",
+        f"--storage.tsdb.path={folder}/data",
+        f"--web.listen-address=127.0.0.1:{port}",
+    ]
     with open(folder / "log", "wb") as log:
         server = subprocess.Popen(["prometheus", *flags], stdout=log, stderr=log)
     try:
@@ -79,10 +99,15 @@ def server_of(folder, now):
 def piped(root, folder, address, path, parameters, flags=()):
     """What curl's answer becomes by the recipe: the document's measurements, or what the recipe says in refusing it."""
     words = " ".join(f'--data-urlencode "{name}=${name}"' for name in parameters)
-    recipe = f"'{root}/recipes/from-prometheus' --template '{folder}/template.json' --shapes '{folder}/shapes.json' {' '.join(flags)}"
+    given = f"--template '{folder}/template.json' --shapes '{folder}/shapes.json' {' '.join(flags)}"
+    recipe = f"'{root}/recipes/from-prometheus' {given}"
     command = f'curl -sG "$PROMETHEUS/api/v1/{path}" {words} | {recipe}'
-    return subprocess.run(["bash", "-o", "pipefail", "-c", command], env={**os.environ, "PROMETHEUS": address, **parameters},
-                          capture_output=True, text=True)
+    return subprocess.run(
+        ["bash", "-o", "pipefail", "-c", command],
+        env={**os.environ, "PROMETHEUS": address, **parameters},
+        capture_output=True,
+        text=True,
+    )
 
 
 def prepare(folder, shape):
@@ -101,7 +126,9 @@ def fault_of(engine, ended, values, verdict):
     found = [entry.get("value") for entry in entries]
     if found != values:
         return f"expected {values}, found {entries}"
-    report = subprocess.run([engine, "run", "--plain", "--output", "json"], input=ended.stdout, capture_output=True, text=True)
+    report = subprocess.run(
+        [engine, "run", "--plain", "--output", "json"], input=ended.stdout, capture_output=True, text=True
+    )
     first = json.loads(report.stdout)["runs"][0]["events"][0]["verdict"]
     return None if first == verdict else f"expected the verdict {verdict}, found {first}"
 

@@ -1,4 +1,5 @@
-"""A real kubectl, whose plugin gets from a small API server what the tests of the recipes get from their own kubectl."""
+"""A real kubectl, whose plugin gets from a small API server what the tests of the recipes get from their own
+kubectl."""
 import contextlib
 import http.server
 import json
@@ -31,8 +32,17 @@ REFUSED = [["run", "guestbook-8"], ["check", "guestbook-8"], ["backtest", "--tem
 
 
 def resource_list():
-    resources = [{"name": plural, "singularName": kind.lower(), "namespaced": is_namespaced, "kind": kind, "shortNames": [short],
-                  "verbs": ["get", "list"]} for kind, plural, short, is_namespaced in RESOURCES]
+    resources = [
+        {
+            "name": plural,
+            "singularName": kind.lower(),
+            "namespaced": is_namespaced,
+            "kind": kind,
+            "shortNames": [short],
+            "verbs": ["get", "list"],
+        }
+        for kind, plural, short, is_namespaced in RESOURCES
+    ]
     return {"kind": "APIResourceList", "apiVersion": "v1", "groupVersion": VERSION, "resources": resources}
 
 
@@ -64,7 +74,9 @@ def has_label(value, selector):
 
 class Api(http.server.BaseHTTPRequestHandler):
     """Answers as an API server: what kinds there are, single objects, and lists of them by label."""
-    documents, objects = discovery(), {}
+
+    documents = discovery()
+    objects: dict = {}
 
     def answer(self, status, value):
         body = json.dumps(value).encode()
@@ -83,12 +95,23 @@ class Api(http.server.BaseHTTPRequestHandler):
             self.answer(200, value)
         elif kinds:
             selector = given.get("labelSelector", "").replace("%3D", "=")
-            items = [value for at, value in self.objects.items() if at.startswith(f"{path}/") and has_label(value, selector)]
+            items = [
+                value for at, value in self.objects.items() if at.startswith(f"{path}/") and has_label(value, selector)
+            ]
             self.answer(200, {"apiVersion": VERSION, "kind": f"{kinds[0]}List", "metadata": {}, "items": items})
         else:
             resource, name = path.split("/")[-2:]
-            self.answer(404, {"kind": "Status", "apiVersion": "v1", "status": "Failure", "reason": "NotFound", "code": 404,
-                              "message": f'{resource}.{GROUP} "{name}" not found'})
+            self.answer(
+                404,
+                {
+                    "kind": "Status",
+                    "apiVersion": "v1",
+                    "status": "Failure",
+                    "reason": "NotFound",
+                    "code": 404,
+                    "message": f'{resource}.{GROUP} "{name}" not found',
+                },
+            )
 
     def log_message(self, *_):
         """Says nothing of requests."""
@@ -100,11 +123,15 @@ def kubeconfig_of(folder, objects):
     Api.objects = objects
     server = http.server.ThreadingHTTPServer(("127.0.0.1", 0), Api)
     threading.Thread(target=server.serve_forever, daemon=True).start()
-    named = {"clusters": [{"name": "real", "cluster": {"server": f"http://127.0.0.1:{server.server_port}"}}],
-             "contexts": [{"name": "real", "context": {"cluster": "real", "user": "nobody"}}],
-             "users": [{"name": "nobody", "user": {}}]}
+    named = {
+        "clusters": [{"name": "real", "cluster": {"server": f"http://127.0.0.1:{server.server_port}"}}],
+        "contexts": [{"name": "real", "context": {"cluster": "real", "user": "nobody"}}],
+        "users": [{"name": "nobody", "user": {}}],
+    }
     path = folder / "kubeconfig"
-    path.write_text(json.dumps({"apiVersion": "v1", "kind": "Config", "current-context": "real", **named}), encoding="utf-8")
+    path.write_text(
+        json.dumps({"apiVersion": "v1", "kind": "Config", "current-context": "real", **named}), encoding="utf-8"
+    )
     try:
         yield path
     finally:
@@ -113,7 +140,13 @@ def kubeconfig_of(folder, objects):
 
 
 def ended(root, words, path, kubeconfig, home):
-    environment = {**os.environ, "PATH": path, "KUBECONFIG": str(kubeconfig), "HOME": str(home), "PYTHONDONTWRITEBYTECODE": "1"}
+    environment = {
+        **os.environ,
+        "PATH": path,
+        "KUBECONFIG": str(kubeconfig),
+        "HOME": str(home),
+        "PYTHONDONTWRITEBYTECODE": "1",
+    }
     found = subprocess.run(["kubectl", "argo-judge", *words], cwd=root, env=environment, capture_output=True, text=True)
     return found.returncode, found.stdout, found.stderr
 
@@ -123,8 +156,12 @@ def fault_without_pyyaml(root, engine, folder):
     (folder / "yaml.py").write_text("raise ImportError\n", encoding="utf-8")
     environment = {**os.environ, "PYTHONPATH": str(folder), "KUBECONFIG": os.devnull, "PYTHONDONTWRITEBYTECODE": "1"}
     templates = root / "examples/templates"
-    found = subprocess.run([root / "recipes/lint", "--engine", engine, "--output", "json", templates], env=environment,
-                           capture_output=True, text=True)
+    found = subprocess.run(
+        [root / "recipes/lint", "--engine", engine, "--output", "json", templates],
+        env=environment,
+        capture_output=True,
+        text=True,
+    )
     if found.returncode != 0:
         return f"status {found.returncode}: {found.stderr.strip()}"
     wanted, linted = len(list(templates.glob("*.yaml"))), json.loads(found.stdout)["templates"]
@@ -132,7 +169,8 @@ def fault_without_pyyaml(root, engine, folder):
 
 
 def checks(root, engine, folder):
-    """Each command by its words, with what is wrong, if something is: a real kubectl has to give what the tests' own does."""
+    """Each command by its words, with what is wrong, if something is: a real kubectl has to give what the tests' own
+    does."""
     yield "YAML without PyYAML", fault_without_pyyaml(root, engine, folder)
     stored = root / "recipes/tests/objects/kind/default"
     real = f"{root}/recipes:{os.environ['PATH']}"
@@ -146,4 +184,6 @@ def checks(root, engine, folder):
         for words in REFUSED:
             status, out, line = ended(root, [*words, "--engine", str(engine)], real, kubeconfig, folder)
             is_refused = status == 2 and not out and line.count("\n") == 1 and "not found" in line
-            yield " ".join(words), None if is_refused else f"expected one line that says `not found`, found {status} {out} {line}"
+            yield " ".join(
+                words
+            ), None if is_refused else f"expected one line that says `not found`, found {status} {out} {line}"

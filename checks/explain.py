@@ -1,0 +1,395 @@
+"""Holds what `explain` writes to worked examples, to the plain run's report, and to its JSON form.
+
+    tests/explain/check [PROGRAM]    with that program in the place of the one last built
+
+- Each document of examples/explain is explained as its NAME.stdout has it, worked out by hand, with the warnings of
+  NAME.warnings, where it is there.
+- Each line of examples/conditions that has an answer is a measurement of a document: the answer that is explained is
+  the line's. Each boolean part that needs no item, evaluated by itself as it is shown, has the value that it is said to
+  have.
+- For each document of examples/bundles, examples/providers and examples/explain: the object fits
+  docs/report.schema.json, if Python has jsonschema; its runs, metrics and events are those of `run --plain`, and so are
+  the warnings; its facts, printed as lines by argo_judge.engine.explanations, are byte for byte what is written without
+  --output, but for how a condition is written; what runs and metrics wait for, which metrics a close settled, why
+  events closed runs or came late, where values don't fit, which have no condition, and measured values as JSON has them
+  are worked out again; each event, run and metric is explained by itself as it is among all.
+- A text of 100 kB is cut, and odd names are those that Python's json writes, in lines as well.
+
+The last line counts what came so.
+"""
+
+import decimal
+import json
+
+from argo_judge.engine.explanations import lines_of_run, measured
+from checks.data import EXAMPLES, canonical, files_of_conditions, numbered_lines
+from checks.harness import Counts, built, named, side_by_side, started
+from checks.schema import faults_by, validator
+
+EXPLAINED = sorted((EXAMPLES / "explain").glob("*.json"))
+DOCUMENTS = [
+    *EXPLAINED,
+    *sorted((EXAMPLES / "bundles").glob("*.json")),
+    *sorted((EXAMPLES / "providers").glob("*.json")),
+]
+SHOWN_OF_EACH = 3
+ODD_NAME = 'quote " and \\ backslash, line\nfeed, \x1b[31mred\x1b[0m, \U0001f600'
+
+
+def ended(program, words, document):
+    text = document if isinstance(document, bytes) else json.dumps(document).encode()
+    return started([program, *words], text)
+
+
+def template_of(metrics):
+    return {
+        "apiVersion": "argoproj.io/v1alpha1",
+        "kind": "AnalysisTemplate",
+        "metadata": {"name": "made"},
+        "spec": {"metrics": metrics},
+    }
+
+
+def document_of(condition, shape, value, name="made"):
+    """A document with one run, one metric and one measurement."""
+    return {
+        "manifest": template_of([{"name": name, "successCondition": condition}]),
+        "shapes": {name: shape},
+        "runs": [{"name": name}],
+        "measurements": [{"run": name, "metric": name, "value": value}],
+    }
+
+
+# ---- runs, worked out of counts and of the events in their order
+
+OPEN = ("Pending", "Running")
+
+
+def progress(limits, counts):
+    return {"count": limits["count"], "measured": measured(counts)}
+
+
+# The counts with their limits, and the phase of a metric that exceeds one.
+LIMITED = (
+    ("failed", "failureLimit", "Failed"),
+    ("inconclusive", "inconclusiveLimit", "Inconclusive"),
+    ("consecutiveError", "consecutiveErrorLimit", "Error"),
+)
+
+
+def decided(limits, counts):
+    """The phase with which a metric of these counts is complete, or None."""
+    exceeded = [phase for name, limit, phase in LIMITED if counts[name] > limits[limit]]
+    return (exceeded + ["Successful"] * (limits["count"] is not None and measured(counts) >= limits["count"]) + [None])[
+        0
+    ]
+
+
+def metric_faults(metric, closer):
+    """What is wrong with what a metric waits for and what settled it; `closer`: the event that closed the run, or
+    None."""
+    limits, counts, phase = (metric["metric"][name] for name in ("limits", "counts", "phase"))
+    own = progress(limits, counts)
+    if metric["waitsFor"] != (own if phase in OPEN else None):
+        yield f"metric {metric['metric']['name']} waits for something else"
+    settled = closer is not None and decided(limits, counts) is None
+    if metric["settled"] != ({**own, "event": closer} if settled else None):
+        yield f"metric {metric['metric']['name']} was settled otherwise"
+
+
+def because(kind, **numbers):
+    """A reason of this kind, with the numbers that it has."""
+    return {"count": None, "event": None, "kind": kind, "limit": None, "phase": None, "value": None, **numbers}
+
+
+def late_reason(late, earlier):
+    """What had made an event late, by the events of its run before it."""
+    closers = [one["event"]["number"] for one in earlier if one["event"]["effect"] == "closed"]
+    if closers:
+        return because("runClosed", event=closers[0])
+    ends = [
+        (decided(one["counts"]["limits"], one["counts"]["after"]), one["event"]["number"])
+        for one in earlier
+        if one["counts"] is not None and one["event"]["metric"] == late["event"]["metric"]
+    ]
+    return next(because("metricComplete", phase=phase, event=number) for phase, number in ends if phase)
+
+
+def closing_reason(one):
+    """Why an event closed its run, by the counts after it."""
+    if one["counts"] is None:
+        return because("stop")
+    counts, limits, phase = one["counts"]["after"], one["counts"]["limits"], one["event"]["phase"]
+    exceeded = [
+        because("limit", phase=own, limit=limit, value=limits[limit], count=counts[name])
+        for name, limit, own in LIMITED
+        if own == phase and counts[name] > limits[limit]
+    ]
+    return (exceeded + [because("complete")])[0]
+
+
+def reason_of(one, earlier):
+    """The reason that an event has, or None."""
+    if one["event"]["effect"] == "late":
+        return late_reason(one, earlier)
+    if one["event"]["effect"] == "closed":
+        return closing_reason(one)
+    phase = one["counts"] and decided(one["counts"]["limits"], one["counts"]["after"])
+    is_dry = one["dry"] and phase in ("Failed", "Inconclusive", "Error")
+    return because("dry", phase=phase) if is_dry else None
+
+
+def run_faults(run):
+    """What is wrong with what a run waits for, with its metrics, with the reasons of its events, and with values
+    without a condition."""
+    events, metrics = run["events"], [one["metric"] for one in run["metrics"]]
+    dry = {one["name"] for one in metrics if one["dryRun"]}
+    closer = next((one["event"]["number"] for one in events if one["event"]["effect"] == "closed"), None)
+    waits = [
+        {**progress(one["limits"], one["counts"]), "metric": one["name"]} for one in metrics if one["phase"] in OPEN
+    ]
+    if run["waitsFor"] != (waits if closer is None else None):
+        yield f"run {run['name']} waits for something else"
+    for one in run["metrics"]:
+        yield from metric_faults(one, closer)
+    for place, one in enumerate(events):
+        if one["reason"] != reason_of({**one, "dry": one["event"]["metric"] in dry}, events[:place]):
+            yield f"event {one['event']['number']} has another reason"
+        if one["noCondition"] != (one["shown"] is not None and not one["conditions"]):
+            yield f"event {one['event']['number']} has a condition, or none"
+
+
+# ---- documents
+
+
+def at_pointer(document, pointer):
+    """What a JSON Pointer leads to, or None where the last member is missing."""
+    found = document
+    for token in pointer.split("/")[1:]:
+        name = token.replace("~1", "/").replace("~0", "~")
+        found = found[int(name)] if isinstance(found, list) else found.get(name) if isinstance(found, dict) else None
+    return found
+
+
+def misfit_faults(document, whole):
+    """What is wrong with where values don't fit: the pointer has the path's steps, and leads to what was found."""
+    for one in (one for run in whole["runs"] for one in run["events"] if one["misfit"] is not None):
+        misfit, number = one["misfit"], one["event"]["number"]
+        steps = [str(step).replace("~", "~0").replace("/", "~1") for step in misfit["path"]]
+        if (
+            misfit["pointer"] != "/".join([f"/measurements/{number}/value", *steps])
+            or misfit["fault"] != one["event"]["fault"]
+        ):
+            yield f"event {number} doesn't fit elsewhere, or otherwise"
+        found = at_pointer(document, misfit["pointer"])
+        if (
+            (found is None and misfit["found"] not in ("nothing", "null"))
+            or isinstance(found, str)
+            and not misfit["found"].startswith('"')
+        ):
+            yield f"event {number} has no such value"
+
+
+def decimal_text(value):
+    """A decimal in its digits: cut after its millionths, with one digit after its point at least."""
+    with decimal.localcontext() as context:
+        context.prec = 400
+        millionths = int(decimal.Decimal(value) * 10**6)
+    whole, fraction = divmod(abs(millionths), 10**6)
+    return f"{'-' if millionths < 0 else ''}{whole}.{f'{fraction:06}'.rstrip('0') or '0'}"
+
+
+def form(shape, value):
+    """A measured value as JSON has it exactly, with the room that it takes, and how many levels it has."""
+    if isinstance(shape, dict) and "optional" in shape:
+        return (None, 1, 0) if value is None else form(shape["optional"], value)
+    if isinstance(shape, dict) and "list" in shape:
+        items = [form(shape["list"], item) for item in value]
+        return (
+            [item[0] for item in items],
+            sum(1 + item[1] for item in items),
+            1 + max((item[2] for item in items), default=0),
+        )
+    if isinstance(shape, dict):
+        fields = {name: form(inner, value.get(name)) for name, inner in shape["record"].items()}
+        return (
+            {name: field[0] for name, field in fields.items()},
+            sum(1 + len(name.encode()) + field[1] for name, field in fields.items()),
+            1 + max((field[2] for field in fields.values()), default=0),
+        )
+    if shape == "decimal":
+        return decimal_text(value), 1, 0
+    if shape == "whole":
+        return value if abs(value) <= 2**53 else str(value), 1, 0
+    return value, len(value.encode()) if shape == "text" else 1, 0
+
+
+def value_faults(document, whole):
+    """What is wrong with measured values as JSON has them."""
+    for one in (one for run in whole["runs"] for one in run["events"] if one["shown"] is not None):
+        number, metric = one["event"]["number"], one["event"]["metric"]
+        found, room, levels = form(document["shapes"][metric], document["measurements"][number]["value"])
+        if one["value"] != (found if room <= 256 and levels <= 8 else None):
+            yield f"event {number} has another value"
+
+
+def parts_of(program, document, whole):
+    """What is wrong with the events that are explained by themselves."""
+    for run in whole["runs"]:
+        for one in run["events"]:
+            alone = json.loads(
+                ended(program, ["explain", "--output", "json", "--event", str(one["event"]["number"])], document)[1]
+            )
+            if alone["runs"] != [{**run, "events": [one]}]:
+                yield f"event {one['event']['number']} by itself is explained otherwise"
+        alone = json.loads(ended(program, ["explain", f"--run={run['name']}", "--output=json"], document)[1])
+        if alone["runs"] != [run]:
+            yield f"run {run['name']} by itself is explained otherwise"
+    for name in {metric["metric"]["name"] for run in whole["runs"] for metric in run["metrics"]}:
+        alone = json.loads(ended(program, ["explain", "--metric", name, "--output", "json"], document)[1])
+        own = [
+            {**run, "events": [one for one in run["events"] if one["event"]["metric"] in (name, None)]}
+            for run in whole["runs"]
+            if name in [one["event"]["metric"] for one in run["events"]]
+        ]
+        if alone["runs"] != own:
+            yield f"metric {name} by itself is explained otherwise"
+
+
+def faults(program, document, schema):
+    """What is wrong with what is explained of a document."""
+    status, lines, fault = ended(program, ["explain"], document)
+    report = ended(program, ["run", "--plain"], document)
+    if report[0] not in (0, 1):
+        if (status, lines, fault) != report:
+            yield f"expected the refusal of run, got {status} {fault}"
+        return
+    object_status, written, object_fault = ended(program, ["explain", "--output", "json"], document)
+    object_report = ended(program, ["run", "--plain", "--output", "json"], document)
+    if (status, fault, object_status, object_fault) != (0, report[2], 0, object_report[2]):
+        yield f"status {status} and {object_status}, warnings other than those of run: {fault}{object_fault}"
+        return
+    whole = json.loads(written)
+    if written != canonical(whole):
+        yield "expected members in the order of their names, and no blanks"
+    yield from faults_by(schema, whole)
+    runs = json.loads(object_report[1])["runs"]
+    facts = [
+        {
+            "name": run["name"],
+            "phase": run["phase"],
+            "metrics": [one["metric"] for one in run["metrics"]],
+            "events": [one["event"] for one in run["events"]],
+        }
+        for run in whole["runs"]
+    ]
+    if facts != runs:
+        yield "the runs are others than those of run --plain"
+    for run in whole["runs"]:
+        yield from run_faults(run)
+    known = [line for run in whole["runs"] for line in lines_of_run(run, head_of=lambda condition: None)]
+    given = lines.splitlines()
+    if len(known) != len(given) or any(line not in (own, None) for line, own in zip(known, given)):
+        yield "the lines are others than those of the object"
+    yield from misfit_faults(json.loads(document), whole)
+    yield from value_faults(json.loads(document), whole)
+    yield from parts_of(program, document, whole)
+
+
+def answer_word(answer):
+    """An answer as the worked conditions have it."""
+    return str(answer).lower() if isinstance(answer, bool) else f"fault {answer}"
+
+
+def part_faults(program, case, conditions):
+    """What is wrong with boolean parts that need no item: each is a condition by itself, and has the answer that its
+    line says."""
+    for part in (part for condition in conditions for part in condition["parts"]):
+        is_cut = '"..' in part["part"] or "\\u" in part["part"]
+        if part["items"] or is_cut or not isinstance(part["value"], bool):
+            continue
+        written = ended(program, ["eval", "--output", "json"], {**case, "condition": part["part"]})[1]
+        if json.loads(written or '{"answer": null}')["answer"] != part["value"]:
+            yield f"{part['part']} isn't {part['value']} by itself"
+
+
+def worked_cases():
+    """The worked conditions that have an answer, each with how it is called."""
+    for path in files_of_conditions():
+        for number, line in numbered_lines(path):
+            case = json.loads(line)
+            if "answer" in case:
+                yield f"{named(path)}, line {number}", case
+
+
+def worked_faults(program, case):
+    """What is wrong with the explanation of a worked condition."""
+    document = document_of(case["condition"], case["shape"], case["value"])
+    status, written, fault = ended(program, ["explain", "--output", "json"], document)
+    conditions = [
+        condition
+        for run in json.loads(written or '{"runs":[]}')["runs"]
+        for one in run["events"]
+        for condition in one["conditions"]
+    ]
+    answers = [answer_word(condition["answer"]) for condition in conditions]
+    if (status, answers, fault) != (0, [case["answer"]], ""):
+        yield f"status {status}, {answers}: {fault}"
+    yield from part_faults(program, {name: case[name] for name in ("shape", "value")}, conditions)
+
+
+def long_text(program):
+    """A text of 100 kB: its first 64 characters, and how many are left out."""
+    expected = f'  value: "{"x" * 64}".. and 99936 more characters'
+    lines = ended(program, ["explain"], document_of('result != ""', "text", "x" * 100_000))[1].splitlines()
+    return [] if expected in lines and max(map(len, lines)) < 300 else [f"expected {expected}"]
+
+
+def long_condition(program):
+    """A condition of 4,096 bytes, which is as long as one may be: its JSON has the whole text."""
+    begin = 'result != "'
+    condition = begin + "x" * (4096 - len(begin) - 1) + '"'
+    status, written, fault = ended(program, ["explain", "--output", "json"], document_of(condition, "text", "y"))
+    if status != 0 or len(condition) != 4096:
+        return [f"status {status} of {len(condition)} bytes: {fault}"]
+    explained = [one for run in json.loads(written)["runs"] for event in run["events"] for one in event["conditions"]]
+    return [] if [(one["text"], one["answer"]) for one in explained] == [(condition, True)] else [f"got {explained}"]
+
+
+def odd_name(program):
+    lines = ended(program, ["explain"], document_of("result > 0", "whole", 1, ODD_NAME))[1].splitlines()
+    shown = json.dumps(ODD_NAME, ensure_ascii=False)
+    if not lines[0].startswith(f"run {shown} ") or "\x1b" in "".join(lines):
+        return [f"expected the line of run {shown}"]
+    written = ended(program, ["explain", "--output", "json"], document_of("result > 0", "whole", 1, ODD_NAME))[1]
+    return (
+        []
+        if json.dumps(ODD_NAME, ensure_ascii=False) in written and written.count("\n") == 1
+        else ["expected the name in one line"]
+    )
+
+
+def worked_document(program, path):
+    warnings = path.with_suffix(".warnings")
+    expected = (
+        0,
+        path.with_suffix(".stdout").read_text(encoding="utf-8"),
+        warnings.read_text(encoding="utf-8") if warnings.is_file() else "",
+    )
+    got = ended(program, ["explain"], path.read_bytes())
+    return [] if got == expected else [f"expected {expected}\ngot {got}"]
+
+
+def main(words):
+    program, schema, counts = built(words), validator("explain"), Counts("explain")
+    tried = [(named(path), lambda path=path: worked_document(program, path)) for path in EXPLAINED]
+    tried += [(named(path), lambda path=path: faults(program, path.read_bytes(), schema)) for path in DOCUMENTS]
+    tried += [(name, lambda case=case: worked_faults(program, case)) for name, case in worked_cases()]
+    tried += [
+        ("a long text", lambda: long_text(program)),
+        ("a long condition", lambda: long_condition(program)),
+        ("an odd name", lambda: odd_name(program)),
+    ]
+    for (name, _), found in zip(tried, side_by_side(lambda case: list(case[1]()), tried)):
+        counts.case(name, found, SHOWN_OF_EACH)
+    return counts.end()

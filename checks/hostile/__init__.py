@@ -1,0 +1,1 @@
+"""Small documents on which the program may take little memory."""

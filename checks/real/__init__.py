@@ -1,0 +1,1 @@
+"""The recipes with a real Prometheus and a real kubectl."""
