@@ -15,6 +15,7 @@ import json
 from argo_judge.engine.reports import text_of
 from checks.data import EXAMPLES, canonical
 from checks.harness import Counts, built, named, side_by_side, started
+from checks.made import document_of, event_object, measured, metric_object, template_of
 from checks.schema import faults_by, validator
 
 DOCUMENTS = [*sorted((EXAMPLES / "bundles").glob("*.json")), *sorted((EXAMPLES / "providers").glob("*.json"))]
@@ -85,63 +86,24 @@ ODD = [
 def odd_document():
     """A run and a metric of each odd name, and an event of each."""
     metrics = [{"name": name, "interval": "1m", "count": 2, "successCondition": "result > 0"} for name in ODD]
-    template = {
-        "apiVersion": "argoproj.io/v1alpha1",
-        "kind": "AnalysisTemplate",
-        "metadata": {"name": "odd"},
-        "spec": {"metrics": metrics, "dryRun": [{"metricName": ODD[0]}]},
-    }
-    events = [{"run": name, "metric": name, "value": 1} for name in ODD] + [{"run": ODD[0], "stop": True}]
-    return {
-        "manifest": template,
-        "shapes": {name: "whole" for name in ODD},
-        "runs": [{"name": name} for name in ODD],
-        "measurements": events,
-    }
+    template = template_of({"metrics": metrics, "dryRun": [{"metricName": ODD[0]}]}, "odd")
+    events = [measured(name, name, 1) for name in ODD] + [{"run": ODD[0], "stop": True}]
+    return document_of(template, dict.fromkeys(ODD, "whole"), ODD, events)
 
 
 def odd_report():
     """Its report, worked out by hand: each run has one measurement, Successful, and the first is stopped at the end."""
     runs = []
     for index, name in enumerate(ODD):
-        phase = "Running" if index else "Successful"
+        own = {other: "Running" if other == name else "Pending" for other in ODD}
+        phases = own if index else dict.fromkeys(ODD, "Successful")
         metrics = [
-            {
-                "name": own,
-                "phase": "Successful" if not index else "Running" if own == name else "Pending",
-                "dryRun": own == ODD[0],
-                "counts": {
-                    "successful": int(own == name),
-                    "failed": 0,
-                    "inconclusive": 0,
-                    "error": 0,
-                    "consecutiveError": 0,
-                },
-                "limits": {"failureLimit": 0, "inconclusiveLimit": 0, "consecutiveErrorLimit": 4, "count": 2},
-            }
-            for own in ODD
+            metric_object(other, phases[other], 2, dry=other == ODD[0], successful=int(other == name)) for other in ODD
         ]
-        event = {
-            "number": index,
-            "metric": name,
-            "stop": False,
-            "verdict": "Successful",
-            "cause": None,
-            "fault": None,
-            "effect": "applied",
-            "phase": None,
-        }
-        stop = {
-            "number": len(ODD),
-            "metric": None,
-            "stop": True,
-            "verdict": None,
-            "cause": None,
-            "fault": None,
-            "effect": "closed",
-            "phase": "Successful",
-        }
-        runs.append({"name": name, "phase": phase, "metrics": metrics, "events": [event] if index else [event, stop]})
+        events = [event_object(index, name, "Successful")]
+        if not index:
+            events.append(event_object(len(ODD), None, None, effect="closed", phase="Successful"))
+        runs.append({"name": name, "phase": phases[name], "metrics": metrics, "events": events})
     return {"runs": runs, "version": 1}
 
 
@@ -221,7 +183,7 @@ def warned_faults(program):
     document = odd_document()
     for metric in document["manifest"]["spec"]["metrics"]:
         del metric["successCondition"]
-    events = [{"run": name, "metric": name, "value": "x" if number % 2 else 0.5} for number, name in enumerate(ODD)]
+    events = [measured(name, name, "x" if number % 2 else 0.5) for number, name in enumerate(ODD)]
     document["measurements"][len(ODD) :] = events
     text, expected = json.dumps(document).encode(), canonical(odd_warnings())
     commands = [["run", "--plain"], ["run", "--ordered"], ["run", "--workers", "1"], ["check"], ["explain"]]
@@ -238,41 +200,12 @@ LONG = 1_000
 
 def long_faults(program):
     """A report of over 64 KiB: one metric that is measured often, and each time Successful."""
-    template = {
-        "apiVersion": "argoproj.io/v1alpha1",
-        "kind": "AnalysisTemplate",
-        "metadata": {"name": "long"},
-        "spec": {"metrics": [{"name": "m", "interval": "1m", "successCondition": "result > 0"}]},
-    }
-    document = {
-        "manifest": template,
-        "shapes": {"m": "whole"},
-        "runs": [{"name": "r"}],
-        "measurements": [{"run": "r", "metric": "m", "value": 1}] * LONG,
-    }
-    metric = {
-        "name": "m",
-        "phase": "Running",
-        "dryRun": False,
-        "counts": {"successful": LONG, "failed": 0, "inconclusive": 0, "error": 0, "consecutiveError": 0},
-        "limits": {"failureLimit": 0, "inconclusiveLimit": 0, "consecutiveErrorLimit": 4, "count": None},
-    }
-    events = [
-        {
-            "number": number,
-            "metric": "m",
-            "stop": False,
-            "verdict": "Successful",
-            "cause": None,
-            "fault": None,
-            "effect": "applied",
-            "phase": None,
-        }
-        for number in range(LONG)
-    ]
-    report = canonical(
-        {"runs": [{"name": "r", "phase": "Running", "metrics": [metric], "events": events}], "version": 1}
-    )
+    template = template_of({"metrics": [{"name": "m", "interval": "1m", "successCondition": "result > 0"}]}, "long")
+    document = document_of(template, {"m": "whole"}, ["r"], [measured("r", "m", 1)] * LONG)
+    metric = metric_object("m", "Running", None, successful=LONG)
+    events = [event_object(number, "m", "Successful") for number in range(LONG)]
+    runs = [{"name": "r", "phase": "Running", "metrics": [metric], "events": events}]
+    report = canonical({"runs": runs, "version": 1})
     if len(report) <= 2**16:
         return [f"a report of {len(report)} bytes is no long one"]
     status, written, fault = started([program, "run", "--plain", "--output", "json"], json.dumps(document).encode())

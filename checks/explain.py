@@ -24,6 +24,7 @@ import json
 from argo_judge.engine.explanations import lines_of_run, measured
 from checks.data import EXAMPLES, canonical, files_of_conditions, numbered_lines
 from checks.harness import Counts, built, named, side_by_side, started
+from checks.made import document_of, template_of
 from checks.schema import faults_by, validator
 
 EXPLAINED = sorted((EXAMPLES / "explain").glob("*.json"))
@@ -41,23 +42,10 @@ def ended(program, words, document):
     return started([program, *words], text)
 
 
-def template_of(metrics):
-    return {
-        "apiVersion": "argoproj.io/v1alpha1",
-        "kind": "AnalysisTemplate",
-        "metadata": {"name": "made"},
-        "spec": {"metrics": metrics},
-    }
-
-
-def document_of(condition, shape, value, name="made"):
+def single(condition, shape, value, name="made"):
     """A document with one run, one metric and one measurement."""
-    return {
-        "manifest": template_of([{"name": name, "successCondition": condition}]),
-        "shapes": {name: shape},
-        "runs": [{"name": name}],
-        "measurements": [{"run": name, "metric": name, "value": value}],
-    }
+    template = template_of({"metrics": [{"name": name, "successCondition": condition}]}, "made")
+    return document_of(template, {name: shape}, [name], [{"run": name, "metric": name, "value": value}])
 
 
 # ---- runs, worked out of counts and of the events in their order
@@ -324,7 +312,7 @@ def worked_cases():
 
 def worked_faults(program, case):
     """What is wrong with the explanation of a worked condition."""
-    document = document_of(case["condition"], case["shape"], case["value"])
+    document = single(case["condition"], case["shape"], case["value"])
     status, written, fault = ended(program, ["explain", "--output", "json"], document)
     conditions = [
         condition
@@ -341,7 +329,7 @@ def worked_faults(program, case):
 def long_text(program):
     """A text of 100 kB: its first 64 characters, and how many are left out."""
     expected = f'  value: "{"x" * 64}".. and 99936 more characters'
-    lines = ended(program, ["explain"], document_of('result != ""', "text", "x" * 100_000))[1].splitlines()
+    lines = ended(program, ["explain"], single('result != ""', "text", "x" * 100_000))[1].splitlines()
     return [] if expected in lines and max(map(len, lines)) < 300 else [f"expected {expected}"]
 
 
@@ -349,7 +337,7 @@ def long_condition(program):
     """A condition of 4,096 bytes, which is as long as one may be: its JSON has the whole text."""
     begin = 'result != "'
     condition = begin + "x" * (4096 - len(begin) - 1) + '"'
-    status, written, fault = ended(program, ["explain", "--output", "json"], document_of(condition, "text", "y"))
+    status, written, fault = ended(program, ["explain", "--output", "json"], single(condition, "text", "y"))
     if status != 0 or len(condition) != 4096:
         return [f"status {status} of {len(condition)} bytes: {fault}"]
     explained = [one for run in json.loads(written)["runs"] for event in run["events"] for one in event["conditions"]]
@@ -357,11 +345,11 @@ def long_condition(program):
 
 
 def odd_name(program):
-    lines = ended(program, ["explain"], document_of("result > 0", "whole", 1, ODD_NAME))[1].splitlines()
+    lines = ended(program, ["explain"], single("result > 0", "whole", 1, ODD_NAME))[1].splitlines()
     shown = json.dumps(ODD_NAME, ensure_ascii=False)
     if not lines[0].startswith(f"run {shown} ") or "\x1b" in "".join(lines):
         return [f"expected the line of run {shown}"]
-    written = ended(program, ["explain", "--output", "json"], document_of("result > 0", "whole", 1, ODD_NAME))[1]
+    written = ended(program, ["explain", "--output", "json"], single("result > 0", "whole", 1, ODD_NAME))[1]
     return (
         []
         if json.dumps(ODD_NAME, ensure_ascii=False) in written and written.count("\n") == 1

@@ -4,6 +4,9 @@ and docs/design/verifier.md say of them, worked out by hand."""
 import json
 from typing import NamedTuple
 
+from checks.data import canonical, compact
+from checks.made import document_of, event_object, measured, metric_object, template_of
+
 NONE = "successful=0 failed=0 inconclusive=0 error=0 consecutiveError=0"
 ONE = "successful=1 failed=0 inconclusive=0 error=0 consecutiveError=0"
 
@@ -34,27 +37,9 @@ class Document(NamedTuple):
         return getattr(self, words.split()[0])
 
 
-def manifest_of(*metrics):
-    return {
-        "apiVersion": "argoproj.io/v1alpha1",
-        "kind": "AnalysisTemplate",
-        "metadata": {"name": "t"},
-        "spec": {"metrics": list(metrics)},
-    }
-
-
-def document_of(metrics, shapes, runs, entries):
-    document = {
-        "manifest": manifest_of(*metrics),
-        "shapes": shapes,
-        "runs": [{"name": name} for name in runs],
-        "measurements": entries,
-    }
-    return json.dumps(document, separators=(",", ":"))
-
-
-def measured(run, metric, value):
-    return {"run": run, "metric": metric, "value": value}
+def text_of(metrics, shapes, runs, entries):
+    """A document as it is given to the program."""
+    return compact(document_of(template_of({"metrics": metrics}), shapes, runs, entries))
 
 
 def with_events_sorted(report):
@@ -77,7 +62,7 @@ def is_answer(ended, answer, words=""):
 # Two runs of two metrics: one is stopped, and one fails.
 POSITIVE = {"interval": "1m", "count": 3, "successCondition": "result > 0"}
 STOPPED = Document(
-    text=document_of(
+    text=text_of(
         [{"name": name, **POSITIVE} for name in "ab"],
         {"a": "whole", "b": "whole"},
         ["r0", "r1"],
@@ -123,7 +108,7 @@ run {run} metric {metric} success
 
 # Two runs of one metric, which takes the first of a list.
 RATES = Document(
-    text=document_of(
+    text=text_of(
         [{"name": "m", "successCondition": "result[0] >= 0.95"}],
         {"m": {"list": "decimal", "max": 10}},
         ["r0", "r1"],
@@ -168,7 +153,7 @@ run {run} metric m success
 FILTERED = {"name": "m", "interval": "1m", "failureLimit": 5, "successCondition": "len(filter(result, # > 1)) == 2"}
 WHOLES = {"m": {"list": "whole", "max": 5}}
 FILTERS = Document(
-    text=document_of([FILTERED], WHOLES, ["r0"], [measured("r0", "m", value) for value in ([1, 2, 3], [1], [2, 0, 5])]),
+    text=text_of([FILTERED], WHOLES, ["r0"], [measured("r0", "m", value) for value in ([1, 2, 3], [1], [2, 0, 5])]),
     run=Answer(
         0,
         """\
@@ -200,7 +185,7 @@ run r0 metric m success
 
 # Warnings: a metric without a condition, and of each metric a value of another kind than its shape.
 WARNED = Document(
-    text=document_of(
+    text=text_of(
         [{"name": "a", "interval": "1m", "successCondition": "result > 0"}, {"name": "b", "interval": "1m"}],
         {"a": "whole", "b": "whole"},
         ["r0", "r1"],
@@ -245,14 +230,14 @@ run {run} metric a success
 BUNDLES = {"stopped": STOPPED, "rates": RATES, "filters": FILTERS, "warned": WARNED}
 
 # A template without shapes: the command is refused.
-SHAPELESS = json.dumps({"manifest": manifest_of(FILTERED)})
+SHAPELESS = json.dumps({"manifest": template_of({"metrics": [FILTERED]})})
 
 
 def repeated(runs, entries):
     """A document whose every measurement is successful and takes memory, of n runs in turn, which stay open; and
     its report."""
     names = [f"r{run}" for run in range(runs)]
-    text = document_of([FILTERED], WHOLES, names, [measured(names[it % runs], "m", [1, 2, 3]) for it in range(entries)])
+    text = text_of([FILTERED], WHOLES, names, [measured(names[it % runs], "m", [1, 2, 3]) for it in range(entries)])
     lines = []
     for run, name in enumerate(names):
         own = range(run, entries, runs)
@@ -296,64 +281,26 @@ CONDITIONS = {
 
 
 def as_json(answer, lines=0):
-    return Answer(0, json.dumps({**answer, "version": 1}, separators=(",", ":"), sort_keys=True) + "\n", lines)
+    return Answer(0, canonical({**answer, "version": 1}), lines)
 
 
 def successful(run, number):
     """A run of RATES, which the event of this number closed."""
-    counts = dict.fromkeys(("failed", "inconclusive", "error", "consecutiveError"), 0)
-    limits = {"count": 1, "failureLimit": 0, "inconclusiveLimit": 0, "consecutiveErrorLimit": 4}
-    metric = {
-        "name": "m",
-        "phase": "Successful",
-        "dryRun": False,
-        "counts": {**counts, "successful": 1},
-        "limits": limits,
-    }
-    event = {
-        "number": number,
-        "stop": False,
-        "metric": "m",
-        "verdict": "Successful",
-        "cause": None,
-        "fault": None,
-        "effect": "closed",
-        "phase": "Successful",
-    }
+    metric = metric_object("m", "Successful", 1, successful=1)
+    event = event_object(number, "m", "Successful", effect="closed", phase="Successful")
     return {"name": run, "phase": "Successful", "metrics": [metric], "events": [event]}
 
 
-def open_metric(name, errors):
-    """A metric of WARNED that was measured as often as it met an error."""
-    counts = dict.fromkeys(("successful", "failed", "inconclusive"), 0) | {"error": errors, "consecutiveError": errors}
-    limits = {"count": None, "failureLimit": 0, "inconclusiveLimit": 0, "consecutiveErrorLimit": 4}
-    return {
-        "name": name,
-        "phase": "Running" if errors else "Pending",
-        "dryRun": False,
-        "counts": counts,
-        "limits": limits,
-    }
-
-
 def warned(run, number, metric, fault):
-    """A run of WARNED."""
-    event = {
-        "number": number,
-        "stop": False,
-        "metric": metric,
-        "verdict": "Error",
-        "cause": "shape",
-        "fault": fault,
-        "effect": "applied",
-        "phase": None,
-    }
-    return {
-        "name": run,
-        "phase": "Running",
-        "metrics": [open_metric(name, int(name == metric)) for name in "ab"],
-        "events": [event],
-    }
+    """A run of WARNED, of whose metrics one met an error."""
+    other = "b" if metric == "a" else "a"
+    metrics = [
+        metric_object(metric, "Running", None, error=1, consecutiveError=1),
+        metric_object(other, "Pending", None),
+    ]
+    event = event_object(number, metric, "Error", cause="shape", fault=fault)
+    in_order = sorted(metrics, key=lambda one: one["name"])
+    return {"name": run, "phase": "Running", "metrics": in_order, "events": [event]}
 
 
 BOUNDS = {"metric": "m", "condition": "success", "operations": 6, "depth": 2, "budget": 6}

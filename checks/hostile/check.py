@@ -16,6 +16,7 @@ import json
 
 from checks.harness import Counts, built, started
 from checks.hostile.colliding import once_fed, under_the_default
+from checks.made import document_of, template_of
 
 
 def balanced(leaves):
@@ -37,16 +38,11 @@ def optional(fields):
 def document(members, shapes, runs, arguments=()):
     """A document with a metric for each shape, all with the same members, and with a value for each argument."""
     metrics = [{"name": f"m{number}", "interval": "1m", "count": 1, **members} for number in range(len(shapes))]
-    return {
-        "manifest": {
-            "apiVersion": "argoproj.io/v1alpha1",
-            "kind": "AnalysisTemplate",
-            "metadata": {"name": "t"},
-            "spec": {"args": [{"name": name, "value": value} for name, value in arguments], "metrics": metrics},
-        },
-        "shapes": {f"m{number}": shape for number, shape in enumerate(shapes)},
-        "runs": [{"name": f"r{number}"} for number in range(runs)],
-    }
+    given = [{"name": name, "value": value} for name, value in arguments]
+    shapes = {f"m{number}": shape for number, shape in enumerate(shapes)}
+    return document_of(
+        template_of({"args": given, "metrics": metrics}), shapes, [f"r{number}" for number in range(runs)]
+    )
 
 
 SECONDS = 60

@@ -1,5 +1,6 @@
 """Random documents, and what docs/use/phases.md says of their measurements."""
 
+from checks import made
 from checks.oracle.phases import is_dry
 
 # Metrics by their conditions, all of whole numbers: what is measured, and what docs/use/phases.md says of it. The first
@@ -57,14 +58,7 @@ def document_of(runs, kinds, limits, entries):
     spec = {"metrics": metrics}
     if dry := [{"metricName": metric["name"]} for metric, (_, own) in zip(metrics, limits) if is_dry(own)]:
         spec["dryRun"] = dry if len(dry) < len(metrics) else [{"metricName": ".*"}]
-    return {
-        "manifest": {
-            "apiVersion": "argoproj.io/v1alpha1",
-            "kind": "AnalysisTemplate",
-            "metadata": {"name": "t"},
-            "spec": spec,
-        },
-        "shapes": {metric["name"]: "whole" for metric in metrics},
-        "runs": [{"name": f"r{run}"} for run in range(runs)],
-        "measurements": [entry for entry, _ in entries],
-    }
+    shapes = {metric["name"]: "whole" for metric in metrics}
+    return made.document_of(
+        made.template_of(spec), shapes, [f"r{run}" for run in range(runs)], [entry for entry, _ in entries]
+    )

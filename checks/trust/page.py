@@ -65,6 +65,9 @@ class Trust:
         modules = self.sources.modules_from({it.module.name for it in reached if isinstance(it, Definition)})
         return [it for module in modules.values() for it in module.definitions if it.is_public or it in reached]
 
+    def files_of(self, reached):
+        return self.files([it for it in reached if isinstance(it, Definition)])
+
     def files(self, definitions):
         by_module = collections.defaultdict(list)
         for it in definitions:
@@ -108,18 +111,14 @@ class Trust:
             files = f"by file {len(every)} in {lines_of(every):,}"
             parts.append(f"- {title}: {len(own)} definitions in {lines_of(own):,} lines; {files}.")
         more = [it for it in program if id(it) not in of_headline]
-        of = lambda some: self.files([it for it in some if isinstance(it, Definition)])
-        parts += ["", "## The headline", "", *of(headline), "", "## The program", "", *of(more)]
-        parts += [
-            "",
-            "## Types of the program",
-            "",
-            *self.types(program),
-            "",
-            "## Names of libraries",
-            "",
-            *self.libraries(program),
-        ]
+        sections = (
+            ("The headline", self.files_of(headline)),
+            ("The program", self.files_of(more)),
+            ("Types of the program", self.types(program)),
+            ("Names of libraries", self.libraries(program)),
+        )
+        for title, lines in sections:
+            parts += ["", f"## {title}", "", *lines]
         return "\n".join(parts) + "\n"
 
     def doubled(self):
