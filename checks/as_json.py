@@ -212,7 +212,7 @@ def long_faults(program):
     return [] if (status, written, fault) == (0, report, "") else [f"status {status}, {len(written)} bytes: {fault}"]
 
 
-def main(words):
+def main(words: list[str]) -> int:
     program, schema, counts = built(words), validator("json"), Counts("json")
     cases = [(document, command) for document in DOCUMENTS for command in COMMANDS]
     cases += [(document, ["eval"]) for document in EVALUATED]

@@ -45,7 +45,7 @@ def is_public(path, name):
     return any(re.search(rf"\b{name}\b", export) for export in EXPORT.findall(text))
 
 
-def main(words):
+def main(words: list[str]) -> int:
     counts = Counts("benches")
     for path, name in imports(SOURCE.read_text(encoding="utf-8")):
         counts.expect(is_public(path, name), f"{named(SOURCE)}: {'::'.join(path)} has no public {name}")

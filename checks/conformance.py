@@ -75,7 +75,7 @@ def look_at(counts, program, path, cases):
         counts.expect(False, f"{named(path)}: {fault}")
 
 
-def main(words):
+def main(words: list[str]) -> int:
     program, counts = built(words, SUITE), Counts("conformance")
     for path in files_of_suite():
         look_at(counts, program, path, list(suite_cases_of(path)))

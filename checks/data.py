@@ -32,7 +32,7 @@ def files_of_conditions() -> list[pathlib.Path]:
     return sorted((EXAMPLES / "conditions").glob("*.jsonl"))
 
 
-def text_of(parts: str | list) -> str:
+def text_of(parts: str | list[Any]) -> str:
     """The text of a document or an input: a text, or texts and pairs of a text and how often it comes."""
     if isinstance(parts, str):
         return parts

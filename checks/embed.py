@@ -214,7 +214,7 @@ def checks(program, archive, folder):
     yield from of_memory(folder)
 
 
-def main(words):
+def main(words: list[str]) -> int:
     program = built(words[:1])
     archive = pathlib.Path(words[1]).resolve() if words[1:] else library.BUILT
     counts = Counts("embed", SHOWN)

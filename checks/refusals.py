@@ -242,7 +242,7 @@ def long_lines():
                 yield f"examples/commands.jsonl:{number}: a line of over {most} characters without names"
 
 
-def main(words):
+def main(words: list[str]) -> int:
     found, counts = declarations(), Counts("refusals")
     types = sorted(error_types(found))
     by_name = {key[1]: variants(found, key) for key in types}

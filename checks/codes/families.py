@@ -3,49 +3,25 @@
 Each member is a shape and its operations.
 """
 
-from itertools import product
-
-from checks.oracle.operations import ENTERS, ENTERS_1, JUMPS, MIXED, PLAIN, SCALARS, STEPS, STEPS_1, TEXT_TESTS, partner
-from checks.oracle.values import Fault, arithmetic, exact, ordered, text_holds
-
-TRUE = ("PushBool", True)
-FALSE = ("PushBool", False)
-NIL = ("PushNil",)
-LOAD = ("LoadResult",)
-ITEM = ("Item",)
-NOT = ("Not",)
-IN = ("IsIn",)
-IS_NIL = ("IsNil",)
-RETURN = ("Return",)
-LIST_3 = ("list", "whole", 3)
-LAST_PLACE = 2**32 - 1
-
-
-def whole(number):
-    return ("PushWhole", number)
-
-
-def drop_bool(place):
-    """What takes off the Bool above, at this place."""
-    return ("BranchFalse", place + 1)
-
-
-def nested(families, body, list_of=(LOAD,)):
-    """Loops in one another, each over what `list_of` leaves; ends without a Return."""
-    ops = []
-    enters = []
-    for family in families:
-        ops += list(list_of)
-        enters.append(len(ops))
-        ops.append((family + "Enter", None))
-    ops += list(body)
-    for enter in reversed(enters):
-        family = ops[enter][0][:-5]
-        ops[enter] = (family + "Enter", len(ops))
-        ops.append((family + "Step", enter))
-        if family in ("Count", "Filter") and enter != enters[0]:
-            ops.append(IS_NIL)
-    return ops
+from checks.codes.arithmetic import numbers, orders
+from checks.codes.parts import (
+    FALSE,
+    IN,
+    IS_NIL,
+    ITEM,
+    LAST_PLACE,
+    LIST_3,
+    LOAD,
+    NIL,
+    NOT,
+    RETURN,
+    TRUE,
+    drop_bool,
+    nested,
+    shifted,
+    whole,
+)
+from checks.oracle.operations import ENTERS_1, JUMPS, SCALARS, STEPS_1, partner
 
 
 def empty():
@@ -344,10 +320,6 @@ def branch_budgets(large):
     return codes
 
 
-def shifted(ops, by):
-    return [(op[0], op[1] + by) if op[0] in JUMPS + ENTERS + STEPS else op for op in ops]
-
-
 def kinds():
     """Each operation of kinds, on operands of each sort."""
     pushes = {
@@ -383,207 +355,7 @@ def unreachable():
     ]
 
 
-def orders():
-    """Two faults or three: of two passes, at two places of one, and at one place."""
-    deep = nested(["All", "Any", "Count", "Filter", "All"], [TRUE])
-    fifth = [place for place, op in enumerate(deep) if op[0] in ENTERS][4]
-    crossing = list(deep)
-    crossing[deep[fifth][1]] = NOT
-    crossing[fifth] = ("AllEnter", len(deep) + 1)
-    loop = [LOAD, ("AllEnter", 3), TRUE, ("AllStep", 1)]
-    expensive = nested(["All", "All", "All"], [TRUE])
-    large = ("list", "bool", 10_000)
-    return [
-        (LIST_3, [ITEM, IS_NIL, ("BranchFalse", 9), TRUE, RETURN]),
-        (LIST_3, [ITEM, IS_NIL, ("Jump", 2), RETURN]),
-        (LIST_3, [("Jump", 3)] + shifted(loop, 1) + [("Jump", 0), RETURN]),
-        (LIST_3, [("Jump", 3)] + shifted(loop, 1) + [("AnyStep", 2), RETURN]),
-        (LIST_3, [("Jump", 3)] + shifted(loop, 1)),
-        (LIST_3, [("Jump", 1), NOT, LOAD, ("AllEnter", 5), RETURN, ("AllStep", 3), RETURN]),
-        (LIST_3, [NOT, LOAD, ("AllEnter", 4), RETURN, ("AllStep", 2), RETURN]),
-        (LIST_3, [NOT] + shifted(loop, 1)),
-        (LIST_3, crossing + [TRUE, ("AllStep", fifth), RETURN]),
-        (large, expensive + [("AddW",), RETURN]),
-        (large, expensive + [whole(1)]),
-        (large, [NIL] * 66 + shifted(expensive, 66) + [RETURN]),
-        (LIST_3, [NIL] * 64 + [ITEM, RETURN]),
-        (LIST_3, [TRUE, ("BranchFalse", 3), TRUE, ("AddW",), RETURN]),
-        (LIST_3, [TRUE, ("BranchFalse", 4), TRUE, ("Jump", 5), whole(1), ("AddW",), RETURN]),
-        (LIST_3, [LOAD, ("AllEnter", 4), whole(1), whole(2), ("AllStep", 1), RETURN]),
-        (LIST_3, [("Jump", 7), ("Jump", 0), RETURN]),
-        (LIST_3, [("Jump", 0), ("Jump", 7), RETURN]),
-    ]
-
-
-EDGES = (0, 1, -1, 3, -7, 1_000_000, -1_500_000, 9_223_372_036_855, 2**63 - 1, -(2**63))
-ARITHMETIC = [name for name in PLAIN if PLAIN[name][1] != "bool" and name != "Not"]
-ORDERS = [name for name in PLAIN if name[:2] in ("Lt", "Le", "Gt", "Ge")] + list(MIXED)
-
-
-def push(kind, number):
-    return ("Push" + kind.capitalize(), number)
-
-
-def computed(name):
-    """Operands with the code that compares what an operation gives for them, or with None where it faults."""
-    takes, gives = PLAIN[name]
-    for numbers in product(EDGES, repeat=len(takes)):
-        ops = [push(kind, number) for kind, number in zip(takes, numbers)] + [(name,)]
-        try:
-            yield ops + [push(gives, arithmetic(name, numbers)), ("EqNumber",)], False
-        except Fault:
-            yield ops + [push(gives, 0), ("EqNumber",)], True
-
-
-def compared(name):
-    """Operands with an order of them, made true."""
-    kinds = [PLAIN[name][0]] if name in PLAIN else list(product(("whole", "decimal"), repeat=2))
-    for takes, numbers in product(kinds, product(EDGES, repeat=2)):
-        values = [(kind, number) for kind, number in zip(takes, numbers)]
-        holds = ordered(name, exact(values[0]), exact(values[1]))
-        yield [push(*value) for value in values] + [(name,)] + ([] if holds else [NOT]), False
-
-
-def all_of(tests):
-    """`and` of tests, with one end."""
-    end = sum(len(test) for test in tests) + len(tests) - 1
-    ops = list(tests[0])
-    for test in tests[1:]:
-        ops += [("AndJump", end)] + list(test)
-    return ops + [RETURN]
-
-
-def every(tests, count):
-    """`count` of the tests, spread evenly."""
-    return [tests[len(tests) * number // count] for number in range(min(count, len(tests)))]
-
-
-def numbers():
-    """Arithmetic and orders on edges, each answer true where all is right; and with a fault after that."""
-    codes = []
-    for name in ARITHMETIC:
-        cases = list(computed(name))
-        good = [test for test, faults in cases if not faults]
-        codes.append(("bool", all_of(every(good, 7))))
-        codes.append(("bool", all_of(every(good, 2) + every([test for test, faults in cases if faults], 1))))
-    for name in ORDERS:
-        codes.append(("bool", all_of(every([test for test, _ in compared(name)], 8))))
-    return codes
-
-
 # Of version 2: the loops `none` and `one`, and tests of texts
-
-ENTERS_2 = tuple(enter for enter in ENTERS if enter not in ENTERS_1)
-STEPS_2 = tuple(step for step in STEPS if step not in STEPS_1)
-TEXTS = ("", "a", "ab", "b", "aab", "é", "aé", "éa", "ũ", "€", "A", "ba", "abab")
-
-
-def text(content):
-    return ("PushText", content)
-
-
-def pairs_2():
-    """An Enter and a Step, of which one at least is new."""
-    codes = [paired(enter, step) for enter in ENTERS for step in STEPS if enter in ENTERS_2 or step in STEPS_2]
-    return codes + mispaired(ENTERS_2)
-
-
-def loops_2():
-    """The new loops in one another, to the greatest depth and beyond, and over nothing."""
-    codes = []
-    for names in ("None One None One", "One One One One", "All None One Any", "Filter One Count None"):
-        for more in ([], ["One"], ["None", "Filter"]):
-            codes.append((LIST_3, nested(names.split() + more, [TRUE]) + [IS_NIL, RETURN]))
-    for name in ("None", "One"):
-        codes.append((("list", "whole", 0), nested([name], [TRUE]) + [RETURN]))
-        codes.append((("list", "whole", 0), nested([name], [FALSE]) + [RETURN]))
-        codes.append((("optional", LIST_3), nested([name], [TRUE]) + [RETURN]))
-        codes.append((("optional", LIST_3), nested([name], [TRUE], [LOAD, ("Need",)]) + [RETURN]))
-        codes.append(("whole", nested([name], [TRUE]) + [RETURN]))
-        codes.append((("list", "bool", 10_000), nested([name, name], [TRUE]) + [RETURN]))
-        codes.append((("list", "bool", 10_000), nested([name, name, name], [TRUE]) + [RETURN]))
-        codes.append((("list", "bool", 10), nested([name], [ITEM, LOAD, IN]) + [RETURN]))
-    return codes
-
-
-def decided_2():
-    """Where the new loops end: at items that satisfy, in order, before and after one that is a fault."""
-    some = ("list", ("optional", "bool"), 4)
-    small = ("list", "whole", 5)
-    quotient = [whole(10), ITEM, ("DivW",), ("PushDecimal", 4_000_000), ("GtD",)]
-    codes = []
-    for name in ("None", "One"):
-        codes.append((("list", "bool", 4), nested([name], [ITEM]) + [RETURN]))
-        codes.append((some, nested([name], [ITEM, ("Need",)]) + [RETURN]))
-        codes.append((some, nested([name], [ITEM, IS_NIL]) + [NOT, RETURN]))
-        codes.append((small, nested([name], quotient) + [RETURN]))
-        inner = [LOAD, (name + "Enter", 6), ITEM, ("OneEnter", 5), ITEM, ("OneStep", 3), (name + "Step", 1), RETURN]
-        codes.append((("list", ("list", "bool", 3), 3), inner))
-        codes.append((("list", "bool", 4), [TRUE, NIL] + shifted(nested([name], [ITEM]), 2) + [RETURN]))
-    return codes
-
-
-def bodies_2():
-    """Bodies of the new loops that cross them, take what lies below, or leave too much."""
-    codes = []
-    for enter in ENTERS_2:
-        step = partner(enter)
-        codes.append((LIST_3, [LOAD, (enter, 3), RETURN, (step, 1), RETURN]))
-        codes.append((LIST_3, [TRUE, LOAD, (enter, 3), (step, 2), RETURN]))
-        codes.append((LIST_3, [TRUE, LOAD, (enter, 4), NOT, (step, 2), RETURN]))
-        codes.append((LIST_3, [LOAD, (enter, 4), TRUE, TRUE, (step, 1), RETURN]))
-        codes.append((LIST_3, [LOAD, (enter, 3), ITEM, (step, 1), RETURN]))
-        codes.append((LIST_3, [LOAD, (enter, 6), TRUE, ("AndJump", 6), TRUE, NOT, (step, 1), RETURN]))
-        codes.append((LIST_3, [LOAD, (enter, 5), TRUE, ("OrJump", 6), TRUE, (step, 1), RETURN]))
-        codes.append((LIST_3, [LOAD, (enter, 4), TRUE, ("Jump", 5), (step, 1), RETURN]))
-        codes.append((LIST_3, [LOAD, (enter, 5), LOAD, ("AnyEnter", 6), TRUE, (step, 1), ("AnyStep", 3), RETURN]))
-        codes.append((LIST_3, [NIL] * 63 + [LOAD, (enter, 67), ITEM, IS_NIL, (step, 64), RETURN]))
-        codes.append((LIST_3, [LOAD, (enter, 3), TRUE, (step, 1)]))
-    return codes
-
-
-def texts_2():
-    """Each test on texts of which one is a part of the other or isn't, each answer true where all is right."""
-    codes = []
-    for name in TEXT_TESTS:
-        tests = []
-        for one, other in product(TEXTS, repeat=2):
-            tests.append([text(one), text(other), (name,)] + ([] if text_holds(name, one, other) else [NOT]))
-        good = [test for test in tests if test[-1] != NOT]
-        for part in range(4):
-            codes.append(("text", all_of(every(good[part::4], 6) + every(tests[part::4], 8))))
-        codes.append(("text", [LOAD, text("é"), (name,), RETURN]))
-        codes.append(("text", [LOAD, LOAD, (name,), RETURN]))
-        codes.append(("text", [text("aé€é"), LOAD, (name,), RETURN]))
-        codes.append((("list", "text", 4), nested(["One"], [ITEM, text("a"), (name,)]) + [RETURN]))
-    return codes
-
-
-def kinds_2():
-    """The tests of texts on operands of each kind, and on too few."""
-    pushes = (TRUE, whole(4), ("PushDecimal", 2_500_000), text("a"), NIL, LOAD)
-    codes = []
-    for name in TEXT_TESTS:
-        for one, other in product(pushes, repeat=2):
-            codes.append((("optional", "text"), [one, other, (name,), RETURN]))
-        codes.append((("optional", "text"), [LOAD, ("Need",), text(""), (name,), RETURN]))
-        codes.append((("optional", "text"), [text("ab"), LOAD, ("Need",), (name,), RETURN]))
-        codes.append(("text", [LOAD, (name,), RETURN]))
-        codes.append(("text", [text("a"), ("MakeList", "text", 1), LOAD, (name,), RETURN]))
-    return codes
-
-
-def families_2():
-    """Each family of version 2 by its name."""
-    return {
-        "jumps": jumps_of_loops(ENTERS_2 + STEPS_2),
-        "pairs": pairs_2(),
-        "loops": loops_2(),
-        "decided": decided_2(),
-        "bodies": bodies_2(),
-        "texts": texts_2(),
-        "kinds": kinds_2(),
-    }
 
 
 def families():

@@ -107,7 +107,7 @@ def lines(condition, ops, shape, kind, values):
         )
 
 
-def main(words):
+def main(words: list[str]) -> int:
     with OUTPUT.open("w", encoding="utf-8") as output:
         output.write(HEAD)
         for code in CODES:

@@ -12,8 +12,11 @@ time.
 import collections
 import random
 
-from checks.codes.families import families, families_2
-from checks.codes.generator import SHAPES, TEXT_SHAPES, changed, random_code, random_shape, random_value
+from checks.codes.changes import changed
+from checks.codes.families import families
+from checks.codes.families_2 import families_2
+from checks.codes.generator import random_code
+from checks.codes.shapes import SHAPES, TEXT_SHAPES, random_shape, random_value
 from checks.codes.stepwise import stepwise_code
 from checks.data import CONFORMANCE, compact
 from checks.oracle.images import encode, image_of, version_of
@@ -180,7 +183,7 @@ def line(source, number, shape, ops, version):
     return compact(case)
 
 
-def main(words):
+def main(words: list[str]) -> int:
     source, source_2 = random.Random(SEED), random.Random(SEED_2)
     codes, codes_2 = chosen(source), chosen_2(source_2)
     if "--count" in words:

@@ -4,7 +4,7 @@ It makes what no condition is compiled to: jumps that share an end, operands tha
 the middle, loops whose bodies branch.
 """
 
-from checks.codes.generator import DECIMALS, WHOLES, literals
+from checks.codes.shapes import DECIMALS, WHOLES, literals
 from checks.oracle.kinds import is_list, is_optional, is_record, merge
 from checks.oracle.operations import ENTERS, ENTERS_1, EQUAL, MIXED, PLAIN, SCALARS, TEXT_TESTS
 from checks.oracle.verifier import answer_kind, given, taken

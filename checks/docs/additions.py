@@ -54,5 +54,5 @@ def written(page):
     return "\n".join(lines) + "\n"
 
 
-def main(words):
+def main(words: list[str]) -> int:
     return held("additions", PAGE, written(PAGE.read_text(encoding="utf-8")), words, "tests/docs/additions")

@@ -213,6 +213,6 @@ def strangers():
             yield f"{crate} {name}"
 
 
-def main(words):
+def main(words: list[str]) -> int:
     strange = (f"tests/docs/mutants: no such mutant: {line}" for line in strangers())
     return held("clauses", PAGE, page(), words, "tests/docs/clauses", strange)

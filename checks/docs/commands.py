@@ -166,8 +166,9 @@ def checked_page(path, engine, used):
     yield f"{named(path)}, links", [f"{target}: it isn't there" for target in broken_links(path)]
 
 
-def main(words):
-    engine, counts, used = built(words), Counts("docs"), set()
+def main(words: list[str]) -> int:
+    engine, counts = built(words), Counts("docs")
+    used: set[str | None] = set()
     for page in side_by_side(lambda path: list(checked_page(path, engine, used)), PAGES):
         for where, faults in page:
             counts.case(where, faults)

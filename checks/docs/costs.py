@@ -19,7 +19,7 @@ def crates():
     return [line.split(":")[0].split()[0] for line in lines if ":" in line.split("#")[0]]
 
 
-def main(words):
+def main(words: list[str]) -> int:
     measured, names, counts = plan.table(), crates(), Counts("costs")
     functions = sum(plan.functions_of(name) for name in names)
     lines = sum(plan.lines_of(name) for name in names)

@@ -44,7 +44,7 @@ def written(page):
     return "\n".join([*lines[:begin], *HEAD, *rows(said), *lines[end:]]) + "\n"
 
 
-def main(words):
+def main(words: list[str]) -> int:
     wanted = written(PAGE.read_text(encoding="utf-8"))
     silent = ["docs/design/architecture.md: nothing is said of a crate"] * (NOTHING in wanted)
     return held("crates", PAGE, wanted, words, "tests/docs/crates", silent)

@@ -16,7 +16,7 @@ EXAMPLE = ROOT / "examples/bundles/cloudwatch-values"
 SAID = "try: compiling the sources, which takes two to three minutes; nothing is proved\n"
 
 
-def main(words):
+def main(words: list[str]) -> int:
     document, report = (EXAMPLE.with_suffix(ending).read_text(encoding="utf-8") for ending in (".json", ".run"))
     with tempfile.TemporaryDirectory() as folder:
         ended = started([ROOT / "bin/try", "run", "--plain"], document.encode(), cwd=folder)

@@ -95,7 +95,7 @@ def faults_of(name, text):
         yield f"line {line}: {word}: write {instead}"
 
 
-def main(words):
+def main(words: list[str]) -> int:
     counts, pages = Counts("words"), set(PAGES)
     for path in sorted({*PAGES, *scripts()}):
         text = path.read_text(encoding="utf-8")

@@ -128,7 +128,7 @@ def cases():
             yield f"{named(path)}, line {number}", condition_faults, (line,)
 
 
-def main(words):
+def main(words: list[str]) -> int:
     program, counts, tried = current(words), Counts("examples"), list(cases())
     found = side_by_side(lambda case: list(case[1](program, *case[2])), tried)
     for (name, _, _), faults in zip(tried, found):

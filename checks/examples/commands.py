@@ -77,7 +77,7 @@ def count_commands(program, counts):
         counts.case(f"{named(COMMAND_LINES)}, line {number}, {' '.join(case.get('words', []))}", found)
 
 
-def main(words):
+def main(words: list[str]) -> int:
     counts = Counts("commands")
     count_commands(built(words), counts)
     return counts.end()

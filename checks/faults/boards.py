@@ -36,7 +36,7 @@ def has_lines(text, lines):
     return any(text[at : at + len(lines)] == lines for at in range(len(text)))
 
 
-def main(words):
+def main(words: list[str]) -> int:
     program, counts = built(words, BUILT), Counts("faults of boards")
     texts, growth = [], 1
     with tempfile.TemporaryDirectory() as folder:

@@ -29,7 +29,7 @@ def counted(job):
     return counts
 
 
-def main(words):
+def main(words: list[str]) -> int:
     path, counts = current(words), Counts("faults")
     with tempfile.TemporaryDirectory() as folder:
         program = Program(path, folder)

@@ -164,7 +164,7 @@ def fail_devices(counts, program):
     counts.expect((ended.status, ended.errors.count("\n")) == (4, 1), f"Device, a folder as input: {ended}")
 
 
-def main(words):
+def main(words: list[str]) -> int:
     program, counts, cases = built(words, SUITE), Counts(NAME), chosen()
     with tempfile.TemporaryDirectory() as folder:
         refusing = (program, Library(folder))

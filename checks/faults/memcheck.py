@@ -74,7 +74,7 @@ def fault_of(program, case):
         yield f"status {watched.status}, expected {alone.status}\n{watched.errors}"
 
 
-def main(words):
+def main(words: list[str]) -> int:
     program, counts = current(words), Counts("memcheck")
     if not has_valgrind():
         print("memcheck: skipped, since valgrind is not there and could not be installed")

@@ -6,22 +6,13 @@ refusal will do.
 
 import json
 
-from checks.codes.generator import changed, random_code
+from checks.codes.changes import changed
+from checks.codes.generator import random_code
 from checks.data import compact
 from checks.fuzz.changes import SPELT, changed_bytes, changed_condition, changed_text
-from checks.fuzz.documents import (
-    DECIMALS,
-    any_shape,
-    any_value,
-    changed_json,
-    doubled,
-    is_plain,
-    nested_shape,
-    random_bundle,
-    random_metric,
-    written,
-)
+from checks.fuzz.documents import any_shape, any_value, random_bundle, random_metric
 from checks.fuzz.expressions import random_condition
+from checks.fuzz.values import DECIMALS, changed_json, doubled, is_plain, nested_shape, written
 from checks.oracle.answers import answer_of, read_json_answer
 from checks.oracle.bundles import built
 from checks.oracle.images import Image, decode, encode, image_of, resolved

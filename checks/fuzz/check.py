@@ -22,10 +22,11 @@ import sys
 from checks.fuzz.cases import cases_of, condition_of, document_bytes
 from checks.fuzz.changes import changed_bytes
 from checks.fuzz.corpus import Corpus, stored_cases
-from checks.fuzz.documents import changed_json, random_evaluation, written
+from checks.fuzz.documents import random_evaluation
 from checks.fuzz.every_byte import cases_of_bytes
 from checks.fuzz.many import batches
 from checks.fuzz.programs import command
+from checks.fuzz.values import changed_json, written
 from checks.harness import SUITE, Counts, built
 from checks.oracle.answers import answer_of, has_answer
 from checks.oracle.commands import COMMANDS, EVALS, ORDERED, PLAIN, expected_of, is_right
@@ -152,7 +153,7 @@ def check_all(counts, words):
         check_seed(counts, programs, corpus, seed)
 
 
-def main(words):
+def main(words: list[str]) -> int:
     sys.setrecursionlimit(LEVELS)
     options = options_of(words)
     counts = Counts("fuzz", SHOWN if options.seeds is None else None)

@@ -17,9 +17,10 @@ from concurrent.futures import ProcessPoolExecutor
 from checks.fuzz.cases import document_bytes
 from checks.fuzz.changes import changed_bytes
 from checks.fuzz.check import LEVELS
-from checks.fuzz.documents import random_evaluation, written
+from checks.fuzz.documents import random_evaluation
 from checks.fuzz.many import corpus
 from checks.fuzz.programs import command
+from checks.fuzz.values import written
 from checks.harness import Counts, built
 from checks.oracle.commands import AS_JSON, COMMANDS, EVALS, EXPLAIN
 
@@ -56,7 +57,7 @@ def batch(programs, seed):
     return same, different
 
 
-def main(words):
+def main(words: list[str]) -> int:
     sys.setrecursionlimit(LEVELS)
     options = argparse.ArgumentParser(description=__doc__, formatter_class=argparse.RawDescriptionHelpFormatter)
     options.add_argument("--documents", type=int, default=10_000)

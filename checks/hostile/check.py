@@ -157,7 +157,7 @@ def cases():
         yield f"names that collide under {what}", ["check"], called(names), megabytes, (0, 1, "")
 
 
-def main(words):
+def main(words: list[str]) -> int:
     program, counts = built(words), Counts("hostile")
     for much, command, case, megabytes, expected in cases():
         ended = started([program, *command], json.dumps(case).encode(), SECONDS, megabytes)

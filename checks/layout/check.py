@@ -83,7 +83,7 @@ def faults_of_definitions(path, text):
     yield from wordy(path, text)
 
 
-def main(words):
+def main(words: list[str]) -> int:
     if words == ["--contracts"]:
         contracts.show()
         return 0

@@ -144,7 +144,7 @@ TESTS = [
 ]
 
 
-def main(words):
+def main(words: list[str]) -> int:
     counts = Counts("record and plan")
     for test in TESTS:
         counts.expect(test(), f"failed: {test.__name__.replace('_', ' ')}")

@@ -41,7 +41,7 @@ def tried(name, engine, counts):
             counts.expect(fault is None, f"{name}: {what}: {fault}")
 
 
-def main(words):
+def main(words: list[str]) -> int:
     engine, counts = built(words), Counts("real parts")
     for name in PARTS:
         tried(name, engine, counts)

@@ -9,7 +9,6 @@ has the counts, and the status is 0 where none failed.
 
 import json
 import random
-from itertools import zip_longest
 
 from checks.harness import SUITE, Counts, built
 from checks.oracle.cores import answer, make, opening
@@ -68,12 +67,12 @@ def random_case(source):
     return json.dumps(case), answer(bundle, workers, places, ordered, steps)
 
 
-def main(words):
+def main(words: list[str]) -> int:
     program, source, counts = built(words, SUITE), random.Random(SEED), Counts("cores", SHOWN)
     cases = [random_case(source) for _ in range(CASES)]
     printed, fault = printed_for(program, [case for case, _ in cases])
     if fault:
         print(fault)
-    for (case, expected), got in zip_longest(cases, printed[:CASES], fillvalue=""):
+    for (case, expected), got in zip(cases, printed + [""] * (CASES - len(printed))):
         counts.expect(got == expected, f"{case}\n  expected {expected}\n  got      {got}")
     return counts.end()

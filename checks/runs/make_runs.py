@@ -40,7 +40,7 @@ def random_case(source, number, dry):
     return {"call": "phases", "name": str(number), "limits": limits, "events": events, "answer": answer(limits, events)}
 
 
-def main(words):
+def main(words: list[str]) -> int:
     source = random.Random(SEED)
     with OUTPUT.open("w", encoding="utf-8") as output:
         output.write(HEAD)

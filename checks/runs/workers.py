@@ -216,7 +216,7 @@ def look_at_largest(counts, program):
             counts.expect(good, f"workers: {MOST} measurements of {runs} runs, {words[0]}: not as expected")
 
 
-def main(words):
+def main(words: list[str]) -> int:
     program, source, counts = built(words), random.Random(SEED), Counts("workers", SHOWN)
     many, few = Document(source, RUNS), Document(source, 4)
     orders = look_at_orders(counts, program, many, few)

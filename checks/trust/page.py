@@ -139,7 +139,7 @@ def lines_of(definitions):
     return sum(it.count for it in definitions)
 
 
-def main(words):
+def main(words: list[str]) -> int:
     trust, counts = Trust(), Counts("trust")
     page, names = trust.page(), trust.doubled()
     if words == ["--write"]:

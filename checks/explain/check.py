@@ -18,11 +18,13 @@
 The last line counts what came so.
 """
 
-import decimal
 import json
+from functools import partial
 
-from argo_judge.engine.explanations import lines_of_run, measured
+from argo_judge.engine.explanations import lines_of_run
 from checks.data import EXAMPLES, canonical, files_of_conditions, numbered_lines
+from checks.explain.runs import run_faults
+from checks.explain.values import misfit_faults, value_faults
 from checks.harness import Counts, built, named, side_by_side, started
 from checks.made import document_of, template_of
 from checks.schema import faults_by, validator
@@ -46,179 +48,6 @@ def single(condition, shape, value, name="made"):
     """A document with one run, one metric and one measurement."""
     template = template_of({"metrics": [{"name": name, "successCondition": condition}]}, "made")
     return document_of(template, {name: shape}, [name], [{"run": name, "metric": name, "value": value}])
-
-
-# ---- runs, worked out of counts and of the events in their order
-
-OPEN = ("Pending", "Running")
-
-
-def progress(limits, counts):
-    return {"count": limits["count"], "measured": measured(counts)}
-
-
-# The counts with their limits, and the phase of a metric that exceeds one.
-LIMITED = (
-    ("failed", "failureLimit", "Failed"),
-    ("inconclusive", "inconclusiveLimit", "Inconclusive"),
-    ("consecutiveError", "consecutiveErrorLimit", "Error"),
-)
-
-
-def decided(limits, counts):
-    """The phase with which a metric of these counts is complete, or None."""
-    exceeded = [phase for name, limit, phase in LIMITED if counts[name] > limits[limit]]
-    return (exceeded + ["Successful"] * (limits["count"] is not None and measured(counts) >= limits["count"]) + [None])[
-        0
-    ]
-
-
-def metric_faults(metric, closer):
-    """What is wrong with what a metric waits for and what settled it; `closer`: the event that closed the run, or
-    None."""
-    limits, counts, phase = (metric["metric"][name] for name in ("limits", "counts", "phase"))
-    own = progress(limits, counts)
-    if metric["waitsFor"] != (own if phase in OPEN else None):
-        yield f"metric {metric['metric']['name']} waits for something else"
-    settled = closer is not None and decided(limits, counts) is None
-    if metric["settled"] != ({**own, "event": closer} if settled else None):
-        yield f"metric {metric['metric']['name']} was settled otherwise"
-
-
-def because(kind, **numbers):
-    """A reason of this kind, with the numbers that it has."""
-    return {"count": None, "event": None, "kind": kind, "limit": None, "phase": None, "value": None, **numbers}
-
-
-def late_reason(late, earlier):
-    """What had made an event late, by the events of its run before it."""
-    closers = [one["event"]["number"] for one in earlier if one["event"]["effect"] == "closed"]
-    if closers:
-        return because("runClosed", event=closers[0])
-    ends = [
-        (decided(one["counts"]["limits"], one["counts"]["after"]), one["event"]["number"])
-        for one in earlier
-        if one["counts"] is not None and one["event"]["metric"] == late["event"]["metric"]
-    ]
-    return next(because("metricComplete", phase=phase, event=number) for phase, number in ends if phase)
-
-
-def closing_reason(one):
-    """Why an event closed its run, by the counts after it."""
-    if one["counts"] is None:
-        return because("stop")
-    counts, limits, phase = one["counts"]["after"], one["counts"]["limits"], one["event"]["phase"]
-    exceeded = [
-        because("limit", phase=own, limit=limit, value=limits[limit], count=counts[name])
-        for name, limit, own in LIMITED
-        if own == phase and counts[name] > limits[limit]
-    ]
-    return (exceeded + [because("complete")])[0]
-
-
-def reason_of(one, earlier):
-    """The reason that an event has, or None."""
-    if one["event"]["effect"] == "late":
-        return late_reason(one, earlier)
-    if one["event"]["effect"] == "closed":
-        return closing_reason(one)
-    phase = one["counts"] and decided(one["counts"]["limits"], one["counts"]["after"])
-    is_dry = one["dry"] and phase in ("Failed", "Inconclusive", "Error")
-    return because("dry", phase=phase) if is_dry else None
-
-
-def run_faults(run):
-    """What is wrong with what a run waits for, with its metrics, with the reasons of its events, and with values
-    without a condition."""
-    events, metrics = run["events"], [one["metric"] for one in run["metrics"]]
-    dry = {one["name"] for one in metrics if one["dryRun"]}
-    closer = next((one["event"]["number"] for one in events if one["event"]["effect"] == "closed"), None)
-    waits = [
-        {**progress(one["limits"], one["counts"]), "metric": one["name"]} for one in metrics if one["phase"] in OPEN
-    ]
-    if run["waitsFor"] != (waits if closer is None else None):
-        yield f"run {run['name']} waits for something else"
-    for one in run["metrics"]:
-        yield from metric_faults(one, closer)
-    for place, one in enumerate(events):
-        if one["reason"] != reason_of({**one, "dry": one["event"]["metric"] in dry}, events[:place]):
-            yield f"event {one['event']['number']} has another reason"
-        if one["noCondition"] != (one["shown"] is not None and not one["conditions"]):
-            yield f"event {one['event']['number']} has a condition, or none"
-
-
-# ---- documents
-
-
-def at_pointer(document, pointer):
-    """What a JSON Pointer leads to, or None where the last member is missing."""
-    found = document
-    for token in pointer.split("/")[1:]:
-        name = token.replace("~1", "/").replace("~0", "~")
-        found = found[int(name)] if isinstance(found, list) else found.get(name) if isinstance(found, dict) else None
-    return found
-
-
-def misfit_faults(document, whole):
-    """What is wrong with where values don't fit: the pointer has the path's steps, and leads to what was found."""
-    for one in (one for run in whole["runs"] for one in run["events"] if one["misfit"] is not None):
-        misfit, number = one["misfit"], one["event"]["number"]
-        steps = [str(step).replace("~", "~0").replace("/", "~1") for step in misfit["path"]]
-        if (
-            misfit["pointer"] != "/".join([f"/measurements/{number}/value", *steps])
-            or misfit["fault"] != one["event"]["fault"]
-        ):
-            yield f"event {number} doesn't fit elsewhere, or otherwise"
-        found = at_pointer(document, misfit["pointer"])
-        if (
-            (found is None and misfit["found"] not in ("nothing", "null"))
-            or isinstance(found, str)
-            and not misfit["found"].startswith('"')
-        ):
-            yield f"event {number} has no such value"
-
-
-def decimal_text(value):
-    """A decimal in its digits: cut after its millionths, with one digit after its point at least."""
-    with decimal.localcontext() as context:
-        context.prec = 400
-        millionths = int(decimal.Decimal(value) * 10**6)
-    whole, fraction = divmod(abs(millionths), 10**6)
-    return f"{'-' if millionths < 0 else ''}{whole}.{f'{fraction:06}'.rstrip('0') or '0'}"
-
-
-def form(shape, value):
-    """A measured value as JSON has it exactly, with the room that it takes, and how many levels it has."""
-    if isinstance(shape, dict) and "optional" in shape:
-        return (None, 1, 0) if value is None else form(shape["optional"], value)
-    if isinstance(shape, dict) and "list" in shape:
-        items = [form(shape["list"], item) for item in value]
-        return (
-            [item[0] for item in items],
-            sum(1 + item[1] for item in items),
-            1 + max((item[2] for item in items), default=0),
-        )
-    if isinstance(shape, dict):
-        fields = {name: form(inner, value.get(name)) for name, inner in shape["record"].items()}
-        return (
-            {name: field[0] for name, field in fields.items()},
-            sum(1 + len(name.encode()) + field[1] for name, field in fields.items()),
-            1 + max((field[2] for field in fields.values()), default=0),
-        )
-    if shape == "decimal":
-        return decimal_text(value), 1, 0
-    if shape == "whole":
-        return value if abs(value) <= 2**53 else str(value), 1, 0
-    return value, len(value.encode()) if shape == "text" else 1, 0
-
-
-def value_faults(document, whole):
-    """What is wrong with measured values as JSON has them."""
-    for one in (one for run in whole["runs"] for one in run["events"] if one["shown"] is not None):
-        number, metric = one["event"]["number"], one["event"]["metric"]
-        found, room, levels = form(document["shapes"][metric], document["measurements"][number]["value"])
-        if one["value"] != (found if room <= 256 and levels <= 8 else None):
-            yield f"event {number} has another value"
 
 
 def parts_of(program, document, whole):
@@ -368,16 +197,13 @@ def worked_document(program, path):
     return [] if got == expected else [f"expected {expected}\ngot {got}"]
 
 
-def main(words):
+def main(words: list[str]) -> int:
     program, schema, counts = built(words), validator("explain"), Counts("explain")
-    tried = [(named(path), lambda path=path: worked_document(program, path)) for path in EXPLAINED]
-    tried += [(named(path), lambda path=path: faults(program, path.read_bytes(), schema)) for path in DOCUMENTS]
-    tried += [(name, lambda case=case: worked_faults(program, case)) for name, case in worked_cases()]
-    tried += [
-        ("a long text", lambda: long_text(program)),
-        ("a long condition", lambda: long_condition(program)),
-        ("an odd name", lambda: odd_name(program)),
-    ]
+    tried: list[tuple[str, partial]] = [(named(path), partial(worked_document, program, path)) for path in EXPLAINED]
+    tried += [(named(path), partial(faults, program, path.read_bytes(), schema)) for path in DOCUMENTS]
+    tried += [(name, partial(worked_faults, program, case)) for name, case in worked_cases()]
+    for name, look in (("a long text", long_text), ("a long condition", long_condition), ("an odd name", odd_name)):
+        tried.append((name, partial(look, program)))
     for (name, _), found in zip(tried, side_by_side(lambda case: list(case[1]()), tried)):
         counts.case(name, found, SHOWN_OF_EACH)
     return counts.end()
