@@ -1,6 +1,7 @@
 """Runs that are explained, worked out again of counts and of the events in their order."""
 
 from argo_judge.engine.explanations import measured
+from checks.oracle import phases
 
 OPEN = ("Pending", "Running")
 
@@ -19,10 +20,8 @@ LIMITED = (
 
 def decided(limits, counts):
     """The phase with which a metric of these counts is complete, or None."""
-    exceeded = [phase for name, limit, phase in LIMITED if counts[name] > limits[limit]]
-    return (exceeded + ["Successful"] * (limits["count"] is not None and measured(counts) >= limits["count"]) + [None])[
-        0
-    ]
+    own = [limits[limit] for _, limit, _ in LIMITED]
+    return phases.decided([*own, limits["count"]], *(counts[name] for name, _, _ in LIMITED), measured(counts))
 
 
 def metric_faults(metric, closer):

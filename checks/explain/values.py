@@ -1,6 +1,7 @@
 """Measured values that are explained: where one doesn't fit, and what each is as JSON has it."""
 
-import decimal
+from checks.oracle.printing import shown_decimal
+from checks.oracle.shapes import read_value
 
 
 def at_pointer(document, pointer):
@@ -31,15 +32,6 @@ def misfit_faults(document, whole):
             yield f"event {number} has no such value"
 
 
-def decimal_text(value):
-    """A decimal in its digits: cut after its millionths, with one digit after its point at least."""
-    with decimal.localcontext() as context:
-        context.prec = 400
-        millionths = int(decimal.Decimal(value) * 10**6)
-    whole, fraction = divmod(abs(millionths), 10**6)
-    return f"{'-' if millionths < 0 else ''}{whole}.{f'{fraction:06}'.rstrip('0') or '0'}"
-
-
 def form(shape, value):
     """A measured value as JSON has it exactly, with the room that it takes, and how many levels it has."""
     if isinstance(shape, dict) and "optional" in shape:
@@ -59,7 +51,7 @@ def form(shape, value):
             1 + max((field[2] for field in fields.values()), default=0),
         )
     if shape == "decimal":
-        return decimal_text(value), 1, 0
+        return shown_decimal(read_value(value, shape)[1]), 1, 0
     if shape == "whole":
         return value if abs(value) <= 2**53 else str(value), 1, 0
     return value, len(value.encode()) if shape == "text" else 1, 0

@@ -1,9 +1,10 @@
 """The meaning of docs/use/language.md, read apart from the program: what a condition says of a value, or its fault."""
 
 from checks.oracle.grammar import PREDICATES
-from checks.oracle.values import Fault, arithmetic, equal, exact, in_range, ordered
+from checks.oracle.values import Fault, arithmetic, equal, exact, in_range, ordered, text_holds
 
 SIGNS = {"+": "Add", "-": "Sub", "*": "Mul", "/": "Div", "%": "Rem", "negative": "Neg"}
+TEXT_TESTS = {"contains": "Contains", "startsWith": "StartsWith", "endsWith": "EndsWith"}
 ORDERS = {"<": "Lt", "<=": "Le", ">": "Gt", ">=": "Ge"}
 
 
@@ -85,18 +86,7 @@ def answer_of(operator, first, last):
         return not first[1]
     if operator == "isNil":
         return first[0] == "nil"
-    return text_holds(operator, first[1].encode(), last[1].encode())
-
-
-def text_holds(operator, first, last):
-    """Whether the bytes of a text contain those of another one, or begin or end with them."""
-    if operator == "contains":
-        return last in first
-    if operator == "startsWith":
-        return first.startswith(last)
-    if operator == "endsWith":
-        return first.endswith(last)
-    raise ValueError(operator)
+    return text_holds(TEXT_TESTS[operator], first[1], last[1])
 
 
 def item_at(values, index):

@@ -17,20 +17,21 @@ def succession(marks):
     return count
 
 
+def decided(limits, failed, inconclusive, errors, measured):
+    """The phase with which a metric of these counts is complete, or None; errors are those in succession."""
+    for count, limit, phase in zip((failed, inconclusive, errors), limits, ("Failed", "Inconclusive", "Error")):
+        if count > limit:
+            return phase
+    return "Successful" if limits[3] is not None and measured >= limits[3] else None
+
+
 def metric_phase(limit, marks):
     """The phase of a metric after marks that weren't late, if no run closes it."""
-    failure, inconclusive, errors, count = limit[:4]
     if not marks:
         return "Pending"
-    if marks.count("Failed") > failure:
-        return "Failed"
-    if marks.count("Inconclusive") > inconclusive:
-        return "Inconclusive"
-    if succession(marks) > errors:
-        return "Error"
-    if count is not None and sum(marks.count(mark) for mark in COUNTED) >= count:
-        return "Successful"
-    return "Running"
+    measured = sum(marks.count(mark) for mark in COUNTED)
+    phase = decided(limit[:4], marks.count("Failed"), marks.count("Inconclusive"), succession(marks), measured)
+    return phase or "Running"
 
 
 def is_complete(phase):

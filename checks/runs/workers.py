@@ -16,7 +16,8 @@ import random
 from checks.harness import Counts, built, started
 from checks.oracle.bundles import read_bundle
 from checks.oracle.cautions import cautions
-from checks.oracle.phases import COUNTED, is_complete, is_dry, outcome, succession
+from checks.oracle.phases import is_complete, is_dry, outcome
+from checks.oracle.reports import event_line, metric_line
 from checks.runs.documents import KINDS, document_of, random_entry, random_limits
 
 SEED = 20240704
@@ -48,23 +49,17 @@ def numbers_of(report):
     return numbers
 
 
-def event_line(number, event, effect, verdicts):
-    if event == "stop":
-        return f"event {number} stop {effect}"
-    return f"event {number} m{event[0]} {verdicts[number]} {effect}"
-
-
 def lines_of(name, numbers, limits, entries, verdicts):
     """What the rules report of a run whose events came in this order."""
     events = [entries[number][1] for number in numbers]
-    effects, run, phases, marks = outcome(limits, events)
-    lines = [f"run {name} {run}"]
-    for metric, (phase, own) in enumerate(zip(phases, marks)):
-        counts = " ".join(f"{mark.lower()}={own.count(mark)}" for mark in (*COUNTED, "Error"))
-        dry = " dryRun" if is_dry(limits[metric]) else ""
-        lines.append(f"metric m{metric} {phase} {counts} consecutiveError={succession(own)}{dry}")
-    lines += [event_line(number, event, effect, verdicts) for number, event, effect in zip(numbers, events, effects)]
-    return lines, run
+    effects, phase, phases, marks = outcome(limits, events)
+    metrics = [{"name": f"m{number}", "dry": is_dry(limit)} for number, limit in enumerate(limits)]
+    lines = [f"run {name} {phase}"]
+    lines += [metric_line(metric, own, done) for metric, own, done in zip(metrics, phases, marks)]
+    for number, event, effect in zip(numbers, events, effects):
+        what = event if event == "stop" else (event[0], verdicts[number])
+        lines.append(event_line(number, what, effect, {"metrics": metrics}))
+    return lines, phase
 
 
 def fault_of(report, status, runs, limits, entries, verdicts):
