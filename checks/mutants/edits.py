@@ -13,6 +13,8 @@ from checks.mutants.record import PROVE, edits_of, functions
 
 GOAL = re.compile(r"^(?:note: )?(?:\./)?(src/\S+\.rt):(\d+):\d+: .*(?:is not proved|found no proof|no proof of)", re.M)
 ANSWER = re.compile(r"^(?:\./)?proofs/(\S+)/(?:Answers|Invariants)\.antt:\d+:\d+: error", re.M)
+# A function that is left without a proof, as a law is where its lemma isn't admitted.
+LEFT = re.compile(r"^fn \S+: no proof: expected answers", re.M)
 NO_PROGRAM = re.compile(r"error\[[\w-]+\]")
 KIT = pathlib.Path(subprocess.run(["rt", "doc"], capture_output=True, text=True, check=True).stdout.strip()).parent
 
@@ -113,7 +115,8 @@ class Crate:
 
     def is_refused_alone(self, edit: pathlib.Path) -> bool:
         said, _ = self.check([edit])
-        return bool(GOAL.search(said) or ANSWER.search(said)) and not NO_PROGRAM.search(said)
+        is_open = any(pattern.search(said) for pattern in (GOAL, ANSWER, LEFT))
+        return is_open and not NO_PROGRAM.search(said)
 
     def is_of_modules(self, edit: pathlib.Path) -> bool:
         """Whether an edit touches functions of modules alone; a crate's root file is no module of its own."""

@@ -3,15 +3,15 @@
     try [NAME ..]    those of the crates named, or of each crate whose record is out of date
     try --proved FOLDER [NAME ..]
                      the same, in a copy of these sources in which `rt ci` has just proved all, as the gate has one
-    try --all        those of every crate try --due        names the crates whose record is out of date and the edits
-    that don't apply, and fails where there is
+    try --all        those of every crate
+    try --due        names the crates whose record is out of date and the edits that don't apply, and fails where there is
                      one
 
 The crates and those below them are proved first, in a copy, unless one is given. Then the edits of a crate go into as
 few copies of it as they can, and a check is of the files that they touch alone. An edit counts as refused where a goal
 of its own function is open, or an answer of that function is none any more. Where another edit hides that, the edit is
-tried alone, first on the files that it touches. What isn't seen so, as of a constant, is tried alone on the whole
-crate, and any open goal counts.
+tried alone, first on the files that it touches. What isn't seen so, as of a constant or a definition, is tried alone on
+the whole crate, and any open goal counts.
 
 The record is kept as soon as a crate's edits are all refused. The edits in crates/NAME/must-fail are tried by `rt ci`;
 here it is only looked at whether they apply.
