@@ -1,5 +1,7 @@
 """What the commands write of a bundle, by docs/use/formats.md and docs/use/phases.md, read apart from the program."""
 
+from typing import Any
+
 from checks.oracle.images import image_of, listing
 from checks.oracle.meaning import meaning
 from checks.oracle.phases import COUNTED, outcome, succession
@@ -45,7 +47,7 @@ def limits_of(run):
 
 def outcomes(bundle):
     """For each run its history, by numbers and findings, and what the rules of phases say of it."""
-    histories = [[] for _ in bundle["runs"]]
+    histories: list[list[Any]] = [[] for _ in bundle["runs"]]
     for number, (run, what) in enumerate(findings(bundle)):
         histories[run].append((number, what))
     for run, history in zip(bundle["runs"], histories):
@@ -151,6 +153,17 @@ def bounds_lines(bundle):
     ]
 
 
+# How much is taken at most (docs/use/formats.md and language.md).
+LIMITS = {
+    "conditionBytes": 4096,
+    "documentBytes": 16_777_216,
+    "listItems": 10_000,
+    "measurements": 100_000,
+    "metrics": 64,
+    "runs": 64,
+}
+
+
 def bounds_object(bundle):
     """The object of `check --output json`."""
     return {
@@ -165,7 +178,8 @@ def bounds_object(bundle):
             }
             for names, ops, bounds in conditions(bundle)
         ],
-        "version": 1,
+        "limits": LIMITS,
+        "version": 2,
     }
 
 

@@ -1,5 +1,5 @@
 -- Where two texts differ that are shown alike: long texts are shown shortened.
-use Rattle.std.specs.Prelude.{◌≡◌, refl, ℕ, zero, suc, ◌==◌, Bool, not, ◌&&◌, if◌then◌else◌, List, [], ◌∷◌, ◌++◌, codes, drop, replicate, take, Option, Some, None}
+use Rattle.std.specs.Prelude.{◌≡◌, refl, ℕ, zero, suc, ◌==◌, Bool, not, ◌&&◌, if◌then◌else◌, List, [], ◌∷◌, ◌++◌, codes, drop, replicate, take, Option, Some, None, option_and_then}
 use Rattle.std.specs.Char.{encode_utf8}
 use Rattle.std.specs.Fmt.{digits}
 use Rattle.std.specs.List.{common_prefix_len, prefix_len}
@@ -64,14 +64,10 @@ abbrev pub two_texts : Value → Value → Option (Text × Text)
 two_texts (text left) (text right) = Some (left, right)
 two_texts left right = None
 
-abbrev pub apart_from : Text → Value → Option Apart
-apart_from left (text right) = apart_if_alike left right
-apart_from left right = None
-
 -- of two operands, where they are texts that differ and are shown alike
 abbrev pub operands_apart : Value → Value → Option Apart
-operands_apart (text left) right = apart_from left right
-operands_apart left right = None
+operands_apart left right =
+    option_and_then (λ (texts : Text × Text). apart_if_alike texts.0 texts.1) (two_texts left right)
 
 -- ---- worked rows
 

@@ -1,7 +1,7 @@
 //! The forms of values, made while there is room.
 
 ghost use Rattle.std.specs.Prelude.{◌≡◌, ◌+◌, IfOk, length, map, option_map, suc};
-ghost use Rattle.serde_json.specs.Data.{array, no_members, object};
+ghost use Rattle.serde_json.specs.Data.{array, no_members, object, string};
 ghost use Rattle.serde_json.specs.View.{view};
 ghost use Rattle.ar_exact.specs.Exact.{exact_whole, fields_room, form, forms, is_exact, items_room, room_of, with_fields};
 ghost use Rattle.ar_exact.specs.Private.Forming.{form_view, formed, value_there};
@@ -10,7 +10,6 @@ ghost use Rattle.ar_value.specs.DecimalShown.{decimal_text};
 ghost use Rattle.ar_value.specs.Value as values;
 ghost use Rattle.ar_value.specs.Value.{fields_from, items_of};
 ghost use Rattle.ar_value.specs.View.{fields_view, value_view};
-ghost use Rattle.serde_json.specs.Data.{string};
 
 use ar_machine::operand::borrowed::{ValueRef, value_ref};
 use ar_machine::operand::list::ListRef;

@@ -75,7 +75,7 @@ pub report_flat : (runs : List RunFacts) → depth (report_data runs) ≤ max_de
 report_flat runs = few (one_deep _ 9 (above (none_deep run_data 8 (λ run. let less = run_flat run in omega arith) runs)))
 
 pub check_flat : (conditions : List ConditionFacts) → depth (check_data conditions) ≤ max_depth
-check_flat conditions = few (one_deep _ 9 (above (none_deep condition_data 8 (λ condition. omega arith) conditions)))
+check_flat conditions = few (two_deep _ 1 9 (above (none_deep condition_data 8 (λ condition. omega arith) conditions)) (omega arith))
 
 pub answer_flat : (answer : Result Bool Fault) → depth (answer_data answer) ≤ max_depth
 answer_flat (Ok holds) = few (omega arith)

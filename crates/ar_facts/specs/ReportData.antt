@@ -3,8 +3,12 @@ use Rattle.std.specs.Prelude.{true, false, List, codes, length, map, Result, Ok,
 use Rattle.serde_json.specs.Data.{Data, boolean, member, no_members, null, object, string}
 use Rattle.ar_object.specs.Object.{array_of, count_data, count_or_null, text_or_null, version}
 use Rattle.ar_value.specs.Fault.{fault_name}
+use Rattle.ar_value.specs.Limits.{most_metrics, most_runs, most_text_bytes}
 use Rattle.ar_value.specs.Terms.{Text}
 use Rattle.ar_value.specs.declared.fault.Fault.{Fault}
+use Rattle.ar_json.specs.Declaration.{most_list_items}
+use Rattle.ar_json.specs.Document.{most_bytes}
+use Rattle.ar_limits.specs.Replay.{most_events}
 use Rattle.ar_limits.specs.declared.counts.Counts.{Counts}
 use Rattle.ar_limits.specs.declared.event.Effect.{Effect}
 use Rattle.ar_limits.specs.declared.limits.Limits.{Limits}
@@ -88,7 +92,7 @@ run_data run = run_with run.name run.phase (map metric_data run.metrics) (map ev
 abbrev pub report_data : List RunFacts → Data
 report_data runs = named_list (codes "runs") (map run_data runs)
 
--- ---- conditions
+-- ---- conditions, and what the program takes
 
 abbrev pub condition_data : ConditionFacts → Data
 condition_data condition = object
@@ -99,8 +103,21 @@ condition_data condition = object
     (member (codes "operations") (count_data (length condition.code.ops))
     (member (codes "run") (string condition.run) no_members))))))
 
+-- how much the program takes at most: of a condition, a document, a list's `max`, and a document's parts
+abbrev pub most_data : Data
+most_data = object
+    (member (codes "conditionBytes") (count_data most_text_bytes)
+    (member (codes "documentBytes") (count_data most_bytes)
+    (member (codes "listItems") (count_data most_list_items)
+    (member (codes "measurements") (count_data most_events)
+    (member (codes "metrics") (count_data most_metrics)
+    (member (codes "runs") (count_data most_runs) no_members))))))
+
 abbrev pub check_data : List ConditionFacts → Data
-check_data conditions = named_list (codes "conditions") (map condition_data conditions)
+check_data conditions = object
+    (member (codes "conditions") (array_of (map condition_data conditions))
+    (member (codes "limits") most_data
+    (member (codes "version") (count_data 2) no_members)))
 
 -- ---- what one condition says of one value
 

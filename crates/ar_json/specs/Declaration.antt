@@ -24,10 +24,13 @@ scalar_named name =
     else (if bytes_eq name (codes "text") then Ok text
     else Err UnknownShape)))
 
+abbrev pub most_list_items : ℕ
+most_list_items = 10000
+
 -- the greatest length of a list: a whole number from 0 to 10,000
 abbrev pub max_of : Option ℕ → Result ℕ ShapeError
 max_of None = Err MaxMissing
-max_of (Some max) = if nat_le max 10000 then Ok max else Err MaxTooLarge
+max_of (Some max) = if nat_le max most_list_items then Ok max else Err MaxTooLarge
 
 -- an optional shape is an object of the one name `optional`
 abbrev pub declares_optional : Data → Bool

@@ -25,7 +25,7 @@ use thiserror::Error;
 const MOST_SHAPE_LEVELS: usize = 16;
 
 /// The greatest `max` of a list.
-const MOST_LIST_ITEMS: u64 = 10_000;
+pub const MOST_LIST_ITEMS: u64 = 10_000;
 
 /// Why a JSON value declares no shape.
 #[derive(Clone, Copy, Debug, Error)]

@@ -15,13 +15,11 @@ use Rattle.ar_object.specs.Object.{count_data, count_or_null, text_or_null}
 use Rattle.ar_limits.specs.Metric.{is_complete}
 use Rattle.ar_limits.specs.declared.limits.Limits.{Limits}
 use Rattle.ar_limits.specs.declared.phase.Phase.{Phase}
-use Rattle.ar_limits.specs.declared.phase.Phase.TheVariants as phases
 use Rattle.ar_bundle.specs.Event.{EventNumber}
 use Rattle.ar_facts.specs.Facts.{MetricFacts}
-use Rattle.ar_facts.specs.Names.{phase_name}
 use Rattle.ar_facts.specs.ReportData.{event_data, limits_data}
-use Rattle.ar_facts.specs.ReportReader.{Reading, all_in, count_in, each_in, misfit_in, phase_in, string_in, unless_null}
-use Rattle.ar_report.proofs.ReadBack.{each_read, event_read, metric_read}
+use Rattle.ar_facts.specs.ReportReader.{Reading, all_in, count_in, each_in, misfit_in, string_in, unless_null}
+use Rattle.ar_report.proofs.ReadBack.{each_read, event_read, metric_read, phase_read}
 use Rattle.ar_progress.specs.Settled.{settled_by}
 use Rattle.ar_progress.specs.Waiting.{waits_for}
 use Rattle.ar_progress.specs.declared.excess.LimitName.TheVariants as limits
@@ -67,14 +65,6 @@ apart_read (Some apart) = refl
 apart_read None = refl
 
 -- ---- names
-
-phase_read : (phase : Phase) → phase_in (json.string (phase_name phase)) ≡ Ok phase
-phase_read phases.Pending = refl
-phase_read phases.Running = refl
-phase_read phases.Successful = refl
-phase_read phases.Failed = refl
-phase_read phases.Error = refl
-phase_read phases.Inconclusive = refl
 
 fault_read : (fault : ShapeFault) → misfit_in (json.string (shape_fault_name fault)) ≡ Ok fault
 fault_read misfits.WrongKind = refl

@@ -25,7 +25,7 @@ pub each_read : {A : Type 0} (read : Data → Reading A) (data_of : A → Data) 
 each_read read data_of reads [] = refl
 each_read read data_of reads (x ∷ xs) = rw (reads x, each_read read data_of reads xs) refl
 
-phase_read : (phase : Phase) → phase_in (json.string (phase_name phase)) ≡ Ok phase
+pub phase_read : (phase : Phase) → phase_in (json.string (phase_name phase)) ≡ Ok phase
 phase_read phases.Pending = refl
 phase_read phases.Running = refl
 phase_read phases.Successful = refl

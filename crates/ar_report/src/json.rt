@@ -10,7 +10,7 @@ ghost use Rattle.ar_bundle.specs.Sound.{IsRun};
 ghost use Rattle.ar_facts.specs.Facts.{check_facts, facts_of_metrics, report_facts, run_facts};
 ghost use Rattle.ar_facts.specs.Private.Entries.{AreFound, facts_of_entries};
 ghost use Rattle.ar_report.specs.Private.Shown.{condition_seen, conditions_seen};
-ghost use Rattle.ar_facts.specs.ReportData.{answer_data, check_data, condition_data, event_data, metric_data, report_data, run_data};
+ghost use Rattle.ar_facts.specs.ReportData.{answer_data, check_data, condition_data, event_data, metric_data, most_data, report_data, run_data};
 ghost use Rattle.ar_object.specs.Line.{IsJsonLine};
 ghost use Rattle.ar_object.specs.Object.{array_of};
 ghost use Rattle.ar_object.specs.Written.{AddsMember, AddsValue};
@@ -18,10 +18,16 @@ ghost use Rattle.ar_object.specs.Written.{AddsMember, AddsValue};
 use crate::conditions::{NamedCondition, conditions};
 use ar_bundle::{Bundle, Entry, Finished, MetricPart, RunPart};
 use ar_facts::{phase_name, write_event, write_metric};
-use ar_limits::{Limits, RunState};
+use ar_json::document::MOST_BYTES;
+use ar_json::shape_reading::MOST_LIST_ITEMS;
+use ar_limits::{Limits, MOST_EVENTS, RunState};
 use ar_object::{JsonText, VERSION};
 use ar_value::Fault;
+use ar_value::limits::{MOST_METRICS, MOST_RUNS, MOST_TEXT_BYTES};
 use std::alloc::{AllocError, Global};
+
+/// The version of the form of [`check_json`].
+const CHECK_VERSION: u64 = 2;
 
 // ---- runs
 
@@ -141,8 +147,22 @@ fn put_conditions(json: &mut JsonText, conditions: &[NamedCondition<'_>])
     json.end_list()
 }
 
+/// Writes how much the program takes at most.
+fn write_most(json: &mut JsonText)
+    ensures { AddsValue most_data json.old.written json.new.written }
+{
+    json.begin_object();
+    json.put_count("conditionBytes", MOST_TEXT_BYTES as u64);
+    json.put_count("documentBytes", MOST_BYTES as u64);
+    json.put_count("listItems", MOST_LIST_ITEMS);
+    json.put_count("measurements", MOST_EVENTS);
+    json.put_count("metrics", MOST_METRICS as u64);
+    json.put_count("runs", MOST_RUNS as u64);
+    json.end_object()
+}
+
 /// The bounds of each condition of a bundle as one JSON object, with the facts of
-/// [`check_text`](crate::check_text).
+/// [`check_text`](crate::check_text), and how much the program takes.
 ///
 /// # Errors
 ///
@@ -154,7 +174,9 @@ pub fn check_json(alloc: Global, bundle: &Bundle) -> Result<String, AllocError>
     let mut json = JsonText::new(alloc);
     json.begin_object();
     put_conditions(&mut json, &found);
-    json.put_count("version", VERSION);
+    json.put_key("limits");
+    write_most(&mut json);
+    json.put_count("version", CHECK_VERSION);
     json.end_object();
     json.finish()
 }

@@ -95,7 +95,7 @@ pub record IsTooSmall (number : ℕ) (input before after : Bytes) (written : ℕ
   pub answer : IsAnswer number (command_of number) input text status
   pub left : IsLeft text before after written
 
--- a command was carried out on an input, with a buffer for the answer
+-- a command was carried out on an input, with a buffer for the answer; memory may be refused to any call
 pub record HasRun (number : ℕ) (input before after : Bytes) (written status : ℕ) : Type 0 where
   pub memory : status ≡ 3 → IsOutOfMemory before after written
   pub small : status ≡ 4 → IsTooSmall number input before after written
