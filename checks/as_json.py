@@ -11,6 +11,7 @@ that Python's json writes. The last line counts what came so.
 """
 
 import json
+import sys
 
 from argo_judge.engine.reports import text_of
 from checks.data import EXAMPLES, canonical
@@ -223,3 +224,7 @@ def main(words: list[str]) -> int:
     counts.case("warnings of odd names", warned_faults(program), SHOWN_OF_EACH)
     counts.case("a long report", long_faults(program), SHOWN_OF_EACH)
     return counts.end()
+
+
+if __name__ == "__main__":
+    sys.exit(main(sys.argv[1:]))

@@ -10,7 +10,10 @@ answers. The last line has the counts, and the status is 0 where none failed.
 """
 
 import json
+import pathlib
 import re
+import sys
+from collections.abc import Iterator
 from typing import NamedTuple
 
 from checks.data import files_of_conditions, files_of_suite, numbered_lines
@@ -30,20 +33,20 @@ class Case(NamedTuple):
     name: str = ""
     is_condition: bool = False
 
-    def is_right(self, got):
+    def is_right(self, got: str) -> bool:
         if not self.is_condition:
             return got == self.answer
         ended = ENDED.fullmatch(got)
         return ended is not None and ended[1] == self.answer
 
 
-def suite_cases_of(path):
+def suite_cases_of(path: pathlib.Path) -> Iterator[Case]:
     for number, line in numbered_lines(path):
         case = json.loads(line)
         yield Case(number, line, case["answer"], case.get("name", ""))
 
 
-def condition_cases_of(path):
+def condition_cases_of(path: pathlib.Path) -> Iterator[Case]:
     """The documents that have an answer; numbers stay as they are written."""
     for number, line in numbered_lines(path):
         document = json.loads(line)
@@ -55,17 +58,17 @@ def condition_cases_of(path):
             yield Case(number, f'{about[:-1]},"values":[{value}]}}', document["answer"], is_condition=True)
 
 
-def shown(text):
+def shown(text: str) -> str:
     return text if len(text) <= SHOWN else f"{text[:SHOWN]}.. ({len(text)} characters)"
 
 
-def otherwise(name, case, got):
+def otherwise(name: str, case: Case, got: str) -> str:
     """A case that is answered otherwise, as some lines."""
     title = f" ({case.name})" if case.name else ""
     return f"{name}:{case.number}{title}\n  expected {shown(case.answer)}\n  got      {shown(got)}"
 
 
-def look_at(counts, program, path, cases):
+def look_at(counts: Counts, program: pathlib.Path, path: pathlib.Path, cases: list[Case]) -> None:
     """Holds the program to the cases of a file; those that it leaves out have failed."""
     got, fault = printed(program, [case.line for case in cases])
     for case, answer in zip(cases, got):
@@ -82,3 +85,7 @@ def main(words: list[str]) -> int:
     for path in files_of_conditions():
         look_at(counts, program, path, list(condition_cases_of(path)))
     return counts.end()
+
+
+if __name__ == "__main__":
+    sys.exit(main(sys.argv[1:]))

@@ -7,6 +7,7 @@ status is 0 where something passed and nothing failed.
 import os
 import pathlib
 import resource
+import shutil
 import subprocess
 import sys
 from collections.abc import Callable, Iterable, Sequence
@@ -102,6 +103,18 @@ def started(
     """The same, with what was written as text."""
     ended = started_in_bytes(command, data, seconds, megabytes, **more)
     return Ended(ended.status, decoded(ended.output), decoded(ended.errors))
+
+
+def python_with(*modules: str) -> str | None:
+    """A Python from 3.11 on that has these modules: this one, that of the PATH, or the system's; None without one."""
+    has_all = f"all(map(importlib.util.find_spec, {modules})) and sys.version_info >= (3, 11)"
+    for python in (sys.executable, shutil.which("python3"), "/usr/bin/python3"):
+        if python and shutil.which(python):
+            words = [python, "-c", f"import importlib.util, sys; print({has_all}, sys.executable)"]
+            answer = subprocess.run(words, stdout=subprocess.PIPE, text=True, check=False).stdout.strip()
+            if answer.startswith("True "):
+                return answer.removeprefix("True ")
+    return None
 
 
 def loaded(path: pathlib.Path) -> ModuleType:

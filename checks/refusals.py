@@ -13,6 +13,7 @@ none failed.
 import collections
 import json
 import re
+import sys
 
 from checks import ROOT
 from checks.data import EXAMPLES, cases_of, files_of_conditions, files_of_suite, numbered_lines
@@ -117,7 +118,7 @@ def declarations():
 
 def error_of(text, begin):
     """The name of the second type between the angle brackets that were opened before a place."""
-    depth, comma = 0, None
+    depth, comma = 0, 0
     for place in range(begin, len(text)):
         character = text[place]
         if character == ">" and depth == 0:
@@ -254,3 +255,7 @@ def main(words: list[str]) -> int:
     for fault in long_lines():
         counts.expect(False, fault)
     return counts.end()
+
+
+if __name__ == "__main__":
+    sys.exit(main(sys.argv[1:]))

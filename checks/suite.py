@@ -1,6 +1,9 @@
 """Runs the program of the conformance suite on cases, line by line."""
 
+import pathlib
 import tempfile
+from collections.abc import Iterable
+from typing import Any
 
 from checks.data import compact
 from checks.harness import NO_END, started
@@ -8,7 +11,7 @@ from checks.harness import NO_END, started
 SECONDS = 120
 
 
-def printed(program, lines, seconds=SECONDS):
+def printed(program: pathlib.Path, lines: list[str], seconds: float = SECONDS) -> tuple[list[str], str | None]:
     """What the program prints for cases, and what it says where it doesn't answer all.
 
     Input and output are files: over pipes each answer would wake this process.
@@ -26,7 +29,7 @@ def printed(program, lines, seconds=SECONDS):
     return answers, f"status {ended.status}, {len(answers)} answers to {len(lines)} cases: {ended.errors.strip()}"
 
 
-def each_printed(program, lines):
+def each_printed(program: pathlib.Path, lines: list[str]) -> list[str]:
     """The answers to cases; where the program doesn't answer all, each in a run of its own."""
     answers, fault = printed(program, lines)
     if fault is None:
@@ -38,5 +41,5 @@ def each_printed(program, lines):
     return found
 
 
-def answers_to(program, cases):
+def answers_to(program: pathlib.Path, cases: Iterable[Any]) -> list[str]:
     return each_printed(program, [compact(case) for case in cases])

@@ -2,7 +2,7 @@
 
 from itertools import product
 
-from checks.codes.parts import IS_NIL, ITEM, LIST_3, LOAD, NIL, NOT, RETURN, TRUE, nested, shifted, whole
+from checks.codes.parts import IS_NIL, ITEM, LIST_3, LOAD, NIL, NOT, RETURN, TRUE, Codes, nested, shifted, whole
 from checks.oracle.operations import ENTERS, MIXED, PLAIN
 from checks.oracle.values import Fault, arithmetic, exact, ordered
 
@@ -84,7 +84,7 @@ def every(tests, count):
 
 def numbers():
     """Arithmetic and orders on edges, each answer true where all is right; and with a fault after that."""
-    codes = []
+    codes: Codes = []
     for name in ARITHMETIC:
         cases = list(computed(name))
         good = [test for test, faults in cases if not faults]

@@ -1,5 +1,8 @@
 """Random changes of code."""
 
+from collections.abc import Callable
+from typing import Any
+
 from checks.codes.shapes import DECIMALS, TEXTS_2, WHOLES
 from checks.oracle.operations import ENTERS, ENTERS_1, JUMPS, PLAIN, SCALARS, STEPS, STEPS_1, TEXT_TESTS, has_place
 
@@ -13,7 +16,7 @@ def random_op(random, ops, place, version):
     """One operation, of any sort."""
     loops = ENTERS_1 + STEPS_1 if version == 1 else ENTERS + STEPS
     near = max(0, place + random.choice((-2, -1, 1, 1, 2, 2, 3, 4, 6)))
-    sorts = (
+    sorts: tuple[Callable[[], tuple[Any, ...]], ...] = (
         lambda: (random.choice(JUMPS), near),
         lambda: (random.choice(loops), near),
         lambda: (random.choice(list(PLAIN)),),

@@ -6,7 +6,23 @@ Each member is a shape and its operations.
 from checks.codes.arithmetic import numbers, orders
 from checks.codes.limits import budgets, heights, stacks
 from checks.codes.meetings import meetings, members, nils
-from checks.codes.parts import FALSE, IN, IS_NIL, ITEM, LAST_PLACE, LIST_3, LOAD, NIL, NOT, RETURN, TRUE, nested, whole
+from checks.codes.parts import (
+    FALSE,
+    IN,
+    IS_NIL,
+    ITEM,
+    LAST_PLACE,
+    LIST_3,
+    LOAD,
+    NIL,
+    NOT,
+    RETURN,
+    TRUE,
+    Codes,
+    Op,
+    nested,
+    whole,
+)
 from checks.oracle.operations import ENTERS_1, JUMPS, SCALARS, STEPS_1, partner
 
 
@@ -16,7 +32,7 @@ def empty():
 
 def jumps():
     """Places outside, backward and at the limit, for each operation that has one."""
-    codes = []
+    codes: Codes = []
     for name in JUMPS:
         for place in (0, 1, 2, 3, 4, LAST_PLACE):
             codes.append(("bool", [LOAD, (name, place), TRUE, RETURN]))
@@ -39,7 +55,7 @@ def paired(enter, step):
 
 def mispaired(enters):
     """Steps that name another place than their Enter's, or come before it."""
-    codes = []
+    codes: Codes = []
     for enter in enters:
         codes.append((LIST_3, [LOAD, (enter, 3), TRUE, (partner(enter), 0), RETURN]))
         codes.append((LIST_3, [LOAD, LOAD, (enter, 4), TRUE, (partner(enter), 1), RETURN]))
@@ -49,7 +65,7 @@ def mispaired(enters):
 
 def loops():
     """Loops to the greatest depth and beyond, and side by side there."""
-    codes = []
+    codes: Codes = []
     for names in ("All All All All", "Any All Count Filter", "Filter Filter Any Count", "Count Any Filter All"):
         four = names.split()
         codes.append((LIST_3, nested(four, [TRUE]) + [IS_NIL, RETURN]))
@@ -65,7 +81,7 @@ def loops():
 def crossings():
     """Jumps into, out of and between loops, loops across one another, Return in a loop."""
     body = [LOAD, ("AllEnter", 5), TRUE, ("BranchFalse", 4), TRUE, ("AllStep", 1), RETURN]
-    codes = []
+    codes: Codes = []
     for name in JUMPS:
         for place in (2, 3, 4, 5, 6):
             codes.append((LIST_3, body[:3] + [(name, place)] + body[4:]))
@@ -110,7 +126,7 @@ def endings():
 
 def floors():
     """Bodies that would take what lies below them, and items outside of loops."""
-    takers = [
+    takers: list[list[Op]] = [
         [NOT],
         [TRUE, ("EqBool",)],
         [IS_NIL],
@@ -124,9 +140,9 @@ def floors():
         [ITEM, IS_NIL],
         [IN],
     ]
-    codes = []
+    codes: Codes = []
     for taker in takers:
-        ops = [TRUE, LOAD, ("AllEnter", None)] + taker
+        ops: list[Op] = [TRUE, LOAD, ("AllEnter", None), *taker]
         if len(taker) == 1 and taker[0][0] in JUMPS:
             ops += [TRUE]
         ops[2] = ("AllEnter", len(ops))
@@ -139,14 +155,14 @@ def floors():
 
 def kinds():
     """Each operation of kinds, on operands of each sort."""
-    pushes = {
+    pushes: dict[str, Op] = {
         "bool": TRUE,
         "whole": whole(4),
         "decimal": ("PushDecimal", 2_500_000),
         "text": ("PushText", "a"),
         "nil": NIL,
     }
-    codes = []
+    codes: Codes = []
     for kind in SCALARS:
         for other in pushes.values():
             shape = ("optional", kind)

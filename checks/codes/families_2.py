@@ -4,7 +4,22 @@ from itertools import product
 
 from checks.codes.arithmetic import all_of, every
 from checks.codes.families import jumps_of_loops, mispaired, paired
-from checks.codes.parts import FALSE, IN, IS_NIL, ITEM, LIST_3, LOAD, NIL, NOT, RETURN, TRUE, nested, shifted, whole
+from checks.codes.parts import (
+    FALSE,
+    IN,
+    IS_NIL,
+    ITEM,
+    LIST_3,
+    LOAD,
+    NIL,
+    NOT,
+    RETURN,
+    TRUE,
+    Codes,
+    nested,
+    shifted,
+    whole,
+)
 from checks.oracle.operations import ENTERS, ENTERS_1, STEPS, STEPS_1, TEXT_TESTS, partner
 from checks.oracle.values import text_holds
 
@@ -25,10 +40,10 @@ def pairs_2():
 
 def loops_2():
     """The new loops in one another, to the greatest depth and beyond, and over nothing."""
-    codes = []
+    codes: Codes = []
     for names in ("None One None One", "One One One One", "All None One Any", "Filter One Count None"):
-        for more in ([], ["One"], ["None", "Filter"]):
-            codes.append((LIST_3, nested(names.split() + more, [TRUE]) + [IS_NIL, RETURN]))
+        for more in ("", "One", "None Filter"):
+            codes.append((LIST_3, nested([*names.split(), *more.split()], [TRUE]) + [IS_NIL, RETURN]))
     for name in ("None", "One"):
         codes.append((("list", "whole", 0), nested([name], [TRUE]) + [RETURN]))
         codes.append((("list", "whole", 0), nested([name], [FALSE]) + [RETURN]))
@@ -46,7 +61,7 @@ def decided_2():
     some = ("list", ("optional", "bool"), 4)
     small = ("list", "whole", 5)
     quotient = [whole(10), ITEM, ("DivW",), ("PushDecimal", 4_000_000), ("GtD",)]
-    codes = []
+    codes: Codes = []
     for name in ("None", "One"):
         codes.append((("list", "bool", 4), nested([name], [ITEM]) + [RETURN]))
         codes.append((some, nested([name], [ITEM, ("Need",)]) + [RETURN]))
@@ -60,7 +75,7 @@ def decided_2():
 
 def bodies_2():
     """Bodies of the new loops that cross them, take what lies below, or leave too much."""
-    codes = []
+    codes: Codes = []
     for enter in ENTERS_2:
         step = partner(enter)
         codes.append((LIST_3, [LOAD, (enter, 3), RETURN, (step, 1), RETURN]))
@@ -79,7 +94,7 @@ def bodies_2():
 
 def texts_2():
     """Each test on texts of which one is a part of the other or isn't, each answer true where all is right."""
-    codes = []
+    codes: Codes = []
     for name in TEXT_TESTS:
         tests = []
         for one, other in product(TEXTS, repeat=2):
@@ -97,7 +112,7 @@ def texts_2():
 def kinds_2():
     """The tests of texts on operands of each kind, and on too few."""
     pushes = (TRUE, whole(4), ("PushDecimal", 2_500_000), text("a"), NIL, LOAD)
-    codes = []
+    codes: Codes = []
     for name in TEXT_TESTS:
         for one, other in product(pushes, repeat=2):
             codes.append((("optional", "text"), [one, other, (name,), RETURN]))

@@ -4,76 +4,16 @@ Of version 1 there are the operations that images of version 1 have, of version 
 a seed stays as it is.
 """
 
+from typing import Any
+
 from checks.codes.shapes import literals
-from checks.oracle.kinds import is_list, is_optional, is_record
+from checks.codes.writing import Code, Label
+from checks.oracle.kinds import is_list
 from checks.oracle.operations import PLAIN, SCALARS, TEXT_TESTS
 
 
-class Label:
-    """A place that is known once its code is written."""
-
-    def __init__(self):
-        self.place = None
-
-
-class Writer:
+class Writer(Code):
     """Writes random code that leaves an operand of a wanted kind."""
-
-    def __init__(self, random, shape, version):
-        self.random = random
-        self.shape = shape
-        self.version = version
-        self.ops = []
-        self.items = []
-
-    def put(self, name, *fields):
-        self.ops.append((name,) + fields)
-
-    def here(self, label):
-        label.place = len(self.ops)
-
-    def finished(self):
-        return [
-            op[:1] + tuple(field.place if isinstance(field, Label) else field for field in op[1:]) for op in self.ops
-        ]
-
-    def chance(self, share):
-        return self.random.random() < share
-
-    # What can be reached from the shape and the item by fields and indexes
-
-    def reach(self, wanted):
-        """Writes a way to a part of a kind that is wanted, if one is found in a few attempts."""
-        for _ in range(12):
-            start = len(self.ops)
-            if wanted(self.walk()):
-                return True
-            del self.ops[start:]
-        return False
-
-    def walk(self):
-        kind = self.shape
-        if self.items and self.chance(0.75):
-            kind = self.items[-1]
-            self.put("Item")
-        else:
-            self.put("LoadResult")
-        while self.chance(0.75):
-            if is_optional(kind):
-                self.put("Need")
-                kind = kind[1]
-            elif is_record(kind) and kind[1]:
-                name, kind = self.random.choice(kind[1])
-                self.put("Field", name)
-            elif is_list(kind):
-                self.put("PushWhole", self.random.choice((0, 0, -1, 1)))
-                self.put("Index")
-                kind = kind[1]
-            else:
-                break
-        return kind
-
-    # Operands by kind
 
     def write(self, kind, depth):
         """Leaves an operand of just this scalar kind."""
@@ -265,8 +205,13 @@ class Writer:
         """Leaves a list and answers its item's kind."""
         choice = self.random.randrange(6)
         if choice < 4 or len(self.items) >= 4:
-            found = []
-            if self.reach(lambda kind: is_list(kind) and not found.append(kind[1])):
+            found: list[Any] = []
+
+            def is_wanted(kind: Any) -> bool:
+                found.extend([kind[1]] if is_list(kind) else [])
+                return bool(is_list(kind))
+
+            if self.reach(is_wanted):
                 return found[-1]
         kind = self.random.choice(SCALARS)
         if choice == 4 and depth > 0 and len(self.items) < 4:
@@ -278,7 +223,7 @@ class Writer:
         return kind
 
     def filtered(self, depth):
-        found = []
+        found: list[Any] = []
         self.loop("Filter", depth, found)
         return found[0]
 

@@ -11,6 +11,8 @@ from checks.codes.parts import (
     NOT,
     RETURN,
     TRUE,
+    Codes,
+    Op,
     drop_bool,
     nested,
     shifted,
@@ -39,14 +41,14 @@ def heights():
 
 def stacks():
     """Operands to the greatest depth and beyond."""
-    codes = []
+    codes: Codes = []
     for count in (63, 64, 65, 70):
         codes.append(("bool", [TRUE] * count + [RETURN]))
         codes.append(
             (LIST_3, [whole(5)] * (count - 1) + [LOAD, ("AllEnter", count + 2), TRUE, ("AllStep", count), RETURN])
         )
         codes.append((LIST_3, [NIL] * (count - 1) + [TRUE, ("AndJump", count + 2), FALSE, RETURN]))
-        inside = [TRUE, LOAD, ("AllEnter", None)] + [TRUE] * (count - 1)
+        inside: list[Op] = [TRUE, LOAD, ("AllEnter", None)] + [TRUE] * (count - 1)
         inside += [drop_bool(len(inside) + more) for more in range(count - 2)]
         inside[2] = ("AllEnter", len(inside))
         codes.append((LIST_3, inside + [("AllStep", 2), RETURN]))
@@ -61,7 +63,7 @@ def stacks():
 def budgets():
     """Budgets at the limit, one below and above it, and far beyond what 64 bits hold."""
     large = ("list", "bool", 10_000)
-    codes = []
+    codes: Codes = []
     for inner in (11, 12, 13):
         codes += exact_budgets(inner)
     for names in (["All"], ["Any", "All"], ["Count", "All", "Any"], ["All", "Filter", "Count", "Any"]):
@@ -93,7 +95,7 @@ def branch_budgets(large):
     """The more expensive of two ways, where the cheap one is the longer or the last."""
     expensive = [TRUE, LOAD, IN]
     cheap = [TRUE, NOT, NOT, NOT, NOT, NOT]
-    codes = []
+    codes: Codes = []
     for first, second in ((expensive, cheap), (cheap, expensive), (expensive, expensive), (cheap, cheap)):
         ops = [TRUE, ("BranchFalse", 3 + len(first))] + first + [("Jump", 3 + len(first) + len(second))] + second
         codes.append((large, ops + [RETURN]))

@@ -6,6 +6,7 @@ What is expected is worked out by checks.oracle, which knows nothing of the prog
 """
 
 import itertools
+import sys
 
 from checks.data import CONFORMANCE, compact
 from checks.oracle.images import decode, encode, image_of, resolved
@@ -113,3 +114,7 @@ def main(words: list[str]) -> int:
         for code in CODES:
             output.writelines(f"{line}\n" for line in lines(*code))
     return 0
+
+
+if __name__ == "__main__":
+    sys.exit(main(sys.argv[1:]))

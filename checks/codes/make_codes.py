@@ -11,6 +11,8 @@ time.
 
 import collections
 import random
+import sys
+from typing import Any
 
 from checks.codes.changes import changed
 from checks.codes.families import families
@@ -97,7 +99,7 @@ def is_rich(ops):
 
 def written(source, count, make, version):
     """Codes of one way to make them, no longer than is good; three of four have a loop or a shared end."""
-    codes = []
+    codes: list[Any] = []
     while len(codes) < count:
         shape = any_shape(source, version)
         ops = make(shape)
@@ -114,7 +116,7 @@ def mutants(source, count, tries, version):
         ops = changed(source, ops, version)
         if 0 < len(ops) <= LONGEST:
             found[verify(ops, shape)[0]].append((shape, ops))
-    codes = []
+    codes: list[Any] = []
     while len(codes) < count:
         for reason in sorted(found):
             if found[reason]:
@@ -123,7 +125,7 @@ def mutants(source, count, tries, version):
 
 
 def sampled(source, members_of, samples):
-    codes = []
+    codes: list[Any] = []
     for name, members in members_of.items():
         codes += source.sample(members, samples.get(name, len(members)))
     return codes
@@ -198,3 +200,7 @@ def main(words: list[str]) -> int:
         output.write(HEAD)
         output.writelines(f"{text}\n" for text in lines)
     return 0
+
+
+if __name__ == "__main__":
+    sys.exit(main(sys.argv[1:]))

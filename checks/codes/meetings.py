@@ -1,6 +1,6 @@
 """Families of kinds that meet: at the end of jumps, in lists, and in the place of nil."""
 
-from checks.codes.parts import FALSE, IN, IS_NIL, ITEM, LIST_3, LOAD, NIL, NOT, RETURN, TRUE, whole
+from checks.codes.parts import FALSE, IN, IS_NIL, ITEM, LIST_3, LOAD, NIL, NOT, RETURN, TRUE, Codes, Op, whole
 from checks.oracle.operations import SCALARS
 
 
@@ -21,7 +21,7 @@ def meetings():
         (deep, [(("Field", name),) for name in ("a", "b", "c")] + [None]),
         (scalars, [(("Field", name),) for name in ("d", "w", "x")] + [None]),
     ]
-    codes = []
+    codes: Codes = []
     for shape, ways in operands:
         for one in ways:
             for other in ways:
@@ -33,7 +33,7 @@ def meetings():
 def nils():
     """Nil in one branch and a plain operand in the other, taken as plain, unwrapped, or tested."""
     three = [whole(1), whole(2), ("MakeList", "whole", 2)]
-    users = (
+    users: tuple[tuple[list[Op], list[Op]], ...] = (
         ([whole(1)], [whole(2), ("AddW",), IS_NIL]),
         ([whole(1)], [("Need",), whole(2), ("AddW",), IS_NIL]),
         ([whole(1)], [whole(1), ("EqNumber",)]),
@@ -44,7 +44,7 @@ def nils():
         (three, [("Need",), ("Len",), IS_NIL]),
         ([NIL], [("Need",), IS_NIL]),
     )
-    codes = []
+    codes: Codes = []
     for plain, user in users:
         for first, second in (([NIL], plain), (plain, [NIL])):
             ops = [LOAD, ("BranchFalse", 3 + len(first))] + first + [("Jump", 3 + len(first) + len(second))]
@@ -55,7 +55,7 @@ def nils():
 def members():
     """IsIn of an operand of one kind in a list of another, and of nil."""
     pushes = {"bool": TRUE, "whole": whole(2), "decimal": ("PushDecimal", 2_000_000), "text": ("PushText", "b")}
-    codes = []
+    codes: Codes = []
     for kind in SCALARS:
         codes.append(("bool", [NIL, pushes[kind], ("MakeList", kind, 1), IN, RETURN]))
         for other in SCALARS:

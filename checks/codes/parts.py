@@ -1,17 +1,22 @@
 """Operations that families of code are made of."""
 
+from typing import Any, TypeAlias
+
 from checks.oracle.operations import has_place
 
-TRUE = ("PushBool", True)
-FALSE = ("PushBool", False)
-NIL = ("PushNil",)
-LOAD = ("LoadResult",)
-ITEM = ("Item",)
-NOT = ("Not",)
-IN = ("IsIn",)
-IS_NIL = ("IsNil",)
-RETURN = ("Return",)
-LIST_3 = ("list", "whole", 3)
+# An operation and its fields; code with the shape that it is for.
+Op: TypeAlias = tuple[Any, ...]
+Codes: TypeAlias = list[tuple[Any, list[Op]]]
+TRUE: Op = ("PushBool", True)
+FALSE: Op = ("PushBool", False)
+NIL: Op = ("PushNil",)
+LOAD: Op = ("LoadResult",)
+ITEM: Op = ("Item",)
+NOT: Op = ("Not",)
+IN: Op = ("IsIn",)
+IS_NIL: Op = ("IsNil",)
+RETURN: Op = ("Return",)
+LIST_3: Any = ("list", "whole", 3)
 LAST_PLACE = 2**32 - 1
 
 

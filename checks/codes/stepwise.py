@@ -4,6 +4,8 @@ It makes what no condition is compiled to: jumps that share an end, operands tha
 the middle, loops whose bodies branch.
 """
 
+from typing import Any
+
 from checks.codes.shapes import DECIMALS, WHOLES, literals
 from checks.oracle.kinds import is_list, is_optional, is_record, merge
 from checks.oracle.operations import ENTERS, ENTERS_1, EQUAL, MIXED, PLAIN, SCALARS, TEXT_TESTS
@@ -22,7 +24,7 @@ class Stepwise:
         self.shape = shape
         self.version = version
         self.ops = []
-        self.kinds = ()
+        self.kinds: Any = ()
         self.waiting = []  # [the jumps' places, the kinds at their target, how many loops hold it]
         self.loops = []  # (place of the Enter, kinds below, the list's kind)
 

@@ -5,7 +5,9 @@ touches: those in which what was added before, an example each, appears by name.
     tests/docs/additions --write    writes the tables
 """
 
+import pathlib
 import re
+import sys
 
 from checks import ROOT
 from checks.docs.made import held
@@ -24,19 +26,19 @@ EXAMPLES = {
 PASSED = re.compile(r"\s*(//|--|(pub )?(ghost )?use |(pub )?mod )")
 
 
-def said(path):
+def said(path: pathlib.Path) -> str:
     lines = path.read_text(encoding="utf-8").splitlines()
     return "\n".join(line for line in lines if not PASSED.match(line))
 
 
-def sources():
+def sources() -> dict[pathlib.Path, str]:
     """What each file of the crates says, by its path."""
     files = [path for part in ("src", "specs", "proofs") for path in (ROOT / "crates").glob(f"*/{part}/**/*")]
     return {path: said(path) for path in sorted(files) if path.suffix in (".rt", ".antt")}
 
 
-def rows(pattern, texts):
-    crates = {}
+def rows(pattern: str, texts: dict[pathlib.Path, str]) -> list[str]:
+    crates: dict[str, list[str]] = {}
     for path, text in texts.items():
         if re.search(pattern, text, flags=re.M):
             crate, *below = path.relative_to(ROOT / "crates").with_suffix("").parts
@@ -44,7 +46,7 @@ def rows(pattern, texts):
     return [f"| `{crate}` | {', '.join(files)} |" for crate, files in crates.items()]
 
 
-def written(page):
+def written(page: str) -> str:
     """The page with the tables that it has to have."""
     lines, texts = page.splitlines(), sources()
     for title, pattern in EXAMPLES.items():
@@ -56,3 +58,7 @@ def written(page):
 
 def main(words: list[str]) -> int:
     return held("additions", PAGE, written(PAGE.read_text(encoding="utf-8")), words, "tests/docs/additions")
+
+
+if __name__ == "__main__":
+    sys.exit(main(sys.argv[1:]))

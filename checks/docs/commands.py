@@ -23,10 +23,12 @@ import os
 import pathlib
 import shutil
 import subprocess
+import sys
 import tempfile
+from collections.abc import Iterator
 
 from checks import ROOT
-from checks.docs.pages import PAGES, blocks_of, broken_links, unordered_runs
+from checks.docs.pages import PAGES, Block, blocks_of, broken_links, unordered_runs
 from checks.docs.providers import wrong_rows
 from checks.harness import ENGINE, Counts, built, named, side_by_side
 
@@ -47,7 +49,7 @@ EXCUSED = {
 }
 
 
-def scratch_copy(folder, engine):
+def scratch_copy(folder: pathlib.Path, engine: pathlib.Path) -> None:
     """A copy of what isn't code of crates, with the program as just built, so that nothing is proved."""
     listed = subprocess.run(
         ["git", "ls-files", "-z", "--cached", "--others", "--exclude-standard", "--", ".", ":!crates"],
@@ -68,7 +70,7 @@ def scratch_copy(folder, engine):
     (folder / "home/.local/bin").mkdir(parents=True)
 
 
-def environment_of(folder):
+def environment_of(folder: pathlib.Path) -> dict[str, str]:
     return {
         "PATH": f"{folder}/recipes/tests/bin:{folder}/home/.local/bin:{os.environ['PATH']}",
         "HOME": f"{folder}/home",
@@ -80,7 +82,7 @@ def environment_of(folder):
     }
 
 
-def run(folder, text, *options, stderr):
+def run(folder: pathlib.Path, text: str, *options: str, stderr: int) -> "subprocess.CompletedProcess[str]":
     return subprocess.run(
         ["bash", *options, "-c", text],
         cwd=folder,
@@ -92,13 +94,13 @@ def run(folder, text, *options, stderr):
     )
 
 
-def excuse_of(line):
+def excuse_of(line: str) -> str | None:
     return next((begin for begin in EXCUSED if line.startswith(begin)), None)
 
 
-def commands_of(lines):
+def commands_of(lines: list[str]) -> list[tuple[str, list[str]]]:
     """The command lines of a `console` block, each with the lines that it writes."""
-    commands = []
+    commands: list[tuple[str, list[str]]] = []
     for line in lines:
         if line.startswith("$ "):
             commands.append((line[2:], []))
@@ -109,7 +111,7 @@ def commands_of(lines):
     return commands
 
 
-def faults_of_console(block, folder):
+def faults_of_console(block: Block, folder: pathlib.Path) -> Iterator[str]:
     if not block.lines or not block.lines[0].startswith("$ "):
         yield "expected `$ ` and a command line first"
     for command, shown in commands_of(block.lines):
@@ -118,7 +120,7 @@ def faults_of_console(block, folder):
             yield f"{command}\n  writes\n{wrote}"
 
 
-def faults_of_sh(block, folder, used):
+def faults_of_sh(block: Block, folder: pathlib.Path, used: set[str | None]) -> Iterator[str]:
     lines = [line for line in block.lines if excuse_of(line) is None]
     used.update(excuse_of(line) for line in block.lines)
     text = "\n".join(["trap 'status=$?; [ $status = 1 ] || exit $status' ERR", *lines])
@@ -127,7 +129,7 @@ def faults_of_sh(block, folder, used):
         yield f"status {ended.returncode}\n{ended.stderr}"
 
 
-def is_missing(block, need):
+def is_missing(block: Block, need: str) -> bool:
     """Whether what a block needs isn't installed; then a line says that it is left out."""
     if importlib.util.find_spec(NEEDS[need]) is not None:
         return False
@@ -135,7 +137,7 @@ def is_missing(block, need):
     return True
 
 
-def faults_of(block, folder, used):
+def faults_of(block: Block, folder: pathlib.Path, used: set[str | None]) -> Iterator[str]:
     """What is wrong with a block, which is run."""
     if "file" in block.notes:
         (folder / block.notes["file"]).write_text("".join(f"{line}\n" for line in block.lines), encoding="utf-8")
@@ -155,7 +157,7 @@ def faults_of(block, folder, used):
         yield f"expected the language sh or console, or {' or '.join(sorted(DATA))} of what is no command"
 
 
-def checked_page(path, engine, used):
+def checked_page(path: pathlib.Path, engine: pathlib.Path, used: set[str | None]) -> Iterator[tuple[str, list[str]]]:
     """The faults of a page, of each of its blocks and of its links."""
     with tempfile.TemporaryDirectory() as name:
         folder, blocks = pathlib.Path(name), blocks_of(path)
@@ -176,3 +178,7 @@ def main(words: list[str]) -> int:
     counts.case("runs without an order", unordered_runs())
     counts.case("excuses", (f"{begin}: no line begins so" for begin in EXCUSED if begin not in used))
     return counts.end()
+
+
+if __name__ == "__main__":
+    sys.exit(main(sys.argv[1:]))

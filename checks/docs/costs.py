@@ -7,14 +7,16 @@ the table was made. It fails where that is more than a twentieth: then make as m
 `benches/proofs` write the table anew.
 """
 
-from checks import ROOT
-from checks.harness import Counts, loaded
+import sys
 
-plan = loaded(ROOT / "bin/plan.py")
+from building import plan
+from checks import ROOT
+from checks.harness import Counts
+
 MOST = 0.05
 
 
-def crates():
+def crates() -> list[str]:
     lines = (ROOT / "crates.txt").read_text(encoding="utf-8").splitlines()
     return [line.split(":")[0].split()[0] for line in lines if ":" in line.split("#")[0]]
 
@@ -34,3 +36,7 @@ def main(words: list[str]) -> int:
         "that is more than a twentieth: make as much cheaper elsewhere, or measure anew by benches/proofs",
     )
     return counts.end()
+
+
+if __name__ == "__main__":
+    sys.exit(main(sys.argv[1:]))

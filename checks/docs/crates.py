@@ -5,6 +5,8 @@
 """
 
 import re
+import sys
+from collections.abc import Iterator
 
 from checks import ROOT
 from checks.docs.made import held
@@ -15,9 +17,9 @@ NOTHING = "nothing is said of it"
 ROW = re.compile(r"\| `(\w+)` \| [^|]* \| (.*) \|")
 
 
-def sections():
+def sections() -> list[tuple[str, list[tuple[str, list[str]]]]]:
     """The sections of crates.txt, each with its crates and what these use."""
-    found = []
+    found: list[tuple[str, list[tuple[str, list[str]]]]] = []
     for line in (ROOT / "crates.txt").read_text(encoding="utf-8").splitlines()[1:]:
         if line.startswith("# "):
             found.append((line[2:], []))
@@ -27,7 +29,7 @@ def sections():
     return found
 
 
-def rows(said):
+def rows(said: dict[str, str]) -> Iterator[str]:
     """The rows of the table, by what is said of each crate."""
     for title, crates in sections():
         yield f"| **{title}** | | | |"
@@ -35,12 +37,12 @@ def rows(said):
             yield f"| `{name}` | {', '.join(libraries) or 'none'} | {said.get(name, f'**{NOTHING}** | ')} |"
 
 
-def written(page):
+def written(page: str) -> str:
     """The page with the table that it has to have."""
     lines = page.splitlines()
     begin = lines.index(HEAD[0])
     end = next(place for place in range(begin, len(lines)) if not lines[place].startswith("|"))
-    said = dict(match.groups() for line in lines[begin:end] if (match := ROW.fullmatch(line)))
+    said = {match[1]: match[2] for line in lines[begin:end] if (match := ROW.fullmatch(line))}
     return "\n".join([*lines[:begin], *HEAD, *rows(said), *lines[end:]]) + "\n"
 
 
@@ -48,3 +50,7 @@ def main(words: list[str]) -> int:
     wanted = written(PAGE.read_text(encoding="utf-8"))
     silent = ["docs/design/architecture.md: nothing is said of a crate"] * (NOTHING in wanted)
     return held("crates", PAGE, wanted, words, "tests/docs/crates", silent)
+
+
+if __name__ == "__main__":
+    sys.exit(main(sys.argv[1:]))

@@ -7,6 +7,7 @@ What it writes and its status have to be the program's, after one line on standa
 proved. It takes as long as compiling the sources. The last line has the counts, and the status is 0 where none failed.
 """
 
+import sys
 import tempfile
 
 from checks import ROOT
@@ -23,3 +24,7 @@ def main(words: list[str]) -> int:
     counts = Counts("look")
     counts.expect(ended == (1, report, SAID), f"bin/try run --plain: {ended}")
     return counts.end()
+
+
+if __name__ == "__main__":
+    sys.exit(main(sys.argv[1:]))

@@ -1,7 +1,9 @@
 """README.md, CONTRIBUTING.md, CHANGELOG.md and the pages of docs/: their fenced blocks, their links, and how they run
 the program."""
 
+import pathlib
 import re
+from collections.abc import Iterator
 from dataclasses import dataclass, field
 
 from checks import ROOT
@@ -25,12 +27,14 @@ class Block:
     notes: dict = field(default_factory=dict)
 
     @property
-    def where(self):
+    def where(self) -> str:
         return f"{self.page}:{self.number}"
 
 
-def blocks_of(path):
-    blocks, open_block, notes = [], None, {}
+def blocks_of(path: pathlib.Path) -> list[Block]:
+    blocks: list[Block] = []
+    open_block: Block | None = None
+    notes: dict[str, str] = {}
     for number, line in enumerate(path.read_text(encoding="utf-8").splitlines(), 1):
         if open_block is not None:
             if line == "```":
@@ -48,11 +52,11 @@ def blocks_of(path):
     return blocks
 
 
-def without_code(text):
+def without_code(text: str) -> str:
     return re.sub(r"`[^`\n]*`", "", re.sub(r"^```.*?^```$", "", text, flags=re.MULTILINE | re.DOTALL))
 
 
-def anchors_of(path):
+def anchors_of(path: pathlib.Path) -> set[str]:
     """The names that a page's headings have as targets of links."""
     found = set()
     for line in re.sub(
@@ -63,7 +67,7 @@ def anchors_of(path):
     return found
 
 
-def broken_links(path):
+def broken_links(path: pathlib.Path) -> Iterator[str]:
     """The links of a page to files or headings that aren't there."""
     for target in LINK.findall(without_code(path.read_text(encoding="utf-8"))):
         if "://" in target:
@@ -74,7 +78,7 @@ def broken_links(path):
             yield target
 
 
-def unordered_runs():
+def unordered_runs() -> Iterator[str]:
     """The lines of pages, recipes and examples that start `run` without --plain or --ordered."""
     scripts = [path for pattern in SCRIPTS for path in sorted(ROOT.glob(pattern)) if path.is_file()]
     for path in [*PAGES, *scripts]:

@@ -25,6 +25,10 @@ which members a line may have.
 
 import itertools
 import json
+import pathlib
+import sys
+from collections.abc import Callable, Iterator
+from typing import Any
 
 from checks.data import EXAMPLES, files_of_conditions
 from checks.examples.commands import count_commands, is_refused
@@ -41,24 +45,24 @@ COMMANDS = (
 OF_HELP = {"check": 0, "list": 0, "run --plain": 1}
 
 
-def stored(path, default=""):
+def stored(path: pathlib.Path, default: str = "") -> str:
     """What a file has, or something else where it isn't there."""
     return path.read_text(encoding="utf-8") if path.is_file() else default
 
 
-def differing(got, expected):
+def differing(got: Ended, expected: Ended) -> Iterator[str]:
     """What is wrong with how a command ended."""
     if got != expected:
         yield f"expected {expected}\n  got      {got}"
 
 
-def not_refused(got, expected):
+def not_refused(got: Ended, expected: str) -> Iterator[str]:
     """What is wrong with how a command ended that has to be refused with a line."""
     if not is_refused(got, expected):
         yield f"expected status 2 and argo_judge: {expected}\n  got      {got}"
 
 
-def eval_faults(program, document):
+def eval_faults(program: pathlib.Path, document: pathlib.Path) -> Iterator[str]:
     got = started([program, "eval"], document.read_bytes())
     status = int(stored(document.with_suffix(".status"), "0"))
     output, lines = stored(document.with_suffix(".stdout")), int(status != 0)
@@ -66,13 +70,13 @@ def eval_faults(program, document):
         yield f"expected status {status}, {lines} lines on standard error, and {output!r}\n  got      {got}"
 
 
-def has_answer(document, command):
+def has_answer(document: pathlib.Path, command: str) -> bool:
     """Whether a document has what a command writes, or is refused."""
     kind = command.split()[0]
     return kind == "run" or any(document.with_suffix(f".{ending}").is_file() for ending in (kind, "refused"))
 
 
-def bundle_faults(program, document, command):
+def bundle_faults(program: pathlib.Path, document: pathlib.Path, command: str) -> Iterator[str]:
     got = started([program, *command.split()], document.read_bytes())
     status, kind = int(stored(document.with_suffix(".status"), "0")), command.split()[0]
     if document.with_suffix(".refused").is_file():
@@ -85,7 +89,7 @@ def bundle_faults(program, document, command):
     yield from differing(got, Ended(status if kind == "run" else 0, output, warnings))
 
 
-def shown_in_help(text):
+def shown_in_help(text: str) -> tuple[str, str]:
     """The document that a help shows, and the output that it shows for it."""
     lines = text.split("\n")
     document = lines[lines.index("  {") : lines.index("  }") + 1]
@@ -95,14 +99,14 @@ def shown_in_help(text):
     return "\n".join(document), "".join(f"{line[2:]}\n" for line in shown)
 
 
-def help_faults(program, command):
+def help_faults(program: pathlib.Path, command: str) -> Iterator[str]:
     document, output = shown_in_help(started([program, command.split()[0], "--help"]).output)
     if not document or not output:
         yield "there is none, or no output of it"
     yield from differing(started([program, *command.split()], document.encode()), Ended(OF_HELP[command], output, ""))
 
 
-def condition_faults(program, line):
+def condition_faults(program: pathlib.Path, line: str) -> Iterator[str]:
     got = started([program, "eval"], f"{line}\n".encode())
     document = json.loads(line)
     if line.startswith('{"answer":"'):
@@ -113,7 +117,7 @@ def condition_faults(program, line):
         yield 'expected a member "answer" or "refused" first'
 
 
-def cases():
+def cases() -> Iterator[tuple[str, Callable[..., Iterator[str]], tuple[Any, ...]]]:
     """All cases: what each is called, what looks at it, and what that is given."""
     for document in sorted((EXAMPLES / "eval").glob("*.json")):
         yield named(document), eval_faults, (document,)
@@ -135,3 +139,7 @@ def main(words: list[str]) -> int:
         counts.case(name, faults)
     count_commands(program, counts)
     return counts.end()
+
+
+if __name__ == "__main__":
+    sys.exit(main(sys.argv[1:]))

@@ -9,7 +9,7 @@
   have.
 - For each document of examples/bundles, examples/providers and examples/explain: the object fits
   docs/report.schema.json, if Python has jsonschema; its runs, metrics and events are those of `run --plain`, and so are
-  the warnings; its facts, printed as lines by argo_judge.engine.explanations, are byte for byte what is written without
+  the warnings; its facts, printed as lines by checks.explain.lines, are byte for byte what is written without
   --output, but for how a condition is written; what runs and metrics wait for, which metrics a close settled, why
   events closed runs or came late, where values don't fit, which have no condition, and measured values as JSON has them
   are worked out again; each event, run and metric is explained by itself as it is among all.
@@ -19,10 +19,11 @@ The last line counts what came so.
 """
 
 import json
+import sys
 from functools import partial
 
-from argo_judge.engine.explanations import lines_of_run
 from checks.data import EXAMPLES, canonical, files_of_conditions, numbered_lines
+from checks.explain.lines import lines_of_run
 from checks.explain.runs import run_faults
 from checks.explain.values import misfit_faults, value_faults
 from checks.harness import Counts, built, named, side_by_side, started
@@ -104,7 +105,7 @@ def faults(program, document, schema):
         yield "the runs are others than those of run --plain"
     for run in whole["runs"]:
         yield from run_faults(run)
-    known = [line for run in whole["runs"] for line in lines_of_run(run, head_of=lambda condition: None)]
+    known = [line for run in whole["runs"] for line in lines_of_run(run)]
     given = lines.splitlines()
     if len(known) != len(given) or any(line not in (own, None) for line, own in zip(known, given)):
         yield "the lines are others than those of the object"
@@ -207,3 +208,7 @@ def main(words: list[str]) -> int:
     for (name, _), found in zip(tried, side_by_side(lambda case: list(case[1]()), tried)):
         counts.case(name, found, SHOWN_OF_EACH)
     return counts.end()
+
+
+if __name__ == "__main__":
+    sys.exit(main(sys.argv[1:]))

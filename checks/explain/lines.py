@@ -1,13 +1,11 @@
-"""What argo_judge explains (`explain --output json`), as lines like those of `explain`, with lines of others below an
-event's own. A condition is written as it was bound, and there by its parts."""
+"""The facts that argo_judge explains (`explain --output json`) as the lines that `explain` has, but for how a condition
+is written."""
+
 import re
-from collections.abc import Callable, Iterable, Mapping
+from collections.abc import Iterable, Mapping
 
-from argo_judge.engine.reports import EventReport, MetricReport, event_line, metric_line, of_version
+from argo_judge.engine.reports import EventReport, MetricReport, event_line, metric_line
 from argo_judge.objects import Object
-
-# The version of the form.
-VERSION = 2
 
 # What is counted, and its limit.
 LIMITED = (
@@ -31,13 +29,6 @@ HIDDEN = (
 ESCAPED = re.compile(f'["\\\\{HIDDEN}]')
 UNCLEAR = re.compile(f'^"|[{HIDDEN}]|^$')
 WORD = re.compile(r"[A-Za-z_][A-Za-z0-9_]*", re.ASCII)
-
-
-def explained_in(text: str, where: str) -> list[Object]:
-    """The runs of an explanation that a text is."""
-    what = f"an explanation of version {VERSION} as `explain --output json` writes it"
-    runs: list[Object] = of_version(text, where, VERSION, what)["runs"]
-    return runs
 
 
 # ---- texts and names
@@ -175,11 +166,6 @@ def answer_line(condition: Object) -> str:
     return "    answer" + failure_text(condition, answer)
 
 
-def head(condition: Object) -> str:
-    """The line of a condition: its text, in which blanks are one each."""
-    return f"  {condition['condition']}: {' '.join(condition['text'].split())}"
-
-
 # ---- events, metrics and runs
 
 
@@ -199,11 +185,11 @@ def reason_text(reason: Object) -> str:
     return texts[reason["kind"]]
 
 
-def lines_of_event(one: Object, head_of: Callable[[Object], str] = head) -> list[str]:
-    """The lines below an event's own; `head_of`: the line of a condition."""
-    lines = given_lines(one)
+def lines_of_event(one: Object) -> list[str | None]:
+    """The lines below an event's own."""
+    lines: list[str | None] = [*given_lines(one)]
     for condition in one["conditions"]:
-        lines += [head_of(condition), *part_lines(condition), answer_line(condition)]
+        lines += [None, *part_lines(condition), answer_line(condition)]
     lines += ["  no condition: each value is Successful"] if one["noCondition"] else []
     lines += [f"  counts: {counts_text(one['counts'])}"] if one["counts"] is not None else []
     return lines + ([f"  {reason_text(one['reason'])}"] if one["reason"] is not None else [])
@@ -236,14 +222,12 @@ def event_head(event: EventReport) -> str:
     return event_line(named).rstrip("\n")
 
 
-def lines_of_run(
-    run: Object, head_of: Callable[[Object], str] = head, noted: Callable[[EventReport], list[str]] = lambda event: []
-) -> list[str]:
-    """All lines of a run; `noted`: what others say of an event."""
-    lines = [f"run {clear(run['name'])} {run['phase']}"]
+def lines_of_run(run: Object) -> list[str | None]:
+    """All lines of a run; None in the place of a condition's own."""
+    lines: list[str | None] = [f"run {clear(run['name'])} {run['phase']}"]
     lines += [f"  waits for: {waits_text(run['waitsFor'])}"] if run["waitsFor"] else []
     for one in run["events"]:
-        lines += [event_head(one["event"]), *noted(one["event"]), *lines_of_event(one, head_of)]
+        lines += [event_head(one["event"]), *lines_of_event(one)]
     for one in run["metrics"]:
         lines += lines_of_metric(one)
     return lines

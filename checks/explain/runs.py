@@ -1,6 +1,6 @@
 """Runs that are explained, worked out again of counts and of the events in their order."""
 
-from argo_judge.engine.explanations import measured
+from checks.explain.lines import measured
 from checks.oracle import phases
 
 OPEN = ("Pending", "Running")
@@ -21,7 +21,8 @@ LIMITED = (
 def decided(limits, counts):
     """The phase with which a metric of these counts is complete, or None."""
     own = [limits[limit] for _, limit, _ in LIMITED]
-    return phases.decided([*own, limits["count"]], *(counts[name] for name, _, _ in LIMITED), measured(counts))
+    found = [*(counts[name] for name, _, _ in LIMITED), measured(counts)]
+    return phases.decided([*own, limits["count"]], *found)
 
 
 def metric_faults(metric, closer):

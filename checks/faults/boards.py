@@ -8,6 +8,7 @@ than the test wants; this text has the looks' answers. The last line has the cou
 failed.
 """
 
+import sys
 import tempfile
 
 from checks import ROOT
@@ -48,3 +49,7 @@ def main(words: list[str]) -> int:
         is_found = any(has_lines(text, look) for text in texts)
         counts.expect(is_found, f"boards: of {len(texts)} refusals none is of the look in {look}")
     return counts.end()
+
+
+if __name__ == "__main__":
+    sys.exit(main(sys.argv[1:]))

@@ -10,6 +10,7 @@ are fixed. A line reports each run that ended otherwise; the last line has the c
 failed.
 """
 
+import sys
 import tempfile
 
 from checks.faults import devices, lines, memory, schedules
@@ -36,3 +37,7 @@ def main(words: list[str]) -> int:
         for found in side_by_side(counted, [job for part in PARTS for job in part.jobs(program)]):
             counts.add(found)
     return counts.end()
+
+
+if __name__ == "__main__":
+    sys.exit(main(sys.argv[1:]))

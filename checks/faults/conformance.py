@@ -14,7 +14,9 @@ has the counts, and the status is 0 where none failed.
 import json
 import os
 import re
+import sys
 import tempfile
+from typing import Any
 
 from checks.data import files_of_suite, numbered_lines
 from checks.faults.library import FOLDER, Library
@@ -65,7 +67,7 @@ FILTER_TWICE = json.dumps(
 
 def is_refusal(answer):
     word = re.match(r"(?:read: |bind: )?([A-Z]\w*)", answer)
-    return bool(word) and word[1] not in ANSWERS
+    return word is not None and word[1] not in ANSWERS
 
 
 def size_of(line, case):
@@ -80,7 +82,7 @@ def in_pieces(case):
 
 def chosen():
     """The shortest cases, by call, members, and whether the answer is a refusal."""
-    found = {}
+    found: dict[Any, Any] = {}
     for line in (line for path in files_of_suite() for _, line in numbered_lines(path)):
         case = json.loads(line)
         members = tuple(sorted(case.keys() - IGNORED))
@@ -177,3 +179,7 @@ def main(words: list[str]) -> int:
     refused = [runs for _, runs in found]
     counts.expect(min(refused) > 1, f"a line met {min(refused)} refusals of memory")
     return counts.end(f"{len(cases)} cases, {sum(refused)} refusals of memory: ")
+
+
+if __name__ == "__main__":
+    sys.exit(main(sys.argv[1:]))

@@ -7,7 +7,8 @@ import threading
 import time
 from functools import partial
 
-from checks.faults.documents import AS_JSON, BUNDLES, CONDITIONS, DECIMAL, RATES, STOPPED, WARNED, Answer, is_answer
+from checks.faults.answers import Answer, is_answer
+from checks.faults.documents import AS_JSON, BUNDLES, CONDITIONS, DECIMAL, RATES, STOPPED, WARNED
 from checks.faults.errors import TOO_LARGE, has_failed_to_read, has_failed_to_write
 from checks.faults.library import FOLDER
 from checks.faults.program import Ended

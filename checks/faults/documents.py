@@ -2,61 +2,19 @@
 and docs/design/verifier.md say of them, worked out by hand."""
 
 import json
-from typing import NamedTuple
 
 from checks.data import canonical, compact
+from checks.faults.answers import Answer, Document
 from checks.made import document_of, event_object, measured, metric_object, template_of
+from checks.oracle.reports import LIMITS
 
 NONE = "successful=0 failed=0 inconclusive=0 error=0 consecutiveError=0"
 ONE = "successful=1 failed=0 inconclusive=0 error=0 consecutiveError=0"
 
 
-class Answer(NamedTuple):
-    """What a command answers: its status, its output, and how many lines it writes to standard error."""
-
-    status: int
-    output: str
-    lines: int = 0
-
-    @property
-    def warns(self):
-        """Whether the lines are warnings; else they are a refusal."""
-        return self.status in (0, 1) and self.lines > 0
-
-
-class Document(NamedTuple):
-    """A document for `run`, `check` and `list`, with the answer of each."""
-
-    text: str
-    run: Answer
-    check: Answer
-    list: Answer
-
-    def answer(self, words):
-        """The answer to a command line."""
-        return getattr(self, words.split()[0])
-
-
 def text_of(metrics, shapes, runs, entries):
     """A document as it is given to the program."""
     return compact(document_of(template_of({"metrics": metrics}), shapes, runs, entries))
-
-
-def with_events_sorted(report):
-    """A report with the event lines of each run in one order, whatever order the workers came in."""
-    keyed, run = [], 0
-    for line in report.splitlines(keepends=True):
-        run += line.startswith("run ")
-        keyed.append(((run, line if line.startswith("event ") else ""), line))
-    return "".join(line for _, line in sorted(keyed, key=lambda it: it[0]))
-
-
-def is_answer(ended, answer, words=""):
-    """Whether a run ended with the answer. Of `run` alone the events of a run come in any order."""
-    output, expected = ended.output, answer.output
-    if words.startswith("run") and "--plain" not in words and "--ordered" not in words:
-        output, expected = with_events_sorted(output), with_events_sorted(expected)
-    return (ended.status, output, ended.errors.count("\n")) == (answer.status, expected, answer.lines)
 
 
 # Two runs of two metrics: one is stopped, and one fails.
@@ -280,8 +238,14 @@ CONDITIONS = {
 # Answers as JSON
 
 
-def as_json(answer, lines=0):
-    return Answer(0, canonical({**answer, "version": 1}), lines)
+def as_json(answer, lines=0, version=1):
+    return Answer(0, canonical({**answer, "version": version}), lines)
+
+
+def bounds_as_json(bounds, lines=0):
+    """What `check` writes of the one condition of two runs."""
+    conditions = [{"run": run, **bounds} for run in ("r0", "r1")]
+    return as_json({"conditions": conditions, "limits": LIMITS}, lines, version=2)
 
 
 def successful(run, number):
@@ -311,12 +275,9 @@ OF_RATES = as_json({"runs": [successful("r0", 0), successful("r1", 1)]})
 AS_JSON = {
     "run --plain --output=json": (WARNED.text, OF_WARNED),
     "run --workers 2 --output=json": (WARNED.text, OF_WARNED),
-    "check --output=json": (
-        WARNED.text,
-        as_json({"conditions": [{"run": run, **BOUNDS_OF_WARNED} for run in ("r0", "r1")]}, lines=1),
-    ),
+    "check --output=json": (WARNED.text, bounds_as_json(BOUNDS_OF_WARNED, lines=1)),
     "run --plain --output json": (RATES.text, OF_RATES),
     "run --ordered --workers 2 --output json": (RATES.text, OF_RATES),
-    "check --output json": (RATES.text, as_json({"conditions": [{"run": run, **BOUNDS} for run in ("r0", "r1")]})),
+    "check --output json": (RATES.text, bounds_as_json(BOUNDS)),
     "eval --output json": (DECIMAL, as_json({"answer": True, "fault": None})),
 }

@@ -2,7 +2,7 @@
 
 import os
 
-from checks.faults.documents import is_answer
+from checks.faults.answers import is_answer
 
 OUT_OF_MEMORY = "argo_judge: out of memory\n"
 NO_WARNINGS = "argo_judge: warning: out of memory: warnings are not shown\n"

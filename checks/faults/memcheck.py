@@ -12,6 +12,7 @@ where none failed.
 import os
 import shutil
 import subprocess
+import sys
 
 from checks import ROOT
 from checks.harness import Counts, current, named, side_by_side, started
@@ -83,3 +84,7 @@ def main(words: list[str]) -> int:
     for (command, path), faults in zip(tried, side_by_side(lambda case: list(fault_of(program, case)), tried)):
         counts.case(f"{command} of {named(path)}", faults)
     return counts.end()
+
+
+if __name__ == "__main__":
+    sys.exit(main(sys.argv[1:]))

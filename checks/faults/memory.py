@@ -5,7 +5,8 @@ from functools import partial
 from typing import NamedTuple
 
 from checks import ROOT
-from checks.faults.documents import AS_JSON, BUNDLES, CONDITIONS, SHAPELESS, Answer, is_answer, repeated
+from checks.faults.answers import Answer, is_answer
+from checks.faults.documents import AS_JSON, BUNDLES, CONDITIONS, SHAPELESS, repeated
 from checks.faults.errors import is_out_of_memory, is_without_thread, is_without_warnings
 
 EXAMPLE = ROOT / "examples/bundles/success-rate"

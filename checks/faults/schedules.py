@@ -9,7 +9,8 @@ import tempfile
 import time
 from functools import partial
 
-from checks.faults.documents import is_answer, repeated, with_events_sorted
+from checks.faults.answers import is_answer, with_events_sorted
+from checks.faults.documents import repeated
 from checks.faults.program import SECONDS, Ended
 from checks.harness import NO_END, decoded
 
@@ -84,8 +85,8 @@ def stop(program, words, seed, counts):
             given.seek(0)
             with subprocess.Popen([program.path, *words.split()], stdin=given, stdout=output, stderr=errors) as run:
                 stops += stop_at_times(run, source)
-            written = [decoded(read_whole(file)) for file in (output, errors)]
-        ended = Ended(run.returncode if run.returncode != -signal.SIGKILL else NO_END, *written)
+            wrote, said = (decoded(read_whole(file)) for file in (output, errors))
+        ended = Ended(run.returncode if run.returncode != -signal.SIGKILL else NO_END, wrote, said)
         counts.expect(is_answer(ended, answer, words), f"{words}, stopped at times, turn {turn}: {str(ended)[:500]}")
     counts.expect(stops > 0, f"{words}: the signals met it only {stops} times")
 

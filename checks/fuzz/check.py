@@ -162,3 +162,7 @@ def main(words: list[str]) -> int:
     else:
         check_documents(counts, built(options.programs[:1], SUITE), options.first, options.documents)
     return counts.end()
+
+
+if __name__ == "__main__":
+    sys.exit(main(sys.argv[1:]))

@@ -72,3 +72,7 @@ def main(words: list[str]) -> int:
             for finding in different:
                 counts.expect(False, json.dumps(finding, ensure_ascii=False))
     return counts.end()
+
+
+if __name__ == "__main__":
+    sys.exit(main(sys.argv[1:]))

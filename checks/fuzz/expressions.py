@@ -1,5 +1,7 @@
 """Random conditions under a shape, most of them of good kinds, as texts."""
 
+from typing import Any
+
 from checks.oracle.kinds import is_list, is_optional, is_record, plain
 
 WHOLES = ("0", "1", "2", "3", "10", "007", "0x1F", "0b10", "0o17", "1000000", "9223372036854775807", "9223372036855")
@@ -135,8 +137,13 @@ class Maker:
     def list(self, depth):
         """A list, and the kind of its items where that is known, else a number's."""
         if depth <= 0 or self.chance(0.6):
-            found = []
-            text = self.reach(lambda kind: is_list(plain(kind)) and not found.append(plain(kind)[1]))
+            found: list[Any] = []
+
+            def is_wanted(kind: Any) -> bool:
+                found.extend([plain(kind)[1]] if is_list(plain(kind)) else [])
+                return is_list(plain(kind))
+
+            text = self.reach(is_wanted)
             if text:
                 return text, found[-1]
         if depth > 0 and self.chance(0.4):
@@ -152,7 +159,8 @@ class Maker:
         return f"{name}({text}, {{{holds}}})" if self.chance(0.4) else f"{name}({text}, {holds})"
 
     def loop(self, name, depth):
-        return self.over(name, *self.list(depth - 1), depth)
+        text, kind = self.list(depth - 1)
+        return self.over(name, text, kind, depth)
 
     def boolean(self, depth):
         if depth <= 0 or self.chance(0.08):

@@ -1,6 +1,7 @@
 """JSON as random documents have it: places of it that are changed, and texts that only a document can have."""
 
 import json
+from typing import Any
 
 from checks.fuzz.changes import changed_condition, changed_text
 
@@ -136,7 +137,7 @@ def doubled(source, value, share):
     members = {name: doubled(source, item, share) for name, item in value.items()}
     names = [name for name in members if not name.startswith(AGAIN)]
     if names and source.random() < share:
-        others = (None, 7, True, "r0", [], {}, source.choice(list(members.values())))
+        others: tuple[Any, ...] = (None, 7, True, "r0", [], {}, source.choice(list(members.values())))
         members[AGAIN + source.choice(names)] = source.choice(others)
         return mixed(source, members, 1)
     return members

@@ -13,6 +13,7 @@ The last line has the counts, and the status is 0 where none failed.
 """
 
 import json
+import sys
 
 from checks.harness import Counts, built, started
 from checks.hostile.colliding import once_fed, under_the_default
@@ -164,3 +165,7 @@ def main(words: list[str]) -> int:
         answer = (ended.status, ended.output.count("\n"), ended.errors.strip())
         counts.expect(answer == expected, f"{much}: with {megabytes} MB {answer}, and not {expected}")
     return counts.end()
+
+
+if __name__ == "__main__":
+    sys.exit(main(sys.argv[1:]))

@@ -40,5 +40,5 @@ def once_fed(count, bits, fed=()):
         program = pathlib.Path(folder) / "colliding"
         subprocess.run(["cc", "-Wall", "-Wextra", "-Werror", "-O2", "-o", program, SOURCE], check=True)
         lines = "".join(name + "\n" for name in fed)
-        words = [program, str(count), str(bits)]
+        words = [str(program), str(count), str(bits)]
         return subprocess.run(words, input=lines, capture_output=True, text=True, check=True).stdout.split()

@@ -11,16 +11,21 @@ judge nothing, may do that. No comment and no name has a word of words.py.
 import pathlib
 import re
 import subprocess
+import sys
+from collections.abc import Iterable, Iterator
+from typing import TypeAlias
 
 from checks import ROOT
 from checks.harness import Counts, named
 from checks.layout import contracts, memory
 from checks.layout import words as unwanted
 
+# What is wrong with a file, with its line.
+Found: TypeAlias = tuple[int, str]
 WIDEST = 120
 
 
-def formatter():
+def formatter() -> pathlib.Path:
     """The kit's formatter: `bin/rattle` in the folder of the page that `rt doc` names."""
     page = subprocess.run(["rt", "doc"], capture_output=True, text=True, check=True).stdout.strip()
     return pathlib.Path(page).parent / "bin" / "rattle"
@@ -32,7 +37,7 @@ OF_THE_SUITE = {"cases_of_values", "cases_of_conditions", "conformance", "tests_
 UNBROKEN = re.compile(r" *((pub )?(ghost )?use |#\[tactic\(|unfolding )")
 
 
-def wide(text):
+def wide(text: str) -> list[int]:
     return [
         number for number, line in enumerate(text.splitlines(), 1) if len(line) > WIDEST and not UNBROKEN.match(line)
     ]
@@ -51,7 +56,7 @@ TEXT = {
 }
 
 
-def wordy(path, text):
+def wordy(path: pathlib.Path, text: str) -> Iterator[Found]:
     """The lines whose comment or name has a word that it shouldn't have, each with what to write."""
     for comment in COMMENT[path.suffix].finditer(text):
         for _, word, instead in unwanted.found_in(comment[1]):
@@ -61,12 +66,12 @@ def wordy(path, text):
         yield number, f"{name}: write {instead}"
 
 
-def is_of_the_program(path):
+def is_of_the_program(path: pathlib.Path) -> bool:
     """Whether a file belongs to the program, or to a crate that it uses."""
     return path.relative_to(ROOT).parts[1] not in OF_THE_SUITE
 
 
-def faults_of_source(path, text):
+def faults_of_source(path: pathlib.Path, text: str) -> Iterator[Found]:
     """What is wrong with a source of a crate, each with its line."""
     yield from ((number, f"a line of over {WIDEST} columns") for number in wide(text))
     for number, name, count in contracts.too_long(text):
@@ -76,7 +81,7 @@ def faults_of_source(path, text):
     yield from wordy(path, text)
 
 
-def faults_of_definitions(path, text):
+def faults_of_definitions(path: pathlib.Path, text: str) -> Iterator[Found]:
     """What is wrong with a file of definitions or of proofs; proofs may be wide."""
     if path.relative_to(ROOT).parts[2] == "specs":
         yield from ((number, f"a line of over {WIDEST} columns") for number in wide(text))
@@ -99,7 +104,11 @@ def main(words: list[str]) -> int:
     return counts.end()
 
 
-def without_faults(path, found):
+def without_faults(path: pathlib.Path, found: Iterable[Found]) -> tuple[bool, str]:
     """Whether nothing was found in a file, and the lines that say what was."""
     lines = [f"{named(path)}:{number}: {fault}" for number, fault in found]
     return not lines, "\n".join(lines)
+
+
+if __name__ == "__main__":
+    sys.exit(main(sys.argv[1:]))

@@ -8,6 +8,10 @@ A line of edits.jsonl is an edit after which a contract has seven lines or more,
 something else. The last line counts the edits, and the status is 0 where each was refused and the file was good before.
 """
 
+import sys
+from collections.abc import Callable, Iterator
+from typing import Any
+
 from checks import ROOT
 from checks.data import cases_of
 from checks.harness import Counts
@@ -15,10 +19,10 @@ from checks.layout.contracts import too_long
 from checks.layout.memory import lines_made_up
 
 # What refuses the edits of each folder in tests.
-REFUSES = {"contracts": too_long, "memory": lines_made_up}
+REFUSES: dict[str, Callable[[str], list[Any]]] = {"contracts": too_long, "memory": lines_made_up}
 
 
-def fault(edit, refused):
+def fault(edit: dict[str, str], refused: Callable[[str], list[Any]]) -> Iterator[str]:
     """What is wrong with how an edit was judged."""
     text = (ROOT / edit["file"]).read_text(encoding="utf-8")
     if text.count(edit["old"]) != 1:
@@ -29,9 +33,14 @@ def fault(edit, refused):
         yield "the edit is taken"
 
 
-def main(name):
+def main(words: list[str]) -> int:
+    [name] = words
     counts = Counts(name)
     for edit in cases_of(ROOT / "tests" / name / "edits.jsonl"):
         about = edit["with"] if "with" in edit else f"out of memory for {edit['for']}"
         counts.case(f"{edit['file']}, {about}", fault(edit, REFUSES[name]))
     return counts.end()
+
+
+if __name__ == "__main__":
+    sys.exit(main(sys.argv[1:]))

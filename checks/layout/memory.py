@@ -6,6 +6,8 @@ which answers it, may be an expression only in an arm of a `match` whose pattern
 and in an `impl From` of one of the first two. No call may ask for a growth that no memory suffices for.
 """
 import re
+from collections.abc import Iterator
+from typing import TypeAlias
 
 NAMES = ("OutOfMemory", "AllocError", "OUT_OF_MEMORY", "out_of_memory")
 # Calls that ask for memory, and what makes a number of places too large for any.
@@ -26,11 +28,16 @@ DECLARATIONS = ("use", "enum", "const")
 class Group:
     """What is between two brackets: tokens, and further groups."""
 
-    def __init__(self, bracket, line):
-        self.bracket, self.line, self.items = bracket, line, []
+    def __init__(self, bracket: str, line: int) -> None:
+        self.bracket, self.line = bracket, line
+        self.items: Items = []
 
 
-def tree_of(text):
+# What a group has: tokens and groups, each with its line.
+Items: TypeAlias = list[tuple[Group | str, int]]
+
+
+def tree_of(text: str) -> Group:
     """The tokens of a file, grouped by their brackets, each with its line; without comments."""
     root = Group("", 1)
     stack = [root]
@@ -49,7 +56,7 @@ def tree_of(text):
     return root
 
 
-def words(items):
+def words(items: Items) -> Iterator[str]:
     """All tokens of items, those in groups among them."""
     for item, _ in items:
         if isinstance(item, Group):
@@ -58,7 +65,7 @@ def words(items):
             yield item
 
 
-def arms(items):
+def arms(items: Items) -> Iterator[tuple[int, int, int]]:
     """The arms of a `match`: where each begins, its pattern's end, and where it ends."""
     begin, arrow = 0, None
     for place, (item, _) in enumerate(items):
@@ -74,14 +81,14 @@ def arms(items):
         yield begin, arrow, len(items)
 
 
-def is_type(items, place):
+def is_type(items: Items, place: int) -> bool:
     """Whether a name is that of a type: in angle brackets, after a colon, or of an `impl`."""
     before = items[place - 1][0] if place else ""
     after = items[place + 1][0] if place + 1 < len(items) else ""
     return after == ">" or after == "::" or before in (":", "<", "->", "for", "&")
 
 
-def block_after(items, place):
+def block_after(items: Items, place: int) -> int:
     """Where the next block is, or a semicolon before it, or the end."""
     while place < len(items):
         item = items[place][0]
@@ -91,7 +98,7 @@ def block_after(items, place):
     return place
 
 
-def body_after(items, place):
+def body_after(items: Items, place: int) -> int:
     """Where the body of a function is that is declared at a place, after its clauses."""
     body = block_after(items, place)
     for clause in range(place, body):
@@ -100,7 +107,7 @@ def body_after(items, place):
     return body
 
 
-def skipped(items, place):
+def skipped(items: Items, place: int) -> int:
     """Where a declaration, an import, a clause or an `impl From` ends that begins at a place, or the same place."""
     item = items[place][0]
     if item in DECLARATIONS or item in CLAUSES:
@@ -115,7 +122,7 @@ def skipped(items, place):
     return place
 
 
-def is_too_large(tokens):
+def is_too_large(tokens: list[str]) -> bool:
     """Whether the arguments of a call ask for more places than any memory has."""
     tokens = [token.replace("_", "") if token[:1].isdigit() else token for token in tokens]
     numbers = [re.match(r"0x[0-9a-fA-F]+|[0-9]+", token) for token in tokens]
@@ -123,7 +130,7 @@ def is_too_large(tokens):
     return shifts or not set(TOO_LARGE).isdisjoint(tokens) or any(it and int(it[0], 0) > MOST_PLACES for it in numbers)
 
 
-def asks_for_too_much(items, place):
+def asks_for_too_much(items: Items, place: int) -> bool:
     """Whether a call that asks for memory is at a place, for more than there can be."""
     if items[place][0] not in GROWTHS:
         return False
@@ -132,7 +139,7 @@ def asks_for_too_much(items, place):
     return group is not None and is_too_large(list(words(group.items)))
 
 
-def made_up(group, allowed=False, pattern=False):
+def made_up(group: Group, allowed: bool = False, pattern: bool = False) -> Iterator[int]:
     """The lines on which code answers out of memory by itself, in a group."""
     items = group.items
     found = list(arms(items)) if group.bracket == "{" else []
@@ -157,7 +164,7 @@ def made_up(group, allowed=False, pattern=False):
         place += 1
 
 
-def is_let_pattern(items, place):
+def is_let_pattern(items: Items, place: int) -> bool:
     """Whether a group belongs to the pattern of a `let`, or to `matches!`."""
     before = [item for item, _ in items[max(0, place - 6) : place]]
     if len(before) > 1 and before[-2:] == ["matches", "!"]:
@@ -170,5 +177,5 @@ def is_let_pattern(items, place):
     return False
 
 
-def lines_made_up(text):
+def lines_made_up(text: str) -> list[int]:
     return sorted(set(made_up(tree_of(text))))

@@ -1,5 +1,6 @@
 """Words that no page, no comment and no name has: what to write instead is next to each."""
 import re
+from collections.abc import Iterator
 
 INSTEAD = {
     r"want of memory": "out of memory",
@@ -44,7 +45,7 @@ EACH = [(re.compile(rf"\b(?:{word})\b", re.I), instead) for word, instead in INS
 CODE = re.compile(r"^```.*?^```$|`[^`\n]*`", re.M | re.S)
 
 
-def found_in(text):
+def found_in(text: str) -> Iterator[tuple[int, str, str]]:
     """The words of a text that it shouldn't have, each with its line and what to write instead; code is none of it."""
     text = CODE.sub(lambda code: "\n" * code[0].count("\n"), text)
     for pattern, instead in EACH:
@@ -52,7 +53,7 @@ def found_in(text):
             yield text.count("\n", 0, match.start()) + 1, match[0], instead
 
 
-def in_names(code):
+def in_names(code: str) -> Iterator[tuple[int, str, str]]:
     """The names in code, without its texts and comments, that have such a part, each with its line and what to
     write."""
     for match in NAME.finditer(code):

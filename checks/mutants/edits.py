@@ -7,9 +7,10 @@ import subprocess
 import tempfile
 from collections.abc import Iterable, Iterator
 
+from building.crates import SOURCES
 from checks import ROOT
 from checks.harness import loaded
-from checks.mutants.record import PROVE, edits_of, functions
+from checks.mutants.record import edits_of, functions
 
 GOAL = re.compile(r"^(?:note: )?(?:\./)?(src/\S+\.rt):(\d+):\d+: .*(?:is not proved|found no proof|no proof of)", re.M)
 ANSWER = re.compile(r"^(?:\./)?proofs/(\S+)/(?:Answers|Invariants)\.antt:\d+:\d+: error", re.M)
@@ -72,7 +73,7 @@ class Crate:
     def check(self, edits: Iterable[pathlib.Path], files: Iterable[str] = ()) -> tuple[str, dict[str, str]]:
         """What the check of a copy with these edits says, and the copy's edited sources."""
         with tempfile.TemporaryDirectory() as room:
-            for part in PROVE.SOURCES:
+            for part in SOURCES:
                 if (self.folder / part).is_dir():
                     shutil.copytree(self.folder / part, f"{room}/{part}")
             texts = {}

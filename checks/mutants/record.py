@@ -13,8 +13,8 @@ import re
 import threading
 from collections.abc import Iterator
 
+from building import crates as sources
 from checks import ROOT
-from checks.harness import loaded
 
 FOLDER = ROOT / "tests/mutants"
 RECORD = FOLDER / "tried"
@@ -23,12 +23,9 @@ KEEPING = threading.Lock()
 COMMENT = {".rt": r"\s*//", ".antt": r"\s*--"}
 
 
-PROVE = loaded(ROOT / "bin" / "prove")
-
-
 def uses() -> dict[str, list[str]]:
     """The crates of this repository that each crate uses, lowest first."""
-    return PROVE.uses_by_crate()
+    return sources.uses_by_crate()
 
 
 def edits_of(crate: str) -> list[pathlib.Path]:
@@ -111,7 +108,7 @@ def seen_of(crate: str, is_own: bool) -> str:
 
 def hash_of(crate: str) -> str:
     """A hash of all that the mutants of a crate are tried on, and of them."""
-    below = sorted(PROVE.below(crate, uses()) - {crate})
+    below = sorted(sources.below(crate, uses()) - {crate})
     parts = [seen_of(crate, True)] + [seen_of(name, False) for name in below]
     parts += [f"{edit.name}\n{edit.read_text(encoding='utf-8')}" for edit in edits_of(crate)]
     return hashlib.sha256("\n".join(parts).encode()).hexdigest()

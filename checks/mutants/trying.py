@@ -4,8 +4,8 @@
     try --proved FOLDER [NAME ..]
                      the same, in a copy of these sources in which `rt ci` has just proved all, as the gate has one
     try --all        those of every crate
-    try --due        names the crates whose record is out of date and the edits that don't apply, and fails where there is
-                     one
+    try --due        names the crates whose record is out of date and the edits that don't apply, and fails where
+                     there is one
 
 The crates and those below them are proved first, in a copy, unless one is given. Then the edits of a crate go into as
 few copies of it as they can, and a check is of the files that they touch alone. An edit counts as refused where a goal
@@ -23,6 +23,7 @@ import tempfile
 from concurrent.futures import ThreadPoolExecutor
 from typing import Optional
 
+from building import crates, prove
 from checks import ROOT
 from checks.harness import Counts
 from checks.mutants import edits, record
@@ -52,7 +53,7 @@ def attempt(name: str, copy: pathlib.Path, tried_on: str) -> bool:
 
 def try_in(copy: pathlib.Path, names: list[str], tried_on: dict[str, str]) -> int:
     """Tries the mutants of crates in a copy in which all is proved."""
-    with ThreadPoolExecutor(record.PROVE.at_a_time()) as pool:
+    with ThreadPoolExecutor(prove.at_a_time()) as pool:
         refused = list(pool.map(lambda name: attempt(name, copy, tried_on[name]), names))
     counts = Counts("mutants of crates")
     counts.passed, counts.failed = sum(refused), len(names) - sum(refused)
@@ -61,14 +62,12 @@ def try_in(copy: pathlib.Path, names: list[str], tried_on: dict[str, str]) -> in
 
 def differing(copy: pathlib.Path, names: set[str]) -> list[str]:
     """The crates whose sources in a copy aren't those of the repository."""
-    return sorted(
-        name for name in names if record.PROVE.checksums({name}, copy) != record.PROVE.checksums({name}, ROOT)
-    )
+    return sorted(name for name in names if crates.checksums({name}, copy) != crates.checksums({name}, ROOT))
 
 
 def try_all(names: list[str], proved: Optional[pathlib.Path]) -> int:
     tried_on = {name: record.hash_of(name) for name in names}
-    every = {it for name in names for it in record.PROVE.below(name, record.uses())}
+    every = {it for name in names for it in crates.below(name, record.uses())}
     if proved:
         if others := differing(proved, every):
             print(f"try: {proved}: other sources than here: {' '.join(others)}", file=sys.stderr)
@@ -76,8 +75,8 @@ def try_all(names: list[str], proved: Optional[pathlib.Path]) -> int:
         return try_in(proved, names, tried_on)
     with tempfile.TemporaryDirectory() as folder:
         copy = pathlib.Path(folder)
-        record.PROVE.copy_crates(every, copy)
-        return try_in(copy, names, tried_on) if record.PROVE.prove("mutants", every, copy) else 1
+        crates.copy_crates(every, copy)
+        return try_in(copy, names, tried_on) if prove.prove("mutants", every, copy) else 1
 
 
 def main(words: list[str]) -> int:
@@ -99,3 +98,7 @@ def main(words: list[str]) -> int:
         )
         return 2
     return try_all(known if words == ["--all"] else words or record.due(), proved)
+
+
+if __name__ == "__main__":
+    sys.exit(main(sys.argv[1:]))

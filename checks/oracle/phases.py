@@ -4,6 +4,8 @@ A limit is a list: failures, inconclusive marks, errors in succession, the count
 metric is. An event is 'stop', or a metric's number and a mark.
 """
 
+from typing import Any
+
 COUNTED = ("Successful", "Failed", "Inconclusive")
 
 
@@ -54,7 +56,7 @@ def closing(limits, phases, event):
 
 def outcome(limits, events):
     """The effect of each event, the phase of the run, and the phase and the timely marks of each metric."""
-    marks = [[] for _ in limits]
+    marks: list[list[Any]] = [[] for _ in limits]
     phases = ["Pending"] * len(limits)
     run = "Pending"
     effects = []

@@ -5,6 +5,7 @@ A token is a tuple of its sort, its content, and the offsets of its first byte a
 """
 
 import re
+from typing import Any
 
 from checks.oracle.refused import Refused
 
@@ -113,7 +114,7 @@ def tokens_of(condition):
     code = condition.encode()
     if len(code) > LONGEST:
         raise Refused("TooLong")
-    tokens = []
+    tokens: list[Any] = []
     at = blank_end(code, 0)
     while at < len(code):
         tokens.append(token_at(code, at, tokens))

@@ -4,6 +4,8 @@ It is a plain reading with lists, dictionaries and whole numbers without bound. 
 what the program has to answer to that.
 """
 
+from typing import Any
+
 from checks.oracle.kinds import family, is_list, is_record, merge, plain
 from checks.oracle.operations import ENTERS, EQUAL, JUMPS, MIXED, PLAIN, STEPS, TEXT_TESTS, has_place, partner, taken
 from checks.oracle.refused import Refused
@@ -104,7 +106,7 @@ class Kinds:
     def __init__(self, ops, result):
         self.ops = ops
         self.result = result
-        self.arrived = {0: [()]}
+        self.arrived: dict[int, list[tuple[Any, ...]]] = {0: [()]}
         self.at = []
         self.floors = {}
         self.items = {}
@@ -196,7 +198,7 @@ class Kinds:
 
 def costliest(ops, at, place, end):
     """The costliest way from a place to Return, or to the end of the body that holds it."""
-    ways = {}
+    ways: dict[int, Any] = {}
     for here in range(end, place - 1, -1):
         name = ops[here][0]
         cost, nexts = 1, [here + 1]

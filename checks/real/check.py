@@ -10,6 +10,7 @@ A part whose programs aren't installed is skipped, and a line says so.
 import pathlib
 import shutil
 import subprocess
+import sys
 import tempfile
 
 from checks import ROOT
@@ -46,3 +47,7 @@ def main(words: list[str]) -> int:
     for name in PARTS:
         tried(name, engine, counts)
     return counts.end(may_be_empty=True)
+
+
+if __name__ == "__main__":
+    sys.exit(main(sys.argv[1:]))

@@ -7,11 +7,12 @@ import subprocess
 import time
 import urllib.error
 import urllib.request
+from typing import Any
 
 # Two series of one sample a minute, the last of them now.
 MINUTES = 5
 RATES = {"a": ["0.95", "0.96", "0.97", "0.98", "0.99"], "b": ["0.9", "0.91", "0.92", "0.93", "0.94"]}
-TEMPLATE = {
+TEMPLATE: dict[str, Any] = {
     "apiVersion": "argoproj.io/v1alpha1",
     "kind": "AnalysisTemplate",
     "metadata": {"name": "real"},

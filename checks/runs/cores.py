@@ -9,6 +9,7 @@ has the counts, and the status is 0 where none failed.
 
 import json
 import random
+import sys
 
 from checks.harness import SUITE, Counts, built
 from checks.oracle.cores import answer, make, opening
@@ -76,3 +77,7 @@ def main(words: list[str]) -> int:
     for (case, expected), got in zip(cases, printed + [""] * (CASES - len(printed))):
         counts.expect(got == expected, f"{case}\n  expected {expected}\n  got      {got}")
     return counts.end()
+
+
+if __name__ == "__main__":
+    sys.exit(main(sys.argv[1:]))

@@ -5,6 +5,7 @@ The seed is fixed, so the same file is made each time.
 """
 
 import random
+import sys
 
 from checks.data import CONFORMANCE, compact
 from checks.oracle.phases import answer
@@ -48,3 +49,7 @@ def main(words: list[str]) -> int:
             case = random_case(source, number, 0 if number < RUNS else 0.5)
             output.write(compact(case) + "\n")
     return 0
+
+
+if __name__ == "__main__":
+    sys.exit(main(sys.argv[1:]))

@@ -12,6 +12,7 @@ last line has the counts, and the status is 0 where none failed.
 
 import json
 import random
+import sys
 
 from checks.harness import Counts, built, started
 from checks.oracle.bundles import read_bundle
@@ -37,8 +38,8 @@ def report_of(program, document, words):
 
 def numbers_of(report):
     """The numbers of each run's event lines, in their order."""
-    numbers = {}
-    name = None
+    numbers: dict[str, list[int]] = {}
+    name = ""
     for line in report.splitlines():
         words = line.split(" ")
         if words[0] == "run":
@@ -219,3 +220,7 @@ def main(words: list[str]) -> int:
         counts.expect(same_as_plain(program, document, options), f"workers: {name}: not what --plain writes")
     look_at_largest(counts, program)
     return counts.end(f"{orders} orders in {REPORTS} reports: ")
+
+
+if __name__ == "__main__":
+    sys.exit(main(sys.argv[1:]))

@@ -7,6 +7,7 @@ are only named.
 """
 
 import re
+from typing import Any
 
 from checks import ROOT
 
@@ -50,7 +51,8 @@ class Module:
         self.read(path.read_text(encoding="utf-8").splitlines())
 
     def read(self, lines):
-        now, comment, blocks = None, None, []
+        now, comment = None, None
+        blocks: list[Any] = []
         for number, line in enumerate(lines, 1):
             indent = len(line) - len(line.lstrip(" "))
             while line.strip() and blocks and indent <= blocks[-1][0]:
@@ -100,7 +102,7 @@ class Module:
             now.constructors.add(maker[1])
             self.local[maker[1]] = now
 
-    def use(self, path, names, alias):
+    def use(self: Any, path: str, names: str | None, alias: str | None) -> None:
         self.imports.append(path)
         if names is None:
             self.spaces[alias or path.rpartition(".")[2]] = path
@@ -144,8 +146,8 @@ class Source:
         for number, line in enumerate(lines):
             found = TYPE.match(line)
             model = re.match(r"impl\b.*\bModel for (\w+)", line)
-            if found or model:
-                name = (found or model)[1]
+            if begun := found or model:
+                name = begun[1]
                 if line.rstrip().endswith((";", "{}")):
                     end = number
                 else:
@@ -168,19 +170,20 @@ class Sources:
     def __init__(self):
         self.modules = {it.name: it for it in map(Module, sorted(CRATES.glob("*/specs/**/*.antt")))}
         self.files = {it.path: it for it in map(Source, sorted(CRATES.glob("*/src/**/*.rt")))}
-        self.types = {}
+        self.types: dict[tuple[str, str], Any] = {}
         for source in self.files.values():
             for name, it in source.types.items():
                 self.types.setdefault((source.crate, name), it)
 
-    def at(self, path, name, seen=()):
+    def at(self, path: str, name: str, seen: tuple[tuple[str, str], ...] = ()) -> Any:
         """What a name of a module means: a definition, a type of the program, or a library's name."""
         module = self.modules.get(path)
         if module:
             if name in module.local:
                 return module.local[name]
             if name in module.named and (path, name) not in seen:
-                return self.at(*module.named[name], (*seen, (path, name)))
+                other, own = module.named[name]
+                return self.at(other, own, (*seen, (path, name)))
             inner = f"{path}.{name}"
             return self.modules.get(inner)
         parts = path.split(".")

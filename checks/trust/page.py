@@ -11,6 +11,8 @@ contract's imports lead to.
 
 import collections
 import re
+import sys
+from typing import Any
 
 from checks import ROOT
 from checks.harness import Counts, named
@@ -28,8 +30,8 @@ PROGRAM = (
 HEAD = """# The definitions that the promises rest on
 
 `tests/trust/check --write` makes this page from the sources, and the gate compares. It lists each definition that a
-contract reaches: those that it names, those that these name, and so on, as the files' imports resolve them. Names
-are found by reading the text, so a name that a definition binds itself is none of another. Next to these a reader trusts
+contract reaches: those that it names, those that these name, and so on, as the files' imports resolve them. Names are
+found by reading the text, so a name that a definition binds itself is none of another. Next to these a reader trusts
 the prover, the libraries, and what the page lists of both at its end. A number is the line at which a definition
 begins, with its comment. Each part runs from the lowest crate to the highest; within a file the order is the file's.
 
@@ -123,7 +125,7 @@ class Trust:
 
     def doubled(self):
         """Public names that two files define which one contract's imports lead to, each with these files."""
-        found = collections.defaultdict(set)
+        found: collections.defaultdict[Any, set[Any]] = collections.defaultdict(set)
         for source in self.sources.files.values():
             by_name = collections.defaultdict(set)
             for module in self.sources.modules_from(source.imports).values():
@@ -152,3 +154,7 @@ def main(words: list[str]) -> int:
     if not names:
         counts.expect(True, "no name is for two things")
     return counts.end()
+
+
+if __name__ == "__main__":
+    sys.exit(main(sys.argv[1:]))

@@ -19,6 +19,7 @@ from dataclasses import dataclass
 from typing import Protocol, cast
 
 from argo_judge import PROGRAM, VERSION
+from argo_judge.errors import Refused
 from argo_judge.options import CommandLine, Commands, command_line
 
 
@@ -100,9 +101,11 @@ def all_commands() -> CommandLine:
     return parser
 
 
-def main(words: str = "") -> int | None:
-    """Does what the command line says: of one command, by its words, or of all of them."""
-    named = {one.words: one for one in (*COMMANDS, PLUGIN)}
-    given = (alone(named[words]) if words else all_commands()).parse_args()
+def main(recipe: str | None = None) -> int | None:
+    """Does what the command line says: of one command, by the recipe that starts it, or of all of them."""
+    named = {one.recipe: one for one in (*COMMANDS, PLUGIN)}
+    if recipe is not None and recipe not in named:
+        raise Refused(f"command line: expected one of {', '.join(named)}")
+    given = (all_commands() if recipe is None else alone(named[recipe])).parse_args()
     does: Callable[[Namespace], int | None] = given.main
     return does(given)

@@ -83,9 +83,9 @@ def run(main: Callable[[], int | None]) -> NoReturn:
     os._exit(status)
 
 
-def run_command(words: str = "") -> NoReturn:
-    """Runs one command, by its words, or what the command line says, and ends."""
+def run_command(recipe: str | None = None) -> NoReturn:
+    """Runs the command of a recipe, or the one that the command line names, and ends."""
     signal.signal(signal.SIGINT, stop)
     from argo_judge import cli  # which takes time to load
 
-    run(lambda: cli.main(words))
+    run(lambda: cli.main(recipe))

@@ -1,9 +1,4 @@
-"""Puts the package on the path of the units, and has hypothesis keep nothing and wait for a slow machine."""
-import pathlib
-import sys
-
-sys.path.insert(0, str(pathlib.Path(__file__).resolve().parents[1]))
-
+"""Has hypothesis keep nothing and wait for a slow machine."""
 try:
     import hypothesis
 except ImportError:

@@ -34,6 +34,16 @@ def test_each_command_has_help_and_each_recipe_a_command() -> None:
         assert names == {one.recipe for one in (*COMMANDS, PLUGIN)}
 
 
+def test_the_folder_starts_each_recipe_by_its_name() -> None:
+    start = [sys.executable, str(PYTHON)]
+    for recipe, usage in (("lint", "usage: lint "), ("kubectl-argo_judge", "usage: kubectl argo-judge ")):
+        ended = subprocess.run([*start, recipe, "--help"], capture_output=True, text=True)
+        assert ended.stdout.startswith(usage)
+    for words in (start, [*start, "nothing"]):
+        ended = subprocess.run(words, capture_output=True, text=True)
+        assert (ended.returncode, ended.stdout, len(ended.stderr.splitlines())) == (REFUSED, "", 1)
+
+
 def test_version_and_refusals() -> None:
     assert started("--version").stdout.startswith("argo-judge-tools ")
     starts: list[list[str]] = [[], ["nothing"], ["convert"], ["lint"], ["split", "--runs", "x", "a", "b"]]

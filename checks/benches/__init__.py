@@ -1,0 +1,1 @@
+"""The measurements of benches/, which are no part of the gate, and whether what they build fits the crates."""

@@ -1,0 +1,84 @@
+"""What a release's file PROVED says: of which commit, kit, gate and sources its program is."""
+import pathlib
+import re
+import subprocess
+from collections.abc import Iterator
+from typing import NamedTuple
+
+from releasing import ROOT
+from releasing.installing import Refused
+from releasing.scripts import checksum
+from releasing.tree import LIBRARY_FILES, is_current
+
+OUT = ROOT / "crates/argo_judge/out"
+PROGRAM, OBJECT, SOURCES, GATE = (OUT / f"argo_judge{ending}" for ending in ("", ".o", ".sources", ".gate"))
+LIBRARY_SOURCES = ROOT / "crates/argo_judge_c/out/argo_judge_c.sources"
+# The line of GATE: the program's checksum, the commit that the gate ran on, and the gate's last line.
+GATE_LINE = re.compile(r"([0-9a-f]{64}) ([0-9a-f]{40}(?:-dirty)?) (\d+ passed, 0 failed)\n")
+DIFFERENCE = (
+    "the gate's program was built by the proof, and linked as the kit does; bin/argo_judge is linked of the "
+    "same object file after the proof, statically and with the commit in the text of --version"
+)
+
+
+class Gate(NamedTuple):
+    """What the last whole run of the gate left: which program it was of, and on which commit it ran."""
+
+    program: str
+    commit: str
+    last_line: str
+
+
+def git(*words: str) -> str:
+    ended = subprocess.run(["git", "--no-optional-locks", "-C", ROOT, *words], capture_output=True, text=True)
+    if ended.returncode != 0:
+        raise Refused(f"git {words[0]}: {ended.stderr.strip().splitlines()[-1]}")
+    return ended.stdout.strip()
+
+
+def gate() -> Gate | None:
+    """What the last whole run of the gate left, if it ended well."""
+    line = GATE_LINE.fullmatch(GATE.read_text(encoding="utf-8")) if GATE.is_file() else None
+    return Gate(*line.groups()) if line else None
+
+
+def doubts() -> Iterator[str]:
+    """Why this checkout has no release yet, a text for each reason."""
+    found = gate()
+    if found is None:
+        yield f"{GATE.relative_to(ROOT)} has no last line of the gate, where a whole .ci/run leaves one"
+    elif found.program != checksum(PROGRAM.read_bytes()):
+        yield f"{GATE.relative_to(ROOT)} is of another program, where a whole .ci/run leaves one of the program there"
+    if git("status", "--porcelain"):
+        yield "git has uncommitted changes, where a release has none"
+
+
+def check_files() -> None:
+    """Refuses a checkout without the program, or without what the program was made of."""
+    for file, option in ((PROGRAM, ""), (SOURCES, ""), (OBJECT, "--object ")):
+        if not file.is_file():
+            raise Refused(f"{file.relative_to(ROOT)} isn't there; bin/prove {option}argo_judge makes it")
+
+
+def check_sources() -> None:
+    """Refuses a program that isn't that of the sources as they are."""
+    if not is_current("argo_judge"):
+        raise Refused("the program isn't that of the sources as they are; bin/prove argo_judge proves and builds it")
+
+
+def of_library(tree: pathlib.Path) -> dict[str, str]:
+    """The lines on the C library, where the release has it."""
+    if not (tree / LIBRARY_FILES[0]).is_file():
+        return {"C library": "none"}
+    sources = checksum(LIBRARY_SOURCES.read_bytes())
+    return {
+        **{f"sha256 of {path}": checksum((tree / path).read_bytes()) for path in LIBRARY_FILES},
+        "sha256 of what bin/prove --sources argo_judge_c prints": sources,
+    }
+
+
+def proved(lines: dict[str, str]) -> str:
+    """The text of PROVED: these lines, then the checksums of the sources."""
+    lines = {**lines, "sources": "their checksums, as bin/prove --sources argo_judge prints them"}
+    text = "".join(f"{name}: {value}\n" for name, value in lines.items())
+    return text + SOURCES.read_text(encoding="utf-8")
