@@ -16,7 +16,7 @@ from argo_judge.literals import literals_of
 from argo_judge.notes import one_line
 from argo_judge.objects import shown
 from argo_judge.pointers import pointer_to
-from argo_judge.providers import known
+from argo_judge.providers import PROVIDERS
 from argo_judge.suite.numbers import moved_text, number_in
 from argo_judge.yamltext import plain_scalar
 
@@ -87,8 +87,8 @@ def test_json_is_read_or_refused(text: str) -> None:
 @of_any(TEXTS)
 def test_an_answer_is_a_value(text: str) -> None:
     json.dumps(measured(text))
-    for provider in (None, "datadog", "influxdb", "prometheus"):
-        assert len(known(provider, text)) <= 1
+    for provider in PROVIDERS:
+        assert len(provider.read(text)) <= 1
 
 
 @of_any(TEXTS)

@@ -1,8 +1,9 @@
 """Rules of lint that need no engine: limits, durations, references, conversions, and the values that are tried."""
+
 import pytest
 
 from argo_judge.jsontext import NumberText
-from argo_judge.lint.fields import close_to, is_text, is_whole, unknown_fields
+from argo_judge.lint.fields import close_to, refused_values, unknown_fields
 from argo_judge.lint.limits import is_duration, refused_by_controller, unreachable_limits
 from argo_judge.lint.references import bound, pieces, referred_in
 from argo_judge.lint.subjects import Subject
@@ -11,13 +12,14 @@ from argo_judge.lint.values import MOST_VALUES, decimal_text, size_of, value_tex
 from argo_judge.literals import number_of_literal
 from argo_judge.manifests import Found
 from argo_judge.objects import Json, Object
+from argo_judge.yamltext import UNKNOWN
 
 
 def subject_of(*metrics: Object) -> Subject:
     """A template with metrics that lack nothing but what they give."""
     usual: Object = {"name": "m", "interval": "1m", "provider": {"web": {}}}
     template: Object = {"kind": "AnalysisTemplate", "spec": {"metrics": [{**usual, **metric} for metric in metrics]}}
-    return Subject(Found(template, "file", "", {}), {}, {})
+    return Subject(Found(template, "file", "", UNKNOWN), {}, {})
 
 
 @pytest.mark.parametrize("text", ["0", "1s", "1h30m", "1.5h", ".5s", "-1m", "+1m", "1us", "1µs", "1μs", "1ns2ms"])
@@ -72,9 +74,78 @@ def test_unknown_fields_are_guessed() -> None:
     assert close_to("x" * 10_000, ["successCondition"]) is None
 
 
-def test_types() -> None:
-    assert is_text("0.5") and not is_text(NumberText("0.5")) and not is_text(5)
-    assert is_whole(5) and not is_whole(True) and not is_whole("5")
+@pytest.mark.parametrize(
+    ("metric", "message", "mend"),
+    [
+        ({"provider": {"web": {"jsonpath": 1}}}, 'web has no field "jsonpath", so', 'did you mean "jsonPath"?'),
+        ({"provider": {"web": {"interval": 1}}}, 'web has no field "interval", so', "it is a field of a metric"),
+        ({"query": "up"}, 'a metric has no field "query" in', "remove it; fields are name, interval, "),
+        (
+            {"query": "up", "provider": {"graphite": {}}},
+            'a metric has no field "query", so',
+            "it is a field of graphite",
+        ),
+        ({"provider": {"job": {}, "spec": {}}}, 'provider has no field "spec", so', "it is a field of job: "),
+        (
+            {"provider": {"prometheus": {"oauth2": {}}}},
+            'prometheus has no field "oauth2"',
+            "it is a field of prometheus.",
+        ),
+        ({"provider": {"web": {"headers": [{"name": 1}]}}}, "web.headers has no", "remove it; fields are key, value"),
+        (
+            {"provider": {"prometheus": {"authentication": {"sigv4": {"regoin": 1}}}}},
+            'prometheus.authentication.sigv4 has no field "regoin", so it is not read',
+            'did you mean "region"?',
+        ),
+        ({"provider": 7, "query": 1}, 'a metric has no field "query" in', "remove it"),
+    ],
+)
+def test_unknown_fields(metric: Object, message: str, mend: str) -> None:
+    (found,) = unknown_fields(subject_of({}, metric))
+    assert found.message.startswith(message) and found.mend.startswith(mend)
+
+
+@pytest.mark.parametrize(
+    ("metric", "pointer", "message", "mend"),
+    [
+        ({"count": NumberText("0.5")}, "/count", "`count` is 0.5,", "write a whole number, or a text"),
+        ({"interval": 60}, "/interval", "`interval` is 60,", "write a text in quotes"),
+        ({"provider": {"web": {}}}, "/provider/web", "web has no `url`,", "add `url`: a text in quotes"),
+        ({"provider": {"datadog": {"apiVersion": "v3"}}}, "/apiVersion", "`apiVersion` is", 'write "v1" or "v2"'),
+        (
+            {"provider": {"datadog": {"queries": {"a": 7}}}},
+            "/queries/a",
+            '`queries["a"]` is 7,',
+            "write a text in quotes",
+        ),
+        (
+            {"provider": {"newRelic": {"query": "q", "timeout": "5"}}},
+            "/timeout",
+            "`timeout` is",
+            "write a whole number",
+        ),
+    ],
+)
+def test_refused_values(metric: Object, pointer: str, message: str, mend: str) -> None:
+    (found,) = refused_values(subject_of({"provider": {"graphite": {}}, **metric}))
+    assert found.pointer.endswith(pointer) and found.message.startswith(message) and found.mend == mend
+
+
+def test_a_missing_provider_is_said_once() -> None:
+    made = subject_of({"provider": None})
+    assert list(refused_values(made)) == [] and len(list(refused_by_controller(made))) == 1
+
+
+def test_a_misspelt_field_is_not_also_missing() -> None:
+    made = subject_of({"provider": {"newRelic": {"Query": "q"}}})
+    assert list(refused_values(made)) == []
+    assert [one.mend for one in unknown_fields(made)] == ['did you mean "query"?']
+
+
+def test_of_many_unknown_fields_the_first_are_looked_at() -> None:
+    found = list(unknown_fields(subject_of({f"field{number}": 1 for number in range(20_000)})))
+    assert len(found) == 51
+    assert found[-1].message == "a metric has 19950 more fields that Argo Rollouts 1.8 doesn't know"
 
 
 # ---- texts of conditions

@@ -1,8 +1,9 @@
 """Arguments that nobody declares, that nobody uses, or that have no value."""
 from collections.abc import Iterator
 
-from argo_judge.lint.fields import LIMITS, close_to
+from argo_judge.lint.fields import close_to
 from argo_judge.lint.findings import Finding, error, info, warning
+from argo_judge.lint.limits import LIMITS
 from argo_judge.lint.references import STAND_IN, referred_in, referring_texts
 from argo_judge.lint.subjects import Subject, placed
 from argo_judge.objects import listed, shown

@@ -54,7 +54,7 @@ def subjects_of(words: Namespace, objects: Sequence[Found], where: str) -> list[
 def add_flags(parser: ArgumentParser) -> None:
     """What the plugin takes, too."""
     flag = parser.add_argument
-    flag("--output", choices=OUTPUTS, default="text", help="lines (text), or json, sarif or github")
+    flag("-o", "--output", choices=OUTPUTS, default="text", help="lines (text), or json, sarif or github")
     flag("--strict", action="store_true", help="end with status 1 for warnings, too")
     for name, does in (("--rule", "apply this rule alone"), ("--without", "leave this rule out")):
         flag(name, action="append", default=[], metavar="RULE", help=f"{does}; may be given several times")

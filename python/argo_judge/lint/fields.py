@@ -1,65 +1,31 @@
-"""Fields that Argo Rollouts doesn't have, and values that aren't of their field's type."""
+"""Fields that Argo Rollouts doesn't have, and values that the API server refuses."""
 import difflib
-from collections.abc import Callable, Iterable, Iterator
-from typing import NamedTuple, TypeGuard
+from collections.abc import Collection, Iterable, Iterator, Sequence
 
+from argo_judge.crd.reader import Fault, Keyword, Place, faults_of
+from argo_judge.crd.schema import Schema, Type, schema_of_kind
 from argo_judge.jsontext import NumberText
 from argo_judge.lint.findings import Finding, error, warning
-from argo_judge.lint.subjects import Subject, metric_pointer, placed
-from argo_judge.objects import Json, member, shown
+from argo_judge.lint.parts import METRIC, PROVIDER, SPEC, homes, title_of
+from argo_judge.lint.subjects import Subject
+from argo_judge.objects import member, shown
 from argo_judge.pointers import pointer_to
 
-LIMITS = ("count", "failureLimit", "inconclusiveLimit", "consecutiveErrorLimit", "consecutiveSuccessLimit")
-TEXTS = ("name", "interval", "initialDelay", "successCondition", "failureCondition")
-TEXTS_OF_LISTS = (("args", "name"), ("args", "value"), ("dryRun", "metricName"), ("measurementRetention", "metricName"))
-PROVIDERS = (
-    "prometheus",
-    "kayenta",
-    "web",
-    "datadog",
-    "wavefront",
-    "newRelic",
-    "job",
-    "cloudWatch",
-    "graphite",
-    "influxdb",
-    "skywalking",
-    "plugin",
-)
-OF_RUN = ("terminate", "ttlStrategy")
-# The fields of each part, by the name that a finding has for the part.
-KNOWN = {
-    "the object": ("apiVersion", "kind", "metadata", "spec", "status"),
-    "spec": ("metrics", "args", "dryRun", "measurementRetention", "templates"),
-    "a metric": (*TEXTS, *LIMITS, "provider"),
-    "provider": PROVIDERS,
-    "an argument": ("name", "value", "valueFrom"),
-    "dryRun": ("metricName",),
-    "measurementRetention": ("metricName", "limit"),
-}
 # Longer names are compared with nothing: that takes the square of their length.
 LONGEST_NAME = 64
-
-
-class Part(NamedTuple):
-    """A part of a template whose fields are known: its pointer, its name in KNOWN, and its value."""
-
-    pointer: str
-    name: str
-    value: Json
-
-
-def parts_of(subject: Subject) -> Iterator[Part]:
-    """The parts of a template, of which some may be missing."""
-    spec = member(subject.object, "spec")
-    yield Part("", "the object", subject.object)
-    yield Part(pointer_to("spec"), "spec", spec)
-    for name, part in (("args", "an argument"), ("dryRun", "dryRun"), ("measurementRetention", "measurementRetention")):
-        for place, item in placed(subject.object, name):
-            yield Part(pointer_to("spec", name, place), part, item)
-    for place, metric in subject.metrics:
-        yield Part(metric_pointer(place), "a metric", metric)
-        yield Part(metric_pointer(place, "provider"), "provider", member(metric, "provider"))
+# Of a part with more fields that nobody knows the others are only counted.
+MOST_UNKNOWN = 50
+# What is missing by other findings, which say more of it.
+SAID_ELSEWHERE = (SPEC, METRIC, PROVIDER)
+EXPECTED = {
+    None: "a value",
+    Type.OBJECT: "an object",
+    Type.ARRAY: "a list",
+    Type.STRING: "a text in quotes",
+    Type.INTEGER: "a whole number",
+    Type.BOOLEAN: "true or false",
+    Type.INT_OR_STRING: "a whole number, or a text",
+}
 
 
 def close_to(name: str, names: Iterable[str]) -> str | None:
@@ -69,78 +35,105 @@ def close_to(name: str, names: Iterable[str]) -> str | None:
     return lower[close[0]] if close else None
 
 
-def unknown_field(pointer: str, part: str, name: str) -> Finding:
+def faults_in(subject: Subject) -> Iterator[Fault]:
+    """Where a template isn't as the schema of its kind says."""
+    return faults_of(subject.object, schema_of_kind(subject.kind))
+
+
+# ---- fields that nobody knows
+
+
+def providers_at(subject: Subject, place: Place) -> Collection[str]:
+    """The names in `provider` of the metric in which a place is; none where it is in no metric."""
+    if place.fields[: len(METRIC)] != METRIC:
+        return ()
+    index = int(place.pointer.split("/")[len(METRIC) + 1])
+    provider = member(subject.object["spec"]["metrics"][index], "provider")
+    return provider if isinstance(provider, dict) else ()
+
+
+def unknown_field(subject: Subject, fault: Fault) -> Finding:
     """The finding of a field that its part doesn't have."""
-    at, has = pointer + pointer_to(name), f"{part} has no field {shown(name)}"
-    home = next((other for other, known in KNOWN.items() if name in known), None)
+    name, place, known = fault.found, fault.place, fault.expected.fields
+    at, has = place.pointer + pointer_to(name), f"{title_of(place.fields)} has no field {shown(name)}"
+    parts = homes(subject.kind, place.fields, providers_at(subject, place))
+    home = next((part for part in parts if name in part.schema.fields), None)
     if home is not None:
-        return error("unknown-field", at, f"{has}, so it is not read", f"it is a field of {home}: move it there")
-    if close := close_to(name, KNOWN[part]):
+        mend = f"it is a field of {title_of(home.fields)}: move it there"
+        return error("unknown-field", at, f"{has}, so it is not read", mend)
+    if close := close_to(name, known):
         return error("unknown-field", at, f"{has}, so it is not read", f"did you mean {shown(close)}?")
-    fields = ", ".join(KNOWN[part])
-    return warning("unknown-field", at, f"{has} in Argo Rollouts 1.8", f"remove it; fields are {fields}")
+    return warning("unknown-field", at, f"{has} in Argo Rollouts 1.8", f"remove it; fields are {', '.join(known)}")
+
+
+def unknown_by_part(faults: Iterable[Fault]) -> dict[str, list[Fault]]:
+    """The fields that nobody knows, by the pointers of their parts."""
+    found: dict[str, list[Fault]] = {}
+    for fault in faults:
+        if fault.keyword is Keyword.PROPERTIES:
+            found.setdefault(fault.place.pointer, []).append(fault)
+    return found
 
 
 def unknown_fields(subject: Subject) -> Iterator[Finding]:
-    """Fields that no part has."""
-    for pointer, part, value in parts_of(subject):
-        known = KNOWN[part] + (OF_RUN if part == "spec" and subject.kind == "AnalysisRun" else ())
-        for name in value if isinstance(value, dict) else ():
-            if name not in known:
-                yield unknown_field(pointer, part, name)
+    """Fields that no part has, of which the first few of a part are looked at."""
+    for pointer, faults in unknown_by_part(faults_in(subject)).items():
+        yield from (unknown_field(subject, fault) for fault in faults[:MOST_UNKNOWN])
+        if len(faults) > MOST_UNKNOWN:
+            more = f"{len(faults) - MOST_UNKNOWN} more fields that Argo Rollouts 1.8 doesn't know"
+            has = f"{title_of(faults[0].place.fields)} has {more}"
+            yield warning("unknown-field", pointer, has, "remove them")
 
 
-# ---- types
+# ---- values that the API server refuses
 
 
-def is_text(value: Json) -> TypeGuard[str]:
-    """Whether a value is a text; a fraction is none."""
-    return isinstance(value, str) and not isinstance(value, NumberText)
+def expected_of(schema: Schema) -> str:
+    """What a value should be, in words."""
+    if schema.choices:
+        *others, last = map(shown, schema.choices)
+        return f"{', '.join(others)} or {last}"
+    return EXPECTED[schema.type]
 
 
-def is_whole(value: Json) -> TypeGuard[int]:
-    """Whether a value is a whole number."""
-    return isinstance(value, int) and not isinstance(value, bool)
+def refused_value(fault: Fault) -> Finding:
+    """The finding of a value of another type, or of a text that is none of some."""
+    found = fault.found if isinstance(fault.found, NumberText) else shown(fault.found)
+    return error(
+        "refused-by-controller",
+        fault.place.pointer,
+        f"`{fault.place.name}` is {found}, which the API server refuses",
+        f"write {expected_of(fault.expected)}",
+    )
 
 
-def is_limit(value: Json) -> bool:
-    """Whether a value may be a limit, which the API server takes as a number or a text."""
-    return is_whole(value) or is_text(value)
+def missing_field(fault: Fault) -> Finding:
+    """The finding of a part that lacks a field."""
+    name = fault.found
+    return error(
+        "refused-by-controller",
+        fault.place.pointer,
+        f"{title_of(fault.place.fields)} has no `{name}`, which the API server refuses",
+        f"add `{name}`: {expected_of(fault.expected.fields[name])}",
+    )
 
 
-class TypedField(NamedTuple):
-    """A field whose type is looked at: its pointer, its value, what fits, and what that is."""
-
-    pointer: str
-    value: Json
-    fits: Callable[[Json], bool]
-    expected: str
-
-
-def typed_fields(subject: Subject) -> Iterator[TypedField]:
-    """The fields whose types are looked at."""
-    for place, metric in subject.metrics:
-        for name in TEXTS:
-            yield TypedField(metric_pointer(place, name), metric.get(name), is_text, "a text in quotes")
-        for name in LIMITS:
-            yield TypedField(metric_pointer(place, name), metric.get(name), is_limit, "a whole number, or a text")
-    for name, field in TEXTS_OF_LISTS:
-        for place, item in placed(subject.object, name):
-            yield TypedField(pointer_to("spec", name, place, field), item.get(field), is_text, "a text in quotes")
-    for place, item in placed(subject.object, "measurementRetention"):
-        pointer = pointer_to("spec", "measurementRetention", place, "limit")
-        yield TypedField(pointer, item.get("limit"), is_whole, "a whole number")
+def misspelt(faults: Sequence[Fault]) -> Iterator[tuple[str, str]]:
+    """The pointer of each part that lacks fields, with the fields that it seems to have under another name."""
+    lacking = {fault.place.pointer for fault in faults if fault.keyword is Keyword.REQUIRED}
+    for pointer, unknown in unknown_by_part(faults).items():
+        for fault in unknown[:MOST_UNKNOWN] if pointer in lacking else ():
+            if close := close_to(fault.found, fault.expected.required):
+                yield pointer, close
 
 
-def wrong_types(subject: Subject) -> Iterator[Finding]:
-    """Values that the API server refuses."""
-    for field in typed_fields(subject):
-        if field.value is not None and not field.fits(field.value):
-            name = field.pointer.rpartition("/")[2]
-            found = field.value if isinstance(field.value, NumberText) else shown(field.value)
-            yield error(
-                "refused-by-controller",
-                field.pointer,
-                f"`{name}` is {found}, which the API server refuses",
-                f"write {field.expected}",
-            )
+def refused_values(subject: Subject) -> Iterator[Finding]:
+    """Values that the API server refuses, and fields that it misses, unless another finding has said so."""
+    faults = list(faults_in(subject))
+    said = set(misspelt(faults))
+    for fault in faults:
+        if fault.keyword is Keyword.REQUIRED:
+            is_said = (*fault.place.fields, fault.found) in SAID_ELSEWHERE or (fault.place.pointer, fault.found) in said
+            yield from [] if is_said else [missing_field(fault)]
+        elif fault.keyword is not Keyword.PROPERTIES:
+            yield refused_value(fault)

@@ -2,13 +2,17 @@
 import re
 from collections.abc import Iterator, Mapping
 
-from argo_judge.lint.fields import PROVIDERS, is_text, is_whole
+from argo_judge.jsontext import is_text, is_whole
 from argo_judge.lint.findings import Finding, error, warning
 from argo_judge.lint.references import bound
 from argo_judge.lint.subjects import Subject, metric_pointer, metric_title
 from argo_judge.objects import Object, member, shown
 from argo_judge.pointers import pointer_to
+from argo_judge.providers import NAMES
 
+# The limits of a metric that the controller's validation looks at, and all that there are.
+CHECKED = ("count", "failureLimit", "inconclusiveLimit", "consecutiveErrorLimit")
+LIMITS = (*CHECKED, "consecutiveSuccessLimit")
 WHOLE = re.compile(r"[+-]?\d{1,10}", re.ASCII)
 DURATION = re.compile(r"[+-]?(0|((\d+(\.\d*)?|\.\d+)(ns|us|µs|μs|ms|s|m|h))+)", re.ASCII)
 LONGEST_DURATION = 64
@@ -37,10 +41,7 @@ def refused_limits(subject: Subject, place: int, metric: Object) -> Iterator[Fin
         sentence = f"{metric_title(place, metric)}: {message}"
         return error("refused-by-controller", metric_pointer(place, name), sentence, mend)
 
-    limits = {
-        name: limit_of(metric, name, subject.values)
-        for name in ("count", "failureLimit", "inconclusiveLimit", "consecutiveErrorLimit")
-    }
+    limits = {name: limit_of(metric, name, subject.values) for name in CHECKED}
     count = limits["count"]
     for name, limit in limits.items():
         if limit is not None and limit < 0 and name != "count":
@@ -82,7 +83,7 @@ def refused_durations(subject: Subject, place: int, metric: Object) -> Iterator[
 def refused_providers(place: int, metric: Object) -> Iterator[Finding]:
     """A metric without a provider, or with several."""
     provider = metric.get("provider")
-    known = [name for name in PROVIDERS if member(provider, name) is not None]
+    known = [name for name in NAMES if member(provider, name) is not None]
     names = [name for name in provider if provider[name] is not None] if isinstance(provider, dict) else []
     if len(known) > 1:
         yield error(
@@ -96,7 +97,7 @@ def refused_providers(place: int, metric: Object) -> Iterator[Finding]:
             "refused-by-controller",
             metric_pointer(place),
             f"{metric_title(place, metric)}: it has no provider, which the controller refuses",
-            f"add a `provider` that is one of {', '.join(PROVIDERS)}",
+            f"add a `provider` that is one of {', '.join(NAMES)}",
         )
 
 

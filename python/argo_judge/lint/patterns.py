@@ -4,7 +4,7 @@ from collections.abc import Iterator, Sequence
 
 from argo_judge.dryruns import ALL, SLOW, matched_names
 from argo_judge.errors import Refused
-from argo_judge.lint.fields import is_text
+from argo_judge.jsontext import is_text
 from argo_judge.lint.findings import Finding, error, info, warning
 from argo_judge.lint.references import bound
 from argo_judge.lint.subjects import Subject, metric_names, placed

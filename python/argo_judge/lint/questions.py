@@ -3,6 +3,7 @@ from collections.abc import Mapping, Sequence
 from subprocess import CompletedProcess
 from typing import NamedTuple, TypeAlias
 
+from argo_judge.engine.limits import limits_of
 from argo_judge.engine.program import judged, shell_status
 from argo_judge.engine.refusals import Refusal, refusal_in
 from argo_judge.engine.reports import EventReport, report_in
@@ -12,7 +13,6 @@ from argo_judge.objects import Json, Object
 from argo_judge.templates import API_VERSION, CONDITIONS
 
 MOST_LIMIT = 1_000_000_000
-MOST_METRICS = 64
 # How the text of a refusal begins, by what it is of in the documents that are made here.
 OF_RUN, OF_SHAPES, OF_MANIFEST = 'run 0 "lint", ', "shapes: ", "manifest: "
 
@@ -102,7 +102,8 @@ def refused_one(start: CompletedProcess[str], questions: Sequence[Numbered]) -> 
 
 
 def some_answered(engine: str, questions: Sequence[Numbered]) -> dict[int, Answer]:
-    """The answers to at most 64 questions that have numbers. What is refused is found without values."""
+    """The answers to questions that have numbers, as many as one document takes. What is refused is found without
+    values."""
     refused = {}
     start = ended(engine, ["run", "--plain", "--output", "json"], document_of(questions, True))
     while start.returncode == REFUSED:
@@ -123,8 +124,9 @@ def some_answered(engine: str, questions: Sequence[Numbered]) -> dict[int, Answe
 def answered(engine: str, questions: Sequence[Question]) -> list[Answer]:
     """The engine's answer to each question."""
     numbered, found = list(enumerate(questions)), {}
-    for begin in range(0, len(numbered), MOST_METRICS):
-        found.update(some_answered(engine, numbered[begin : begin + MOST_METRICS]))
+    most = limits_of(engine).metrics if questions else 1
+    for begin in range(0, len(numbered), most):
+        found.update(some_answered(engine, numbered[begin : begin + most]))
     return [found[number] for number in range(len(questions))]
 
 

@@ -3,7 +3,7 @@ from collections.abc import Collection, Iterator
 
 from argo_judge.lint.arguments import arguments_without_value, unknown_arguments, unused_arguments
 from argo_judge.lint.conditions import conditions_missing, findings_of_texts
-from argo_judge.lint.fields import unknown_fields, wrong_types
+from argo_judge.lint.fields import refused_values, unknown_fields
 from argo_judge.lint.findings import Finding, error
 from argo_judge.lint.limits import refused_by_controller, unreachable_limits
 from argo_judge.lint.patterns import metric_patterns
@@ -17,7 +17,7 @@ from argo_judge.pointers import pointer_to
 
 OF_TEXT = (
     unknown_fields,
-    wrong_types,
+    refused_values,
     refused_by_controller,
     conditions_missing,
     findings_of_shapes,
@@ -61,9 +61,14 @@ def refused_by_engine(engine: str, subject: Subject) -> Iterator[Finding]:
         )
 
 
+def is_index(name: str) -> bool:
+    """Whether a part of a pointer may be an index. Longer digits are the name of a field."""
+    return name.isascii() and name.isdecimal() and len(name) < 10
+
+
 def numbered(pointer: str) -> list[tuple[int, int, str]]:
     """A pointer's names and numbers, in an order in which metric 10 comes after metric 9."""
-    return [(0, int(name), "") if name.isdecimal() else (1, 0, name) for name in pointer.split("/")]
+    return [(0, int(name), "") if is_index(name) else (1, 0, name) for name in pointer.split("/")]
 
 
 def findings_of(engine: str, subject: Subject, chosen: Collection[str]) -> list[Finding]:

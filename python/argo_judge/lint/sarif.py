@@ -1,6 +1,5 @@
 """Findings in SARIF 2.1.0, as code scanning reads them."""
 import json
-import pathlib
 import urllib.parse
 from collections.abc import Sequence
 
@@ -8,7 +7,6 @@ from argo_judge.lint.findings import PAGE, RULES, Severity
 from argo_judge.lint.outputs import STANDARD_INPUT, Located
 from argo_judge.lint.subjects import Subject
 from argo_judge.objects import Object
-from argo_judge.places import ROOT
 
 SCHEMA = "https://json.schemastore.org/sarif-2.1.0.json"
 LEVELS = {Severity.ERROR: "error", Severity.WARNING: "warning", Severity.INFO: "note"}
@@ -16,8 +14,7 @@ LEVELS = {Severity.ERROR: "error", Severity.WARNING: "warning", Severity.INFO: "
 
 def rule_of(name: str) -> Object:
     """What SARIF has of a rule."""
-    page = pathlib.Path(ROOT, PAGE).as_uri()
-    return {"id": name, "shortDescription": {"text": RULES[name]}, "helpUri": f"{page}#{name}"}
+    return {"id": name, "shortDescription": {"text": RULES[name]}, "help": {"text": f"{PAGE}#{name} of argo_judge"}}
 
 
 def location_of(one: Located) -> Object:

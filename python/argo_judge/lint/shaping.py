@@ -4,29 +4,17 @@ from collections.abc import Iterator, Mapping
 from typing import NamedTuple
 
 from argo_judge.errors import Refused
-from argo_judge.lint.fields import PROVIDERS, close_to
+from argo_judge.lint.fields import close_to
 from argo_judge.lint.findings import Finding, error, info, warning
 from argo_judge.lint.subjects import Subject, metric_names, metric_pointer, metric_title
 from argo_judge.objects import Json, Object, listed, member, shown
 from argo_judge.pointers import pointer_to
+from argo_judge.providers import provider_of
 from argo_judge.shapes import ANNOTATION, noted_shapes, own_shape, usual_of
 from argo_judge.templates import CONDITIONS
 
 PAGE = "docs/use/shapes.md has shapes by provider"
 AT_ANNOTATION = pointer_to("metadata", "annotations", ANNOTATION)
-# What each provider may answer, by the outermost part of a shape.
-LIKELY = {
-    "prometheus": ("list", "decimal", "whole", "text"),
-    "datadog": ("decimal", "whole"),
-    "newRelic": ("record", "list"),
-    "wavefront": ("decimal", "whole", "list"),
-    "cloudWatch": ("list",),
-    "graphite": ("list",),
-    "influxdb": ("list",),
-    "skywalking": ("record",),
-    "kayenta": ("decimal", "whole"),
-    "job": ("bool",),
-}
 
 
 class Shaped(NamedTuple):
@@ -64,11 +52,6 @@ def has_conditions(metric: Object) -> bool:
     return any(isinstance(metric.get(name), str) and metric[name] for name in CONDITIONS)
 
 
-def provider_of(metric: Object) -> str | None:
-    """The name of a metric's provider, if it is known."""
-    return next((name for name in PROVIDERS if member(metric, "provider", name) is not None), None)
-
-
 def outermost(shape: Json) -> str | None:
     """The outermost part of a shape, whether it may be nil or not."""
     shape = member(shape, "optional", default=shape)
@@ -90,11 +73,11 @@ def shape_of_metric(place: int, metric: Object, shaped: Shaped | None) -> Findin
             f"declare one by the annotation {ANNOTATION} or --shapes: {PAGE}",
         )
     part = outermost(shaped.shape)
-    if shaped.declared and provider in LIKELY and part is not None and part not in LIKELY[provider]:
+    if shaped.declared and provider is not None and part is not None and not provider.may_answer(part):
         return warning(
             "shape",
             shaped.declared,
-            f"{title}: the shape is {shown(shaped.shape)}, which {provider} doesn't answer",
+            f"{title}: the shape is {shown(shaped.shape)}, which {provider.name} doesn't answer",
             f"compare it with a real result; {PAGE}",
         )
     return None

@@ -4,7 +4,7 @@ from typing import NamedTuple
 
 from argo_judge.literals import TOKEN
 
-# The engine takes no longer condition.
+# Of a longer condition nothing is said: calls in calls take the square of their number.
 LONGEST = 4096
 TO_NUMBER, TESTS = ("asFloat", "asInt"), ("isNaN", "isInf")
 GUARDS = ("default", "isNil")
