@@ -7,7 +7,8 @@ crates/argo_judge_c/out/libargo_judge_c.a. Each document of examples/ and each s
 a command for is tried with each of the library's commands, through Python's ctypes, with buffers that are too small,
 just large enough and larger. Then examples/embed is built and run, in C, in C without shared libraries, in Go and in
 Python, on README's first document, which each has to report as the program does; the library is called by several
-threads at once; and it is refused memory, call after call. What isn't tried is said in a line. The last line has the
+threads at once; it is refused memory, call after call; and the deepest documents are tried in a thread with the stack
+that the header asks for. What isn't tried is said in a line. The last line has the
 counts.
 """
 
@@ -21,11 +22,10 @@ import subprocess
 import sys
 import tempfile
 
-import library
-
-from checks import ROOT
+from checks import ROOT, stacks
 from checks.data import EXAMPLES, cases_of, text_of
 from checks.harness import Counts, built, side_by_side, started_in_bytes
+from releasing import library
 
 EMBED = EXAMPLES / "embed"
 README_DOCUMENT = EXAMPLES / "bundles/success-rate.json"
@@ -170,7 +170,7 @@ def of_examples(folder, program):
             own = subprocess.run([*words, str(command)], input=given, capture_output=True, check=False)
             wanted = subprocess.run([program, *COMMANDS[command]], input=given, capture_output=True, check=False)
             same = (own.returncode, own.stdout, own.stderr) == (wanted.returncode, wanted.stdout, wanted.stderr)
-            yield f"{name} with command {command} on {given[:20]}", same
+            yield f"{name} with command {command} on {given[:20]!r}", same
 
 
 # ---- memory
@@ -204,6 +204,32 @@ def of_memory(folder):
         yield f"command {command} under refused memory: {ended.stderr.decode()}", ended.returncode == 0
 
 
+# ---- stack
+
+
+def measured(words, document):
+    """The status of a call in a thread, and the bytes of stack that it used."""
+    ended = subprocess.run(words, input=document, capture_output=True, check=False)
+    found = ended.stdout.split()
+    return (int(found[0]), int(found[1])) if len(found) == 2 else (ended.returncode, None)
+
+
+def of_stack(folder):
+    """Each call gets by with half of the stack that the header asks for."""
+    if not is_there("cc"):
+        return
+    yield "the program that measures stacks is built", compiled(stacks.built_by(folder))
+    asked, greatest = stacks.asked(), 0
+    tried = list(stacks.documents())
+    words = [[str(folder / "stack"), str(command), str(asked)] for command, _ in tried]
+    found = side_by_side(lambda one: measured(one[0], one[1][1]), zip(words, tried))
+    for (command, document), (status, used) in zip(tried, found):
+        greatest = max(greatest, used or 0)
+        is_so = used is not None and used <= asked // 2 and status in (0, 1, REFUSED, OUT_OF_MEMORY)
+        yield f"command {command} on {document[:60]!r} with {asked} bytes of stack: {status}, {used}", is_so
+    print(f"embed: of {asked} bytes of stack at most {greatest} were used")
+
+
 def checks(program, archive, folder):
     library.made(folder, built=archive)
     own = library.loaded(folder / "lib/libargo_judge.so")
@@ -212,6 +238,7 @@ def checks(program, archive, folder):
     yield from of_threads(own, program)
     yield from of_examples(folder, program)
     yield from of_memory(folder)
+    yield from of_stack(folder)
 
 
 def main(words: list[str]) -> int:
@@ -222,3 +249,7 @@ def main(words: list[str]) -> int:
         for what, passed in list(checks(program, archive, pathlib.Path(scratch))):
             counts.expect(passed, f"embed: failed: {what}")
     return counts.end()
+
+
+if __name__ == "__main__":
+    sys.exit(main(sys.argv[1:]))

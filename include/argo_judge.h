@@ -4,10 +4,11 @@
  * A call carries out one command on one JSON document, as the program argo_judge does with the document on its
  * standard input; docs/use/formats.md describes documents and answers. Calls start no threads, keep no memory
  * between them, and read and write nothing but what is passed. Several threads may call at the same time, each with
- * buffers of its own. Don't call from a signal handler, or from the forked child of a process with threads.
+ * buffers of its own and a stack of ARGO_JUDGE_STACK bytes. Don't call from a signal handler, or from the forked child
+ * of a process with threads.
  *
- * Link libargo_judge.a or libargo_judge.so. The C library is the only other one that it needs; memory comes from
- * malloc, realloc and free.
+ * Link libargo_judge.a or libargo_judge.so. Of other libraries they need the C library and, where the compiler doesn't
+ * link it by itself, libgcc; memory comes from malloc, realloc and free.
  */
 #ifndef ARGO_JUDGE_H
 #define ARGO_JUDGE_H
@@ -28,11 +29,17 @@ extern "C" {
 #define ARGO_JUDGE_EXPLAIN 4u /* `explain`: what led to each event */
 #define ARGO_JUDGE_JSON 16u
 
+/*
+ * The bytes of stack with which a thread may call. The greatest need that tests find, over the deepest conditions,
+ * shapes and values that are taken, is below half of it; this is tested, not proved. A thread with less may die.
+ */
+#define ARGO_JUDGE_STACK 1048576u
+
 /* Statuses, which are the program's but for the last. */
 #define ARGO_JUDGE_GOOD 0          /* done; the answer is in `output` */
 #define ARGO_JUDGE_BAD 1           /* done, and a run is Failed, Error or Inconclusive; the answer is in `output` */
 #define ARGO_JUDGE_REFUSED 2       /* the command or the input is refused; why is in `output`, as a line or as JSON */
-#define ARGO_JUDGE_OUT_OF_MEMORY 3 /* memory ran out; `output` is as it was, and `*written` is 0 */
+#define ARGO_JUDGE_OUT_OF_MEMORY 3 /* malloc or realloc returned null; `output` is as it was, and `*written` is 0 */
 #define ARGO_JUDGE_TOO_SMALL 4     /* `output` is too small and is as it was; `*written` is how large it has to be */
 
 /*
@@ -52,7 +59,8 @@ uint8_t argo_judge_run(uint32_t command, const uint8_t *input, size_t input_leng
 /*
  * Puts the version, as `argo_judge --version` prints it after the program's name, at the front of the
  * `output_capacity` bytes at `output`, and its length into `*written`. Returns whether it fits; where it doesn't,
- * `output` is as it was.
+ * `output` is as it was. A release writes the commit into that text after the proof, so that it is the proved program's
+ * version is tested there, not proved; all else that is proved of the calls holds in a release, too.
  */
 bool argo_judge_version(uint8_t *output, size_t output_capacity, size_t *written);
 
