@@ -1,43 +1,44 @@
 """What became of each run by its own template and by the other, and the sums."""
 from collections import Counter
 from collections.abc import Sequence
+from dataclasses import dataclass, field
 from typing import NamedTuple
 
-from argo_judge.backtest.batches import judged_runs
-from argo_judge.backtest.runs import Judgement, LeftOut
-from argo_judge.backtest.sweeps import Sums, Sweep, sums_of
-from argo_judge.engine.refusals import Refusal
+from argo_judge.backtest.sweeps import UNDECIDED, Sums, Sweep, sums_of
 from argo_judge.engine.reports import COUNTS, MetricReport, RunReport
 
 LIMITS = ("count", "failureLimit", "inconclusiveLimit", "consecutiveErrorLimit")
 
 
+class LeftOut(NamedTuple):
+    """A run that isn't judged, why, and whether it was made of another template."""
+
+    name: str
+    why: str
+    is_of_other: bool = False
+
+
 class Outcome(NamedTuple):
-    """A run's phase by its controller, and what the engine reports by its own template and by the other."""
+    """A run's phase by its controller, by its own template and by the other, and what differs; the phase by each value
+    of the sweep; and the metrics by both templates, where each run is asked for."""
 
     name: str
     controller: str
-    own: RunReport
-    other: RunReport
+    own: str
+    other: str
+    why: list[str]
     swept: list[str]
+    metrics: tuple[list[MetricReport], list[MetricReport]] | None
 
     @property
     def flips(self) -> bool:
         """Whether the run ends otherwise by the other template."""
-        return self.own["phase"] != self.other["phase"]
+        return self.own != self.other
 
     @property
     def differs(self) -> bool:
         """Whether the engine and the controller differ by the same template."""
-        return self.own["phase"] != self.controller
-
-
-class Result(NamedTuple):
-    """What came of all runs; `sweep`: each value of the argument with its sums."""
-
-    outcomes: list[Outcome]
-    left_out: list[LeftOut]
-    sweep: list[tuple[str, Sums]]
+        return self.own != self.controller
 
 
 def changes_of(metric: MetricReport, own: MetricReport | None) -> list[str]:
@@ -52,42 +53,64 @@ def changes_of(metric: MetricReport, own: MetricReport | None) -> list[str]:
     return phase + found
 
 
-def why(outcome: Outcome) -> list[str]:
-    """What differs in each metric of a run that flips."""
-    own = {metric["name"]: metric for metric in outcome.own["metrics"]}
-    found = [(metric["name"], changes_of(metric, own.get(metric["name"]))) for metric in outcome.other["metrics"]]
+def differences(before: RunReport, after: RunReport) -> list[str]:
+    """What differs in each metric between the reports of a run by two templates."""
+    own = {metric["name"]: metric for metric in before["metrics"]}
+    found = [(metric["name"], changes_of(metric, own.get(metric["name"]))) for metric in after["metrics"]]
     lines = [f"{name}: {', '.join(changes)}" for name, changes in found if changes]
     gone = [name for name in own if name not in dict(found)]
     return lines + [f"{name}: isn't in the template" for name in gone]
 
 
-def outcomes_of(judgements: Sequence[Judgement], engine: str) -> tuple[list[Outcome], list[LeftOut]]:
-    """The outcome of each run, and the runs of which the engine refuses a document."""
-    found, left_out = [], []
-    documents = [made for one in judgements for made in (one.own, one.other, *one.swept)]
-    names = [one.name for one in judgements for _ in (one.own, one.other, *one.swept)]
-    reports = iter(judged_runs(engine, documents, names))
-    for one in judgements:
-        answers = [next(reports) for _ in range(2 + len(one.swept))]
-        refusals = [answer.text for answer in answers if isinstance(answer, Refusal)]
-        if refusals:
-            left_out.append(LeftOut(one.name, refusals[0]))
-        else:
-            own, other, *swept = [answer for answer in answers if not isinstance(answer, Refusal)]
-            found.append(Outcome(one.name, one.controller, own, other, [report["phase"] for report in swept]))
-    return found, left_out
+def outcome_of(name: str, controller: str, reports: Sequence[RunReport], has_each: bool) -> Outcome:
+    """The outcome of a run, by the reports of its documents."""
+    own, other, *swept = reports
+    return Outcome(
+        name,
+        controller,
+        own["phase"],
+        other["phase"],
+        differences(own, other) if has_each or own["phase"] != other["phase"] else [],
+        [report["phase"] for report in swept],
+        (own["metrics"], other["metrics"]) if has_each else None,
+    )
 
 
-def result_of(judgements: Sequence[Judgement], left_out: list[LeftOut], sweep: Sweep | None, engine: str) -> Result:
-    """The result of all runs: outcomes, what is left out, and the sums of each value of a sweep."""
-    outcomes, refused = outcomes_of(judgements, engine)
-    swept = [
-        (value, sums_of([outcome.swept[place] for outcome in outcomes]))
-        for place, value in enumerate(sweep.values if sweep else [])
-    ]
-    return Result(outcomes, left_out + refused, swept)
+@dataclass
+class Result:
+    """What came of all runs so far. Of runs that neither flip nor differ only the sums are kept, unless each run is
+    asked for."""
 
+    sweep: Sweep | None
+    has_each: bool
+    outcomes: list[Outcome] = field(default_factory=list)
+    left_out: list[LeftOut] = field(default_factory=list)
+    judged: int = 0
+    undecided: int = 0
+    # How many runs flip, by the phases before and after; and of each value of the sweep how many have which phase.
+    flips: Counter[tuple[str, str]] = field(default_factory=Counter)
+    swept: list[Counter[str]] = field(default_factory=list)
 
-def flips_of(result: Result) -> Counter[tuple[str, str]]:
-    """How many runs flip, by the phases before and after."""
-    return Counter((one.own["phase"], one.other["phase"]) for one in result.outcomes if one.flips)
+    def __post_init__(self) -> None:
+        """Begins with no run of any value."""
+        self.swept = [Counter() for _ in self.sweep.values] if self.sweep else []
+
+    def add(self, one: Outcome | LeftOut) -> None:
+        """Takes what came of a run."""
+        if isinstance(one, LeftOut):
+            self.left_out.append(one)
+            return
+        self.judged += 1
+        self.undecided += one.other in UNDECIDED
+        for counter, phase in zip(self.swept, one.swept):
+            counter[phase] += 1
+        if one.flips:
+            self.flips[one.own, one.other] += 1
+        if one.flips or one.differs or self.has_each:
+            self.outcomes.append(one)
+
+    @property
+    def sums(self) -> list[tuple[str, Sums]]:
+        """Each value of the sweep with its sums."""
+        values = self.sweep.values if self.sweep else []
+        return [(value, sums_of(phases)) for value, phases in zip(values, self.swept)]

@@ -4,6 +4,7 @@ from xml.sax.saxutils import escape
 
 from argo_judge.backtest.outcomes import Result
 from argo_judge.backtest.sweeps import Sweep
+from argo_judge.xmltext import xml_text
 
 WIDTH, HEIGHT = 640, 360
 LEFT, RIGHT, TOP, BOTTOM = 56, 16, 40, 56
@@ -13,7 +14,7 @@ SERIES = (("stopped", "#c0392b"), ("inconclusive", "#d68910"), ("undecided", "#7
 
 def text(x: float, y: float, words: str, anchor: str = "middle", size: int = 12) -> str:
     """Words at a place."""
-    return f'<text x="{x:.1f}" y="{y:.1f}" text-anchor="{anchor}" font-size="{size}">{escape(words)}</text>'
+    return f'<text x="{x:.1f}" y="{y:.1f}" text-anchor="{anchor}" font-size="{size}">{escape(xml_text(words))}</text>'
 
 
 def across(place: int, times: int) -> float:
@@ -60,14 +61,14 @@ def legend(drawn: Sequence[tuple[str, str]]) -> Iterator[str]:
 
 def svg_of(result: Result, sweep: Sweep) -> str:
     """Stopped runs are always drawn, and the other curves where they aren't 0 throughout."""
-    most = max(1, len(result.outcomes))
-    values = [value for value, _ in result.sweep]
-    numbers = {name: [getattr(sums, name) for _, sums in result.sweep] for name, _ in SERIES}
+    most = max(1, result.judged)
+    values = [value for value, _ in result.sums]
+    numbers = {name: [getattr(sums, name) for _, sums in result.sums] for name, _ in SERIES}
     drawn = [(name, colour) for name, colour in SERIES if name == "stopped" or any(numbers[name])]
     parts = [*grid(most), *labels(values)]
     for name, colour in reversed(drawn):  # the last one is in front
         parts.extend(curve(numbers[name], most, name, colour))
-    title = f"{sweep.argument}, of {len(result.outcomes)} runs"
+    title = f"{sweep.argument}, of {result.judged} runs"
     parts += [*legend(drawn), text(LEFT + (WIDTH - LEFT - RIGHT) / 2, HEIGHT - 12, title)]
     head = (
         f'<svg xmlns="http://www.w3.org/2000/svg" viewBox="0 0 {WIDTH} {HEIGHT}" width="{WIDTH}" height="{HEIGHT}" '

@@ -1,17 +1,27 @@
 """AnalysisRuns that ended, each with the documents that judge it by its own template and by another."""
-from collections.abc import Mapping, Sequence
+from collections.abc import Iterable, Iterator, Sequence
 from typing import NamedTuple
 
-from argo_judge.analysisruns import Flags, checked_run, document_of
+from argo_judge.analysisruns import Flags, checked_run, document_by, history_of
 from argo_judge.backtest.sweeps import Sweep
 from argo_judge.cuts import note_cuts
 from argo_judge.errors import Refused
-from argo_judge.manifests import Found, of_kinds
-from argo_judge.notes import kept_notes, note
-from argo_judge.objects import Json, Object, member, shown
+from argo_judge.manifests import Found, each_of_kinds
+from argo_judge.notes import note
+from argo_judge.objects import Json, Object, listed, member, shown
 from argo_judge.ordering import DONE
 from argo_judge.shapes import ANNOTATION
 from argo_judge.templates import metrics_of
+
+
+class Trial(NamedTuple):
+    """What is tried on runs: a template with its given arguments, the values of an argument that is swept, and how
+    documents are made."""
+
+    template: Object
+    args: Sequence[str]
+    sweep: Sweep | None
+    flags: Flags
 
 
 class Judgement(NamedTuple):
@@ -24,12 +34,10 @@ class Judgement(NamedTuple):
     other: Object
     swept: list[Object]
 
-
-class LeftOut(NamedTuple):
-    """A run that isn't judged, and why."""
-
-    name: str
-    why: str
+    @property
+    def documents(self) -> list[Object]:
+        """All of them."""
+        return [self.own, self.other, *self.swept]
 
 
 def name_of(run: Json) -> str:
@@ -38,12 +46,15 @@ def name_of(run: Json) -> str:
     return "/".join(name for name in names if isinstance(name, str))
 
 
-def runs_in(found: Sequence[Found]) -> list[Object]:
+def by_name(owner: Json) -> dict[str, Json]:
+    """How each metric of a template or a run is measured."""
+    metrics = metrics_of(owner)
+    return {metric["name"]: metric.get("provider") for metric in metrics if isinstance(member(metric, "name"), str)}
+
+
+def runs_in(found: Iterable[Found]) -> Iterator[Object]:
     """The AnalysisRuns among objects."""
-    runs = [one.value for one in of_kinds(found, ("AnalysisRun",), "AnalysisRun")]
-    if not runs:
-        raise Refused("input: expected AnalysisRuns, as `kubectl get analysisrun -o json` prints them, found none")
-    return runs
+    return (one.value for one in each_of_kinds(found, ("AnalysisRun",), "AnalysisRun"))
 
 
 def with_measured_alone(made: Object) -> Object:
@@ -79,41 +90,32 @@ def with_shapes(run: Object, template: Object) -> Object:
     return {**run, "metadata": {**run["metadata"], "annotations": noted_too}}
 
 
-def judgement_of(run: Object, template: Object, args: Sequence[str], sweep: Sweep | None, flags: Flags) -> Judgement:
-    """What is asked of a run."""
+class OtherTemplate(Refused):
+    """A run that was made of another template."""
+
+
+def check_metrics(run: Object, template: Object) -> None:
+    """Refuses a run none of whose metrics the template has. A metric that has another name there, and is measured
+    alike, is noted."""
+    own, other = by_name(run), by_name(template)
+    for name in own:
+        if name not in other:
+            alike = [one for one in other if one not in own and other[one] == own[name] is not None]
+            for one in alike[:1]:
+                note(f"metric {shown(name)} is measured as {shown(one)} of the template, which may be its new name")
+    if own and not own.keys() & other.keys():
+        raise OtherTemplate(f"the template has none of its metrics: {listed(list(own))}")
+
+
+def judgement_of(run: Object, trial: Trial) -> Judgement:
+    """What is asked of a run. One that can't be judged is refused."""
     phase = member(run, "status", "phase")
     if phase not in DONE:
         raise Refused(f"it hasn't ended: its phase is {shown(phase)}")
-    own, _ = document_of(with_shapes(checked_run(run), template), flags)
-    other = with_measured_alone(document_of(run, flags, template, args)[0])
+    check_metrics(run, trial.template)
+    found = history_of(checked_run(run), trial.flags)
+    own = document_by(with_shapes(run, trial.template), found, trial.flags)
+    other = with_measured_alone(document_by(run, found, trial.flags, trial.template, trial.args))
+    sweep = trial.sweep
     swept = [with_argument(other, sweep.argument, value) for value in sweep.values] if sweep else []
     return Judgement(name_of(run), phase, own, other, swept)
-
-
-def report_notes(noted: Mapping[str, Sequence[str]]) -> None:
-    """Writes each line that was noted of runs once, with how many runs it is of."""
-    for line, names in noted.items():
-        runs = names[0] if len(names) == 1 else f"{names[0]} and {len(names) - 1} more"
-        note(f"{line} ({runs})")
-
-
-def judgements_of(
-    runs: Sequence[Object], template: Object, args: Sequence[str], sweep: Sweep | None, flags: Flags
-) -> tuple[list[Judgement], list[LeftOut]]:
-    """What is asked of each run, and the runs that are left out."""
-    found, left_out, seen = [], [], set()
-    noted: dict[str, list[str]] = {}
-    for run in runs:
-        name = name_of(run)
-        with kept_notes() as lines:
-            try:
-                if name in seen:
-                    raise Refused("a run of this name is there before")
-                found.append(judgement_of(run, template, args, sweep, flags))
-            except Refused as refusal:
-                left_out.append(LeftOut(name, str(refusal).removeprefix("input: ").partition("; --partial")[0]))
-        seen.add(name)
-        for line in dict.fromkeys(lines):
-            noted.setdefault(line, []).append(name)
-    report_notes(noted)
-    return found, left_out

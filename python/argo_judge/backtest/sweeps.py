@@ -1,6 +1,6 @@
 """The values of an argument from one number to another, and what each makes of the runs."""
 import re
-from collections.abc import Sequence
+from collections import Counter
 from decimal import Decimal
 from typing import NamedTuple
 
@@ -53,11 +53,11 @@ def sweep_of(word: str) -> Sweep:
     return Sweep(found[1], [format(first + step * place, "f") for place in range(times)])
 
 
-def sums_of(phases: Sequence[str]) -> Sums:
-    """How many runs ended in which way, by their phases."""
+def sums_of(phases: Counter[str]) -> Sums:
+    """How many runs ended in which way, by how many have which phase."""
 
     def times(*wanted: str) -> int:
         """How many have one of these phases."""
-        return sum(phase in wanted for phase in phases)
+        return sum(phases[phase] for phase in wanted)
 
     return Sums(times(*STOPPED), times("Inconclusive"), times("Successful"), times(*UNDECIDED))

@@ -1,8 +1,7 @@
 """Results of a backtest as a table in text, or as one JSON object."""
 from collections.abc import Iterator, Sequence
 
-from argo_judge.backtest.outcomes import Outcome, Result, flips_of, why
-from argo_judge.backtest.sweeps import UNDECIDED, Sweep
+from argo_judge.backtest.outcomes import Outcome, Result
 from argo_judge.notes import one_line
 from argo_judge.objects import Object
 
@@ -21,8 +20,7 @@ def rows_of_flips(outcomes: Sequence[Outcome]) -> Iterator[tuple[str, ...]]:
     """A row for each run that flips."""
     for one in outcomes:
         if one.flips:
-            differs = one_line("; ".join(why(one)))
-            yield one_line(one.name), one.controller, one.own["phase"], one.other["phase"], differs
+            yield one_line(one.name), one.controller, one.own, one.other, one_line("; ".join(one.why))
 
 
 def lines_of_flips(result: Result) -> list[str]:
@@ -34,7 +32,7 @@ def lines_of_flips(result: Result) -> list[str]:
 def lines_of_differences(result: Result) -> list[str]:
     """The runs that the engine judges otherwise than the controller did by the same template."""
     return [
-        f"{one_line(one.name)}: the controller {one.controller}, argo_judge {one.own['phase']} by its own template"
+        f"{one_line(one.name)}: the controller {one.controller}, argo_judge {one.own} by its own template"
         for one in result.outcomes
         if one.differs
     ]
@@ -42,30 +40,31 @@ def lines_of_differences(result: Result) -> list[str]:
 
 def sum_line(result: Result) -> str:
     """The line of the sums."""
-    judged = len(result.outcomes)
-    flips = flips_of(result)
-    times = ", ".join(f"{number} from {was} to {now}" for (was, now), number in sorted(flips.items()))
-    flipped = sum(flips.values())
-    found = f"{flipped} of {judged} runs {'flips' if flipped == 1 else 'flip'}" + (f": {times}" if times else "")
-    undecided = sum(one.other["phase"] in UNDECIDED for one in result.outcomes)
-    more = [f"{undecided} would have needed more measurements"] if undecided else []
-    more += [f"{len(result.left_out)} left out"] if result.left_out else []
+    times = ", ".join(f"{number} from {was} to {now}" for (was, now), number in sorted(result.flips.items()))
+    flipped = sum(result.flips.values())
+    found = f"{flipped} of {result.judged} runs {'flips' if flipped == 1 else 'flip'}" + (f": {times}" if times else "")
+    more = [f"{result.undecided} would have needed more measurements"] if result.undecided else []
+    others = sum(one.is_of_other for one in result.left_out)
+    more += [f"{len(result.left_out) - others} left out"] if len(result.left_out) > others else []
+    more += [f"{others} of other templates"] if others else []
     return "; ".join([found, *more])
 
 
-def lines_of_sweep(sweep: Sweep | None, result: Result) -> list[str]:
+def lines_of_sweep(result: Result) -> list[str]:
     """The table of a sweep, if there is one."""
-    if sweep is None:
+    if result.sweep is None:
         return []
-    heads = (one_line(sweep.argument), "stopped", "inconclusive", "successful", "undecided")
-    return ["", *table([heads, *[(value, *map(str, sums)) for value, sums in result.sweep]])]
+    heads = (one_line(result.sweep.argument), "stopped", "inconclusive", "successful", "undecided")
+    return ["", *table([heads, *[(value, *map(str, sums)) for value, sums in result.sums]])]
 
 
-def text_of(result: Result, sweep: Sweep | None) -> str:
+def text_of(result: Result) -> str:
     """All lines of a result."""
-    left_out = [f"left out: {one_line(one.name)}: {one_line(one.why)}" for one in result.left_out]
+    left_out = [
+        f"left out: {one_line(one.name)}: {one_line(one.why)}" for one in result.left_out if not one.is_of_other
+    ]
     lines = lines_of_flips(result) + lines_of_differences(result) + left_out + [sum_line(result)]
-    return "".join(f"{line}\n" for line in lines + lines_of_sweep(sweep, result))
+    return "".join(f"{line}\n" for line in lines + lines_of_sweep(result))
 
 
 # ---- JSON
@@ -73,26 +72,27 @@ def text_of(result: Result, sweep: Sweep | None) -> str:
 
 def run_object(one: Outcome) -> Object:
     """What JSON has of a run."""
+    own, other = one.metrics or ([], [])
     return {
         "name": one.name,
         "controller": one.controller,
         "flips": one.flips,
         "differs": one.differs,
-        "own": {"phase": one.own["phase"], "metrics": one.own["metrics"]},
-        "template": {"phase": one.other["phase"], "metrics": one.other["metrics"]},
-        "why": why(one),
+        "own": {"phase": one.own, "metrics": own},
+        "template": {"phase": one.other, "metrics": other},
+        "why": one.why,
     }
 
 
-def object_of(result: Result, sweep: Sweep | None) -> Object:
+def object_of(result: Result) -> Object:
     """The form is in docs/use/backtest.md."""
     found = {
         "version": VERSION,
         "runs": [run_object(one) for one in result.outcomes],
-        "leftOut": [one._asdict() for one in result.left_out],
-        "flips": [{"from": was, "to": now, "runs": number} for (was, now), number in sorted(flips_of(result).items())],
+        "leftOut": [{"name": one.name, "why": one.why} for one in result.left_out],
+        "flips": [{"from": was, "to": now, "runs": number} for (was, now), number in sorted(result.flips.items())],
     }
-    if sweep is not None:
-        values = [{"value": value, **sums._asdict()} for value, sums in result.sweep]
-        found["sweep"] = {"argument": sweep.argument, "values": values}
+    if result.sweep is not None:
+        values = [{"value": value, **sums._asdict()} for value, sums in result.sums]
+        found["sweep"] = {"argument": result.sweep.argument, "values": values}
     return found
