@@ -44,6 +44,8 @@ def compared_in(run: Object, found: Sequence[Measured], report: RunReport) -> It
     """Each measurement, each metric and the run, where the controller gave it a phase."""
     events = {event["number"]: event for event in report["events"]}
     for number, one in enumerate(found):
+        if one.is_placeholder:
+            continue
         event = events[number]
         said = f"{verdict_text(event)} {effect_text(event)}"
         yield Compared(f"measurement {number} {one.metric}", one.measurement["phase"], event["verdict"], said)

@@ -1,12 +1,12 @@
 """Measured decimals of more than six places, which argo_judge cuts: those that compare otherwise with a number of their
 metric's conditions than what was measured does."""
-import json
 import re
 from collections.abc import Iterable, Iterator, Sequence
 from fractions import Fraction
 
+from argo_judge.binding import bound
 from argo_judge.decimals import fits, is_decimal, millionths, number_of
-from argo_judge.literals import Literal, bound, compares_otherwise, literals_of
+from argo_judge.literals import Literal, compares_otherwise, literals_of
 from argo_judge.notes import note
 from argo_judge.objects import Json, Object, member, objects, shown
 from argo_judge.templates import metrics_of, values_of
@@ -49,16 +49,18 @@ def texts_in(args: Json) -> dict[str, str]:
     return {name: value for name, value in args.items() if isinstance(value, str)} if isinstance(args, dict) else {}
 
 
-def literals_by_metric(document: Object) -> dict[str, list[Literal]]:
+def literals_by_metric(document: Object) -> dict[tuple[str, str], list[Literal]]:
     """The literals of each metric's conditions for each run, by the names of both."""
-    template, found = document["manifest"], {}
+    template: Json = document["manifest"]
+    found: dict[tuple[str, str], list[Literal]] = {}
     for run in objects(document["runs"]):
         args = {**values_of(member(template, "spec", "args")), **texts_in(member(run, "args", default={}))}
         for metric in metrics_of(template):
             conditions = [member(metric, "successCondition"), member(metric, "failureCondition")]
             texts = [bound(condition, args) for condition in conditions if isinstance(condition, str)]
-            names = json.dumps([run.get("name"), metric.get("name")])
-            found[names] = [literal for text in texts for literal in literals_of(text)]
+            name, own = run.get("name"), metric.get("name")
+            if isinstance(name, str) and isinstance(own, str):
+                found[name, own] = [literal for text in texts for literal in literals_of(text)]
     return found
 
 
@@ -67,8 +69,9 @@ def lines_of(document: Object) -> Iterator[str]:
     literals = literals_by_metric(document)
     for place, entry in enumerate(document["measurements"]):
         run, metric = member(entry, "run"), member(entry, "metric")
-        compared = literals.get(json.dumps([run, metric]))
-        if compared and isinstance(metric, str):
+        if not isinstance(run, str) or not isinstance(metric, str):
+            continue
+        if compared := literals.get((run, metric)):
             texts = decimals_of(member(entry, "value"), member(document["shapes"], metric))
             if line := difference(texts, compared):
                 yield f"measurement {place} of metric {shown(metric)}: {line}"

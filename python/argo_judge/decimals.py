@@ -2,7 +2,7 @@
 import re
 from fractions import Fraction
 
-DECIMAL = re.compile(r"[+-]?(\d+\.?\d*|\.\d+)([eE][+-]?\d{1,3})?", re.ASCII)
+DECIMAL = re.compile(r"[+-]?(\d+(?:\.\d*)?|\.\d+)([eE][+-]?\d{1,3})?", re.ASCII)
 MOST_DIGITS = 64
 LEAST, GREATEST = -(2**63), 2**63 - 1
 

@@ -3,10 +3,11 @@
 The controller takes each name of `spec.dryRun` as a regular expression that matches anywhere in a metric's name, and
 marks the metrics that are dry in `status.metricResults`. argo_judge takes a metric's whole name, or `.*` for all.
 """
+import contextlib
 import re
 import signal
 import warnings
-from collections.abc import Collection, Sequence
+from collections.abc import Collection, Iterator, Sequence
 from types import FrameType
 from typing import NoReturn
 
@@ -41,21 +42,42 @@ def out_of_time(_signal: int, _frame: FrameType | None) -> NoReturn:
     raise TimeoutError
 
 
+class Budget:
+    """The seconds of processor that are left for all expressions of an input, of which one may take the first."""
+
+    def __init__(self, seconds: float, of_one: float) -> None:
+        self.left, self.of_one = seconds, of_one
+
+    @contextlib.contextmanager
+    def limited(self) -> Iterator[None]:
+        """Ends what takes longer."""
+        seconds = min(self.left, self.of_one)
+        if seconds <= 0:
+            raise TimeoutError
+        before = signal.signal(signal.SIGVTALRM, out_of_time)
+        signal.setitimer(signal.ITIMER_VIRTUAL, seconds)
+        try:
+            yield
+        finally:
+            rest, _ = signal.setitimer(signal.ITIMER_VIRTUAL, 0)
+            signal.signal(signal.SIGVTALRM, before)
+            self.left -= seconds - rest
+
+
+BUDGET = Budget(5.0, 1.0)
+
+
 def matched_names(pattern: str, names: Sequence[str], where: str) -> list[str]:
-    """The names that a regular expression matches. One that takes longer than a second is refused: Python tries an
-    expression's ways one by one, and the controller doesn't."""
+    """The names that a regular expression matches. One that takes too long is refused, and so is each one after all
+    took too long together: Python tries an expression's ways one by one, and the controller doesn't."""
     if len(pattern) > LONGEST:
         raise Refused(f"{where}: found a regular expression of {len(pattern)} characters; expected at most {LONGEST}")
-    expression = compiled(pattern, where)
-    before = signal.signal(signal.SIGALRM, out_of_time)
-    signal.setitimer(signal.ITIMER_REAL, 1)
     try:
-        return [name for name in names if expression.search(name)]
+        with BUDGET.limited():
+            expression = compiled(pattern, where)
+            return [name for name in names if expression.search(name)]
     except TimeoutError:
         raise Refused(f"{where}: {shown(pattern)} {SLOW}; expected no repeats in repeats")
-    finally:
-        signal.setitimer(signal.ITIMER_REAL, 0)
-        signal.signal(signal.SIGALRM, before)
 
 
 def matched(pattern: str, names: Sequence[str], place: int) -> list[str]:

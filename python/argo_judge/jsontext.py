@@ -4,6 +4,7 @@ A fraction is read as a text, since the engine takes decimals as texts; a whole 
 """
 import json
 import re
+from typing import TypeGuard
 
 from argo_judge.errors import Refused
 from argo_judge.objects import Json
@@ -25,6 +26,16 @@ def whole(digits: str) -> int:
 
 class NumberText(str):
     """A fraction as it is written, which JSON would round."""
+
+
+def is_text(value: Json) -> TypeGuard[str]:
+    """Whether a value is a text; a fraction is none."""
+    return isinstance(value, str) and not isinstance(value, NumberText)
+
+
+def is_whole(value: Json) -> TypeGuard[int]:
+    """Whether a value is a whole number."""
+    return isinstance(value, int) and not isinstance(value, bool)
 
 
 DECODER = json.JSONDecoder(parse_float=NumberText, parse_constant=str, parse_int=whole)
@@ -77,7 +88,8 @@ def parsed_lines(text: str, where: str) -> list[Json]:
     return [parsed(line, f"{where}, line {number}") for number, line in lines if line.strip()]
 
 
-NOT_FINITE = re.compile(r'"(?:[^"\\]|\\.)*"|[+-]?\bInf\b|\bNaN\b')
+# A text that isn't closed ends with the answer, so that each character is looked at once.
+NOT_FINITE = re.compile(r'"(?:[^"\\]|\\.)*+"?|[+-]?\bInf\b|\bNaN\b')
 
 
 def measured(text: str) -> Json:

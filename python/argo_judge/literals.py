@@ -1,15 +1,18 @@
 """The numbers in a condition, with which measured numbers are compared."""
+import functools
 import re
-from collections.abc import Iterable, Iterator, Mapping, Sequence
+from collections.abc import Iterable, Iterator, Sequence
 from dataclasses import dataclass
 from fractions import Fraction
 from operator import eq, ge, gt, le, lt, ne
 
-ARGUMENT = re.compile(r"\{\{ *args\.(.*?) *\}\}", re.DOTALL)
+from argo_judge.decimals import MOST_DIGITS
+
+# What isn't closed ends with the condition, so that each character is looked at once.
 TOKEN = re.compile(
     r"""
-    (?P<blank> \s+ | //[^\n]* | /\*.*?\*/ )
-  | (?P<text> "(?:[^"\\]|\\.)*" | '(?:[^'\\]|\\.)*' )
+    (?P<blank> \s+ | //[^\n]* | /\*(?:.*?\*/|.*) )
+  | (?P<text> "(?:[^"\\]|\\.)*+"? | '(?:[^'\\]|\\.)*+'? )
   | (?P<number> 0x[0-9a-fA-F]+ | 0o[0-7]+ | 0b[01]+ | \d+\.\d+ | \d+ | \.\d+ )
   | (?P<word> [A-Za-z_]\w* )
   | (?P<sign> [=!<>]= | && | \|\| | . )
@@ -42,11 +45,6 @@ def compares_otherwise(literal: Literal, measured: Fraction, cut: Fraction) -> b
     """Whether one number compares with a literal otherwise than another does."""
     tests = [COMPARISONS[literal.comparison]] if literal.comparison else [lt, gt]
     return any(test(measured, literal.number) != test(cut, literal.number) for test in tests)
-
-
-def bound(condition: str, args: Mapping[str, str]) -> str:
-    """A condition with its arguments' values."""
-    return ARGUMENT.sub(lambda found: args.get(found[1], ""), condition)
 
 
 def number_of_literal(text: str) -> Fraction:
@@ -83,13 +81,13 @@ def is_of_size(texts: Sequence[str], inside: Sequence[str], place: int, at: int)
 
 
 def numbers_of(condition: str) -> Iterator[Literal]:
-    """The numbers of a bound condition: no index and no default."""
+    """The numbers of a bound condition: no index, no default, and none of more digits than decimals have."""
     found = [one for one in TOKEN.finditer(condition) if one.lastgroup != "blank"]
     # Left and right of a number there may be nothing.
     tokens = [("", ""), ("", ""), *((one.lastgroup or "", one[0]) for one in found), ("", ""), ("", "")]
     texts, inside = [text for _, text in tokens], list(openers(tokens))
     for place, (kind, text) in enumerate(tokens):
-        if kind != "number" or inside[place] == "index":
+        if kind != "number" or inside[place] == "index" or len(text) > MOST_DIGITS:
             continue
         at, minus, right = sides(texts, place)
         left = texts[at]
@@ -107,7 +105,8 @@ def numbers_of(condition: str) -> Iterator[Literal]:
         )
 
 
-def literals_of(condition: str) -> Iterator[Literal]:
+@functools.lru_cache(256)
+def literals_of(condition: str) -> tuple[Literal, ...]:
     """The numbers of a bound condition that a measured number may be compared with: no index, no default, and none that
     is compared with a list's length."""
-    return (literal for literal in numbers_of(condition) if not literal.is_size)
+    return tuple(literal for literal in numbers_of(condition) if not literal.is_size)

@@ -5,20 +5,22 @@ from collections import Counter
 from collections.abc import Iterable, Iterator, Sequence
 from dataclasses import dataclass
 
-from argo_judge.files import read_text
-from argo_judge.jsontext import parsed_all
+from argo_judge.files import read_lines, read_text
+from argo_judge.jsontext import parsed, parsed_all
 from argo_judge.notes import note
 from argo_judge.objects import Json, member, shown
 from argo_judge.pointers import pointer_to
-from argo_judge.yamltext import JSON_FRACTION, Document, Lines, yaml_documents
+from argo_judge.yamltext import JSON_FRACTION, UNKNOWN, Document, Lines, yaml_documents
 
 SUFFIXES = (".json", ".yaml", ".yml")
+# A file that has an object a line.
+LINES = ".jsonl"
 JSON_WORD = re.compile(rf"null|true|false|{JSON_FRACTION.pattern}", re.ASCII)
 
 
 @dataclass(frozen=True)
 class Found:
-    """An object, the file that has it, its JSON pointer there, and the lines of its values, by pointers in it."""
+    """An object, the file that has it, its JSON pointer there, and the lines of its values."""
 
     value: Json
     file: str
@@ -27,9 +29,7 @@ class Found:
 
     def line_of(self, pointer: str) -> int | None:
         """The line of the value that a pointer is of, or of the nearest value around it; None where nothing says so."""
-        while pointer not in self.lines and pointer:
-            pointer = pointer.rpartition("/")[0]
-        return self.lines.get(pointer)
+        return self.lines.at(pointer)
 
 
 def is_json(path: str, text: str) -> bool:
@@ -43,7 +43,7 @@ def documents_of(path: str, where: str) -> list[Document]:
     """Each document of a file, or of standard input where the path is `-`."""
     text = read_text(path, where)
     if is_json(path, text):
-        return [Document(value, {}) for value in parsed_all(text, where)]
+        return [Document(value, UNKNOWN) for value in parsed_all(text, where)]
     return yaml_documents(text, where)
 
 
@@ -52,12 +52,10 @@ def items_of(document: Document, file: str) -> list[Found]:
     items = member(document.value, "items")
     if not str(member(document.value, "kind", default="")).endswith("List") or not isinstance(items, list):
         return [Found(document.value, file, "", document.lines)]
-    own: list[Lines] = [{} for _ in items]
-    for pointer, line in document.lines.items():
-        _, name, place, _ = (pointer + "///").split("/", 3)
-        if name == "items" and place.isdecimal():
-            own[int(place)][pointer[len(pointer_to(name, place)) :]] = line
-    return [Found(item, file, pointer_to("items", place), own[place]) for place, item in enumerate(items)]
+    own = document.lines.under.get("items", UNKNOWN).under
+    return [
+        Found(item, file, pointer_to("items", place), own.get(str(place), UNKNOWN)) for place, item in enumerate(items)
+    ]
 
 
 def objects_of(path: str, where: str) -> list[Found]:
@@ -67,10 +65,10 @@ def objects_of(path: str, where: str) -> list[Found]:
 
 def objects_in(text: str, where: str) -> list[Found]:
     """The objects of a text of JSON."""
-    return [found for value in parsed_all(text, where) for found in items_of(Document(value, {}), where)]
+    return [found for value in parsed_all(text, where) for found in items_of(Document(value, UNKNOWN), where)]
 
 
-def files_in(paths: Iterable[str]) -> Iterator[str]:
+def files_in(paths: Iterable[str], suffixes: tuple[str, ...] = SUFFIXES) -> Iterator[str]:
     """The files that are named, and those of the named folders that have JSON or YAML, in the order of their names."""
     for path in paths:
         if not os.path.isdir(path):
@@ -81,7 +79,7 @@ def files_in(paths: Iterable[str]) -> Iterator[str]:
             yield from (
                 os.path.join(folder, name)
                 for name in sorted(files)
-                if name.endswith(SUFFIXES) and not name.startswith(".")
+                if name.endswith(suffixes) and not name.startswith(".")
             )
 
 
@@ -90,15 +88,34 @@ def found_in(paths: Iterable[str]) -> list[Found]:
     return [found for path in files_in(paths) for found in objects_of(path, path)]
 
 
+def each_found_in(paths: Iterable[str]) -> Iterator[Found]:
+    """The same, and those of files with an object a line. One file, or one such line, at a time is in memory."""
+    for path in files_in(paths, (*SUFFIXES, LINES)):
+        if path.endswith(LINES):
+            for line, where in read_lines(path, path):
+                yield from items_of(Document(parsed(line, where), UNKNOWN), path)
+        else:
+            yield from objects_of(path, path)
+
+
 def is_of(found: Found, kinds: Sequence[str]) -> bool:
     """Whether an object is of one of some kinds."""
     return member(found.value, "kind") in kinds
 
 
-def of_kinds(found: Sequence[Found], kinds: Sequence[str], what: str) -> list[Found]:
-    """The objects of some kinds. Others are counted in a line, by their kinds."""
-    others = Counter(shown(member(one.value, "kind", default="none")) for one in found if not is_of(one, kinds))
+def each_of_kinds(found: Iterable[Found], kinds: Sequence[str], what: str) -> Iterator[Found]:
+    """The objects of some kinds. Others are counted in a line after the last one, by their kinds."""
+    others: Counter[str] = Counter()
+    for one in found:
+        if is_of(one, kinds):
+            yield one
+        else:
+            others[shown(member(one.value, "kind", default="none"))] += 1
     if others:
         times = ", ".join(f"{kind} ({number})" for kind, number in others.items())
         note(f"objects that are no {what} are passed over: {times}")
-    return [one for one in found if is_of(one, kinds)]
+
+
+def of_kinds(found: Iterable[Found], kinds: Sequence[str], what: str) -> list[Found]:
+    """The same, in a list."""
+    return list(each_of_kinds(found, kinds, what))

@@ -8,6 +8,8 @@ from argo_judge import PROGRAM
 
 def one_line(text: str) -> str:
     """A text without line feeds and other characters that a terminal would obey."""
+    if text.isprintable():
+        return text
     return "".join(char if char.isprintable() else char.encode("unicode_escape").decode() for char in text)
 
 

@@ -5,6 +5,7 @@ them in `status.metricResults`. A count that it leaves out is 0.
 """
 from collections.abc import Mapping
 
+from argo_judge.engine.reports import BAD
 from argo_judge.errors import Refused
 from argo_judge.notes import note
 from argo_judge.objects import Json, Object, member, objects, shown
@@ -48,11 +49,22 @@ def difference(result: Object) -> str:
     return " and ".join(in_words("lacks measurements", gone) + in_words("has measurements too many", more))
 
 
+def unmeasured(run: Json) -> str:
+    """What is said of a run that its controller ended badly before anything was measured: no condition said why."""
+    phase, message = member(run, "status", "phase"), member(run, "status", "message")
+    results = objects(member(run, "status", "metricResults"))
+    if phase not in BAD or any(objects(member(result, "measurements")) for result in results):
+        return ""
+    why = message if isinstance(message, str) else "it doesn't say why"
+    return f"the controller ended the run as {phase} before anything was measured: {why}"
+
+
 def check_history(run: Json, is_partial: bool) -> None:
-    """Refuses a run whose measurements aren't all there; of one that may be partial a line says so."""
-    for result in objects(member(run, "status", "metricResults")):
-        if found := difference(result):
-            line = f"metric {shown(member(result, 'name'))} {found}, by the controller's counts"
-            if not is_partial:
-                raise Refused(f"input: {line}; --partial takes the run as it is")
-            note(line)
+    """Refuses a run whose measurements aren't all there, or that ended badly without any; of one that may be partial a
+    line says so."""
+    found = [(member(result, "name"), difference(result)) for result in objects(member(run, "status", "metricResults"))]
+    lines = [f"metric {shown(name)} {what}, by the controller's counts" for name, what in found if what]
+    for line in lines or ([unmeasured(run)] if unmeasured(run) else []):
+        if not is_partial:
+            raise Refused(f"input: {line}; --partial takes the run as it is")
+        note(line)

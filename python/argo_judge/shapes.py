@@ -1,30 +1,21 @@
 """Shapes of metrics: those that are given or noted, those that a provider has by itself, and what providers usually
 answer (docs/use/shapes.md)."""
+import functools
+
 from argo_judge.errors import Refused
 from argo_judge.files import read_json
 from argo_judge.jsontext import parsed
 from argo_judge.objects import Json, Object, member
+from argo_judge.providers import provider_of
 from argo_judge.templates import is_job, metrics_of, thresholds_of
 
 ANNOTATION = "argo-judge/shapes"
-LEAST_MAX = 10
-NUMBERS = {"list": "decimal", "max": LEAST_MAX}
-USUAL: dict[str, Json] = {
-    "cloudWatch": {"list": {"record": {"Values": {"list": "decimal", "max": 100}}}, "max": LEAST_MAX},
-    "datadog": {"optional": "decimal"},
-    "graphite": NUMBERS,
-    "influxdb": {"list": {"optional": "decimal"}, "max": LEAST_MAX},
-    "job": "bool",
-    "kayenta": "decimal",
-    "prometheus": NUMBERS,
-    "wavefront": "decimal",
-}
 
 
 def usual_of(metric: Object) -> Json:
     """The shape of what a metric's provider usually answers; None where that depends on the query."""
-    provider = member(metric, "provider")
-    return next((USUAL[name] for name in provider if name in USUAL), None) if isinstance(provider, dict) else None
+    provider = provider_of(metric)
+    return provider and provider.usual
 
 
 def own_shape(metric: Object) -> str | None:
@@ -57,8 +48,23 @@ def with_own(template: Json, given: Object | None, expected: str) -> Object:
     return {**{name: shape for name, shape in own.items() if shape}, **(given or {})}
 
 
-def shapes_of(template: Json, path: str | None, run: Json = None) -> Object:
-    """The shapes of a template's metrics: those of a file, else those of its annotation, else those of a run's."""
-    given = shapes_in(read_json(path, "shapes"), "shapes") if path else noted_shapes(template)
-    given = noted_shapes(run) if given is None else given
+@functools.cache
+def shapes_in_file(path: str) -> Object:
+    """The shapes of a file, which is read once for all runs."""
+    return shapes_in(read_json(path, "shapes"), "shapes")
+
+
+def declared(template: Json, path: str | None, run: Json = None) -> Object | None:
+    """The shapes that are declared: those of a file, else those of a template's annotation, else those of a run's."""
+    given = shapes_in_file(path) if path else noted_shapes(template)
+    return noted_shapes(run) if given is None else given
+
+
+def with_own_of(template: Json, given: Object | None) -> Object:
+    """The given shapes of a template's metrics, with those that metrics have by themselves."""
     return with_own(template, given, "shapes: expected --shapes FILE")
+
+
+def shapes_of(template: Json, path: str | None, run: Json = None) -> Object:
+    """The shapes of a template's metrics."""
+    return with_own_of(template, declared(template, path, run))

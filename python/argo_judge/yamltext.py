@@ -7,12 +7,12 @@ import subprocess
 from collections.abc import Iterator
 from dataclasses import dataclass
 from decimal import Decimal
-from typing import Any, TypeAlias
+from typing import Any, NamedTuple, TypeAlias
 
 from argo_judge.errors import Refused
 from argo_judge.jsontext import LongNumber, NumberText, parsed_all, whole
 from argo_judge.objects import Json, shown
-from argo_judge.pointers import pointer_to
+from argo_judge.pointers import names_of
 
 try:
     import yaml as pyyaml
@@ -26,8 +26,9 @@ yaml: Yaml = pyyaml
 # An empty patch of what a file has: no cluster is asked.
 BY_KUBECTL = ["kubectl", "patch", "--local", "--type=merge", "-p", "{}", "-o", "json", "-f"]
 CONVERT = "expected PyYAML, or JSON as `kubectl patch --local --type=merge -p '{}' -o json -f FILE` prints it"
-# What aliases may make of a file at most.
-MOST_NODES = 1_000_000
+# How many values a document may have, those of its aliases among them, and how many may be in one another: those of
+# JSON that the engine reads.
+MOST_VALUES, MOST_LEVELS = 1_000_000, 127
 
 NULLS = {"", "~", "null", "Null", "NULL"}
 TRUE = {"true", "True", "TRUE", "yes", "Yes", "YES", "on", "On", "ON", "y", "Y"}
@@ -37,9 +38,6 @@ OTHER_WHOLE = re.compile(r"([+-]?)0([xX][0-9a-fA-F_]+|[bB][01_]+|[oO]?[0-7_]+)",
 FRACTION = re.compile(r"[+-]?(\.[0-9]+|[0-9]+(\.[0-9]*)?)([eE][+-]?[0-9]+)?", re.ASCII)
 JSON_FRACTION = re.compile(r"-?(0|[1-9][0-9]*)(\.[0-9]+)?([eE][+-]?[0-9]+)?", re.ASCII)
 NOT_FINITE = re.compile(r"[+-]?\.(inf|Inf|INF)|\.(nan|NaN|NAN)")
-
-# The lines of a document's values, by their pointers.
-Lines: TypeAlias = dict[str, int]
 
 
 def is_read() -> bool:
@@ -74,6 +72,26 @@ def plain_scalar(text: str, where: str) -> Json:
 # ---- documents
 
 
+class Lines(NamedTuple):
+    """The line of a value, and those of what is in it, by its names and indexes."""
+
+    line: int | None
+    under: "dict[str, Lines]"
+
+    def at(self, pointer: str) -> int | None:
+        """The line of the value that a pointer is of, or of the nearest value around it; None where nothing says so."""
+        found, line = self, self.line
+        for name in names_of(pointer):
+            if name not in found.under:
+                break
+            found = found.under[name]
+            line = found.line if found.line is not None else line
+        return line
+
+
+UNKNOWN = Lines(None, {})
+
+
 @dataclass(frozen=True)
 class Document:
     """A value that a file has, and the lines of what is in it."""
@@ -82,55 +100,115 @@ class Document:
     lines: Lines
 
 
+class Read(NamedTuple):
+    """A value that was read, the line on which it begins, the lines in it, and of how many values it is made."""
+
+    value: Json
+    line: int
+    under: dict[str, Lines]
+    size: int
+
+    def lines(self, line: int | None = None) -> Lines:
+        """Its lines, where it begins on its own line or on that of its name."""
+        return Lines(self.line if line is None else line, self.under)
+
+
 STANDARD_TAGS, TEXT_TAG = "tag:yaml.org,2002:", "tag:yaml.org,2002:str"
 # What PyYAML takes a scalar for that has no tag of its own.
 RESOLVER: Yaml = yaml and yaml.SafeLoader("")
 
 
 class Reader:
-    """The values of one YAML document, and their lines."""
+    """The values of YAML documents, of PyYAML's events: a value in a value is a call in a call, which are few."""
 
-    def __init__(self, where: str) -> None:
-        self.where = where
-        self.lines: Lines = {}
-        self.nodes = 0
+    def __init__(self, events: Iterator[Yaml], where: str) -> None:
+        self.events, self.where = events, where
+        self.anchors: dict[str, Read] = {}
+        self.size = 0
 
-    def value(self, node: Yaml, pointer: str, line: int) -> Json:
-        """The value of a node, whose lines are kept."""
-        self.nodes += 1
-        if self.nodes > MOST_NODES:
-            raise Refused(f"{self.where}: its aliases make more than {MOST_NODES} values")
-        self.lines[pointer] = line
-        if isinstance(node, yaml.MappingNode):
-            return self.mapping(node, pointer)
-        if isinstance(node, yaml.SequenceNode):
-            return [
-                self.value(item, pointer + pointer_to(place), item.start_mark.line + 1)
-                for place, item in enumerate(node.value)
-            ]
-        return self.scalar(node, f"{self.where}, line {node.start_mark.line + 1}")
+    def documents(self) -> Iterator[Document]:
+        """Each document that isn't empty."""
+        for event in self.events:
+            if isinstance(event, yaml.DocumentStartEvent):
+                self.anchors, self.size = {}, 0
+                read = self.value(next(self.events), 1)
+                if read.value is not None:
+                    yield Document(read.value, read.lines())
 
-    def scalar(self, node: Yaml, at: str) -> Json:
+    def at(self, event: Yaml) -> str:
+        """Where an event is."""
+        return f"{self.where}, line {event.start_mark.line + 1}"
+
+    def value(self, event: Yaml, level: int) -> Read:
+        """The value that begins with an event."""
+        if level > MOST_LEVELS:
+            raise Refused(f"{self.at(event)}: values in values are too deep; expected at most {MOST_LEVELS} levels")
+        if isinstance(event, yaml.AliasEvent):
+            if event.anchor not in self.anchors:
+                raise Refused(f"{self.at(event)}: the alias {shown(event.anchor)} is of no value before it")
+            read = self.anchors[event.anchor]
+            self.add(read.size)
+            return read
+        line, before = event.start_mark.line + 1, self.size
+        self.add(1)
+        under: dict[str, Lines] = {}
+        value: Json
+        if isinstance(event, yaml.MappingStartEvent):
+            value = self.mapping(under, level)
+        elif isinstance(event, yaml.SequenceStartEvent):
+            value = self.sequence(under, level)
+        else:
+            value = self.scalar(event)
+        read = Read(value, line, under, self.size - before)
+        if event.anchor is not None:
+            self.anchors[event.anchor] = read
+        return read
+
+    def add(self, size: int) -> None:
+        """Counts values; too many are refused."""
+        self.size += size
+        if self.size > MOST_VALUES:
+            raise Refused(
+                f"{self.where}: a document of more than {MOST_VALUES} values, those of its aliases among them"
+            )
+
+    def tag_of(self, event: Yaml) -> str:
+        """The tag of a scalar, its own or the one that PyYAML takes it for."""
+        has_none = event.tag in (None, "!")
+        tag: str = RESOLVER.resolve(yaml.ScalarNode, event.value, event.implicit) if has_none else event.tag
+        return tag
+
+    def scalar(self, event: Yaml) -> Json:
         """The value of a scalar, which may have quotes or a tag."""
-        is_plain = not node.style
-        usual = RESOLVER.resolve(yaml.ScalarNode, node.value, (is_plain, not is_plain))
-        if node.tag != usual and not node.tag.startswith(STANDARD_TAGS):
-            raise Refused(f"{at}: found the tag {shown(node.tag)}; expected none")
-        if node.tag == usual:
-            return plain_scalar(node.value, at) if is_plain else node.value
-        return node.value if node.tag == TEXT_TAG else plain_scalar(node.value, at)
+        is_plain, at, tag = not event.style, self.at(event), self.tag_of(event)
+        usual = RESOLVER.resolve(yaml.ScalarNode, event.value, (is_plain, not is_plain))
+        if tag != usual and not tag.startswith(STANDARD_TAGS):
+            raise Refused(f"{at}: found the tag {shown(tag)}; expected none")
+        if tag == usual:
+            return plain_scalar(event.value, at) if is_plain else event.value
+        return event.value if tag == TEXT_TAG else plain_scalar(event.value, at)
 
-    def mapping(self, node: Yaml, pointer: str) -> Json:
-        """An object, whose names are texts of which none is there twice."""
+    def sequence(self, under: dict[str, Lines], level: int) -> list[Json]:
+        """A list, whose lines are kept."""
+        values: list[Json] = []
+        while not isinstance(event := next(self.events), yaml.SequenceEndEvent):
+            read = self.value(event, level + 1)
+            under[str(len(values))] = read.lines()
+            values.append(read.value)
+        return values
+
+    def mapping(self, under: dict[str, Lines], level: int) -> dict[str, Json]:
+        """An object, whose names are texts of which none is there twice, and whose lines are kept."""
         values: dict[str, Json] = {}
-        for key, value in node.value:
-            line = key.start_mark.line + 1
-            at = f"{self.where}, line {line}"
-            if not isinstance(key, yaml.ScalarNode) or key.tag.endswith(":merge"):
+        while not isinstance(key := next(self.events), yaml.MappingEndEvent):
+            at = self.at(key)
+            if not isinstance(key, yaml.ScalarEvent) or self.tag_of(key).endswith(":merge"):
                 raise Refused(f"{at}: expected a name, and no merge or value as a name")
             if key.value in values:
                 raise Refused(f"{at}: {shown(key.value)} is there twice")
-            values[key.value] = self.value(value, pointer + pointer_to(key.value), line)
+            read = self.value(next(self.events), level + 1)
+            under[key.value] = read.lines(key.start_mark.line + 1)
+            values[key.value] = read.value
         return values
 
 
@@ -138,12 +216,7 @@ def by_pyyaml(text: str, where: str) -> Iterator[Document]:
     """Each document of a YAML text that isn't empty."""
     loader = getattr(yaml, "CSafeLoader", yaml.SafeLoader)
     try:
-        for node in yaml.compose_all(text, Loader=loader):
-            if node is not None:
-                reader = Reader(where)
-                value = reader.value(node, "", node.start_mark.line + 1)
-                if value is not None:
-                    yield Document(value, reader.lines)
+        yield from Reader(yaml.parse(text, Loader=loader), where).documents()
     except yaml.YAMLError as fault:
         mark = getattr(fault, "problem_mark", None)
         at = f"; the fault is on line {mark.line + 1}" if mark else ""
@@ -161,7 +234,7 @@ def by_kubectl(text: str, where: str) -> list[Document]:
     if ended.returncode != 0:
         said = ended.stderr.strip().splitlines() or [f"it ended with status {ended.returncode}"]
         raise Refused(f"{where}: found YAML; {CONVERT}; kubectl: {said[-1]}")
-    return [Document(value, {}) for value in parsed_all(ended.stdout, where)]
+    return [Document(value, UNKNOWN) for value in parsed_all(ended.stdout, where)]
 
 
 def yaml_documents(text: str, where: str) -> list[Document]:

@@ -4,11 +4,12 @@ import pytest
 from argo_judge.convert.answers import merged, seconds
 from argo_judge.convert.join import check_whole
 from argo_judge.convert.samples import answers_of
-from argo_judge.convert.shapes import proposed
 from argo_judge.convert.split import parts_of
+from argo_judge.engine.limits import Limits
 from argo_judge.errors import Refused
 from argo_judge.notes import kept_notes
 from argo_judge.objects import Json, Object
+from argo_judge.proposals import proposed
 
 
 @pytest.mark.parametrize(
@@ -126,21 +127,27 @@ def test_numbers_of_a_whole(numbers: list[Json]) -> None:
         ([None, True], {"optional": "bool"}),
         ([[1], [None, 2]], {"list": {"optional": "decimal"}, "max": 10}),
         ([[0] * 8], {"list": "decimal", "max": 16}),
-        ([[0] * 20_000], {"list": "decimal", "max": 10_000}),
+        ([[0] * 20_000], {"list": "decimal", "max": 40_000}),
         ([{"a": 1}, {"b": "x"}], {"record": {"a": {"optional": "decimal"}, "b": {"optional": "text"}}}),
     ],
 )
 def test_proposed(answers: list[Json], shape: Json) -> None:
-    assert proposed("m", answers, None) == shape
+    assert proposed("m", answers, None, "no engine") == shape
+
+
+def test_no_longer_list_is_proposed_than_the_engine_takes(monkeypatch: pytest.MonkeyPatch) -> None:
+    limits = Limits(4096, 1 << 24, 10_000, 100_000, 64, 64)
+    monkeypatch.setattr("argo_judge.proposals.limits_of", lambda engine: limits)
+    assert proposed("m", [[0] * 20_000], None, "engine") == {"list": "decimal", "max": 10_000}
 
 
 @pytest.mark.parametrize("answers", [[], [None], [[]], [9223372036855, "0.5"]])
 def test_nothing_is_proposed_with_a_note(answers: list[Json]) -> None:
     with kept_notes() as noted:
-        assert proposed("m", answers, None) is None
+        assert proposed("m", answers, None, "no engine") is None
     assert len(noted) == 1
 
 
 def test_several_kinds_are_refused() -> None:
     with pytest.raises(Refused, match=r"^m\.a\[\]: the answers are of several kinds: bool, list"):
-        proposed("m", [{"a": [True, []]}], None)
+        proposed("m", [{"a": [True, []]}], None, "no engine")

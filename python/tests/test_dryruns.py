@@ -3,7 +3,7 @@ import time
 
 import pytest
 
-from argo_judge.dryruns import by_patterns, matched_names, patterns_of, with_dry_names
+from argo_judge.dryruns import Budget, by_patterns, matched_names, patterns_of, with_dry_names
 from argo_judge.errors import Refused
 from argo_judge.notes import kept_notes
 
@@ -25,6 +25,15 @@ def test_a_slow_pattern_is_refused_in_time() -> None:
     begun = time.monotonic()
     with pytest.raises(Refused, match="takes too long to match"):
         matched_names("(a*)*b", ["a" * 64], "here")
+    assert time.monotonic() - begun < 10
+
+
+def test_all_patterns_have_one_budget(monkeypatch: pytest.MonkeyPatch) -> None:
+    monkeypatch.setattr("argo_judge.dryruns.BUDGET", Budget(0.2, 0.1))
+    begun = time.monotonic()
+    for _ in range(1000):
+        with pytest.raises(Refused, match="takes too long to match"):
+            matched_names("(a*)*b", ["a" * 64], "here")
     assert time.monotonic() - begun < 10
 
 

@@ -2,13 +2,18 @@
 import pytest
 
 from argo_judge.errors import Refused
-from argo_judge.jsontext import NumberText, measured, parsed, parsed_all, parsed_lines
+from argo_judge.jsontext import NumberText, is_text, is_whole, measured, parsed, parsed_all, parsed_lines
 
 
 def test_fractions_keep_their_digits() -> None:
     value = parsed('{"a": 0.10, "b": 1e-7, "c": 12345678901234567890123}', "input")
     assert value == {"a": "0.10", "b": "1e-7", "c": 12345678901234567890123}
     assert isinstance(value["a"], NumberText) and not isinstance(value["c"], str)
+
+
+def test_a_fraction_is_no_text_and_a_boolean_no_whole() -> None:
+    assert is_text("0.5") and not is_text(NumberText("0.5")) and not is_text(5)
+    assert is_whole(5) and not is_whole(True) and not is_whole("5")
 
 
 @pytest.mark.parametrize("text", ["NaN", "Infinity", "-Infinity"])
@@ -67,3 +72,8 @@ def test_lines_are_numbered_with_the_blank_ones() -> None:
 )
 def test_measured(text: str, value: object) -> None:
     assert measured(text) == value
+
+
+def test_a_text_that_is_not_closed_is_looked_at_once() -> None:
+    assert measured('\\"' * 100_000) == '\\"' * 100_000
+    assert measured('["NaN \\" Inf", NaN, "Inf') == '["NaN \\" Inf", NaN, "Inf'

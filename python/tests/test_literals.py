@@ -3,7 +3,8 @@ from fractions import Fraction
 
 import pytest
 
-from argo_judge.literals import bound, compares_otherwise, literals_of, numbers_of
+from argo_judge.binding import argument_of, bound, references_in
+from argo_judge.literals import compares_otherwise, literals_of, numbers_of
 
 
 def found_in(condition: str) -> list[tuple[str, str, bool]]:
@@ -42,6 +43,20 @@ def test_sizes_are_not_compared_with_what_was_measured() -> None:
 def test_arguments_are_bound_once() -> None:
     values = {"a": "{{args.b}}", "b": "1"}
     assert bound("result > {{ args.a }} + {{args.b}}{{args.c}}", values) == "result > {{args.b}} + 1"
+
+
+def test_references() -> None:
+    text = "{{args.a}} {{{ args.b  }}} {{ x {{args. c}} {{args.{{args.d}} {{args.e"
+    assert [one.name for one in references_in(text)] == ["a", "b", " c", "{{args.d"]
+    assert [argument_of(text) for text in ("{{args.a}}", " {{args.a}}", "{{args.a}}{{args.b}}", "a")] == ["a"] + [
+        None
+    ] * 3
+
+
+@pytest.mark.parametrize("piece", ["{{args.", "{{ ", '\\"', "\\'", "/*", '"', "(", "1.", "}}{{args."])
+def test_long_texts_take_no_longer(piece: str) -> None:
+    text = piece * 40_000
+    assert len(bound(text, {})) <= len(text) and len(list(numbers_of(text))) <= 40_000
 
 
 def test_compares_otherwise() -> None:

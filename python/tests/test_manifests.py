@@ -1,11 +1,12 @@
 """Objects of files: Lists, lines, folders, and YAML by kubectl's rules."""
 import pathlib
+import tracemalloc
 
 import pytest
 
 from argo_judge.errors import Refused
 from argo_judge.jsontext import NumberText
-from argo_judge.manifests import files_in, found_in, is_json, objects_of, of_kinds
+from argo_judge.manifests import each_found_in, files_in, found_in, is_json, objects_of, of_kinds
 from argo_judge.notes import kept_notes
 
 LISTS = """\
@@ -132,8 +133,34 @@ def test_aliases_of_aliases_are_bounded(tmp_path: pathlib.Path) -> None:
     pytest.importorskip("yaml")
     lines = ["a0: &a0 [1, 1, 1, 1, 1, 1, 1, 1, 1, 1]"]
     lines += [f"a{number}: &a{number} [{', '.join([f'*a{number - 1}'] * 10)}]" for number in range(1, 9)]
-    with pytest.raises(Refused, match="its aliases make more than 1000000 values"):
+    with pytest.raises(Refused, match="a document of more than 1000000 values, those of its aliases among them"):
         value_in(tmp_path, "\n".join(lines))
+
+
+@pytest.mark.parametrize("piece", ["[", "{a: ", "- ", "a: &a [*a] #"])
+def test_values_too_deep_are_refused(tmp_path: pathlib.Path, piece: str) -> None:
+    pytest.importorskip("yaml")
+    with pytest.raises(Refused, match="^one.yaml, line 1: "):
+        value_in(tmp_path, piece * 40_000)
+
+
+def test_values_may_be_as_deep_as_the_engine_reads(tmp_path: pathlib.Path) -> None:
+    pytest.importorskip("yaml")
+    assert str(value_in(tmp_path, "[" * 126 + "a" + "]" * 126)).count("[") == 126
+
+
+def test_long_names_are_kept_once(tmp_path: pathlib.Path) -> None:
+    """The lines of values in values with long names take no more memory than the text, about."""
+    pytest.importorskip("yaml")
+    name = "k" * 1000
+    text = (
+        "".join("  " * level + f"{name}{level}:\n" for level in range(100)) + "  " * 100 + "[" + "a, " * 20_000 + "a]\n"
+    )
+    tracemalloc.start()
+    value_in(tmp_path, text)
+    _, most = tracemalloc.get_traced_memory()
+    tracemalloc.stop()
+    assert most < 30_000_000
 
 
 def test_files_of_folders(tmp_path: pathlib.Path) -> None:
@@ -157,3 +184,19 @@ def test_other_kinds_are_counted(tmp_path: pathlib.Path) -> None:
         found = of_kinds(found_in([path]), ("A",), "template")
     assert len(found) == 1
     assert noted == ['objects that are no template are passed over: "B\\n" (2), "none" (1)']
+
+
+def test_objects_one_a_line(tmp_path: pathlib.Path) -> None:
+    put(tmp_path, "b.jsonl", '{"kind": "A"}\n\n{"kind": "AList", "items": [{"kind": "B"}]}\n')
+    put(tmp_path, "a.json", '{"kind": "C"}')
+    found = list(each_found_in([str(tmp_path)]))
+    assert [one.value["kind"] for one in found] == ["C", "A", "B"]
+    assert [one.value["kind"] for one in found_in([str(tmp_path)])] == ["C"]
+
+
+def test_a_line_that_is_no_object_is_refused(tmp_path: pathlib.Path) -> None:
+    path = put(tmp_path, "b.jsonl", '{"kind": "A"}\n{')
+    objects = each_found_in([path])
+    assert next(objects).value == {"kind": "A"}
+    with pytest.raises(Refused, match="b.jsonl, line 2: expected one JSON value"):
+        next(objects)

@@ -2,9 +2,12 @@
 import pytest
 
 from argo_judge.analysisruns import Flags, document_of, measurements_of
+from argo_judge.differences import note_guards
+from argo_judge.engine.limits import Limits
 from argo_judge.errors import Refused
 from argo_judge.notes import kept_notes
 from argo_judge.objects import Json, Object
+from argo_judge.placeholders import Gone, in_order
 from argo_judge.retention import difference
 
 SHAPES: Object = {"metadata": {"annotations": {"argo-judge/shapes": '{"a": "decimal", "b": "decimal"}'}}}
@@ -80,9 +83,58 @@ def test_odd_counts_are_refused(count: Json) -> None:
 
 
 def test_a_partial_run_is_taken_with_a_note() -> None:
-    run = run_of(result("a", "Successful", ("Successful", "1"), successful=3, count=3))
+    run = run_of(result("a", "Successful", ("Successful", "1"), failed=1, count=1))
     with pytest.raises(Refused, match="--partial takes the run as it is"):
         document_of(run, Flags(None))
     with kept_notes() as noted:
         made, found = document_of(run, Flags(None, partial=True))
     assert len(made["measurements"]) == len(found) == len(noted) == 1
+
+
+def test_placeholders_are_put_for_what_was_dropped(monkeypatch: pytest.MonkeyPatch) -> None:
+    limits = Limits(4096, 1 << 24, 10_000, 100_000, 64, 64)
+    monkeypatch.setattr("argo_judge.placeholders.limits_of", lambda engine: limits)
+    run = run_of(result("a", "Successful", ("Successful", "1"), successful=3, count=3, error=2))
+    with kept_notes() as noted:
+        made, found = document_of(run, Flags(None))
+    assert [one.measurement["phase"] for one in found] == ["Error", "Error", "Successful", "Successful", "Successful"]
+    assert [one.get("placeholder", False) for one in made["measurements"]] == [True] * 4 + [False]
+    assert noted[-1].endswith("4 measurements that the controller dropped have placeholders (2 Successful, 2 Error)")
+
+
+@pytest.mark.parametrize(
+    ("times", "at_end", "kept_errors", "most", "order"),
+    [
+        ({"Successful": 1, "Error": 3}, None, 0, 2, ["Error", "Error", "Successful", "Error"]),
+        ({"Error": 2}, 2, 1, 4, ["Error", "Error"]),
+        ({"Failed": 1, "Error": 2}, 1, 1, 4, ["Error", "Failed", "Error"]),
+        ({"Inconclusive": 1, "Failed": 1, "Successful": 1}, 0, 1, 4, ["Successful", "Inconclusive", "Failed"]),
+        ({"Successful": 1, "Error": 5}, None, 0, 2, None),
+        ({"Successful": 1, "Error": 3}, None, 2, 2, None),
+        ({"Error": 2}, 0, 1, 4, None),
+        ({"Error": 2}, -1, 1, 4, None),
+    ],
+)
+def test_order_of_placeholders(
+    times: dict[str, int], at_end: int | None, kept_errors: int, most: int, order: list[str] | None
+) -> None:
+    gone = Gone("m", times, at_end, kept_errors)
+    if order is not None:
+        assert in_order(gone, most) == order
+    else:
+        with pytest.raises(Refused, match="no order of them has that many errors"):
+            in_order(gone, most)
+
+
+def test_guards_of_parts_are_noted() -> None:
+    conditions = {
+        "successCondition": "default(result.rate, 0) > 1 || isNil(result)",
+        "failureCondition": "isNil(result[0])",
+    }
+    document = {"manifest": {"spec": {"metrics": [{"name": "m", **conditions}]}}}
+    with kept_notes() as noted:
+        note_guards(document)
+    assert noted == [
+        'metric "m": default of result.rate looks at the whole result in the controller, which may judge otherwise',
+        'metric "m": isNil of result[0] looks at the whole result in the controller, which may judge otherwise',
+    ]

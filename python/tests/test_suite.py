@@ -5,13 +5,17 @@ from fractions import Fraction
 
 import pytest
 
+from argo_judge.engine.limits import Limits
 from argo_judge.errors import Refused
 from argo_judge.objects import Json, Object
 from argo_judge.suite.files import suites_in
 from argo_judge.suite.moves import moves_of
 from argo_judge.suite.numbers import moved, number_in, signed
-from argo_judge.suite.outputs import xml_text
+from argo_judge.xmltext import xml_text
 
+LIMITS = Limits(
+    condition_bytes=4096, document_bytes=1 << 24, list_items=10_000, measurements=100_000, metrics=64, runs=64
+)
 TEMPLATE: Object = {
     "kind": "AnalysisTemplate",
     "metadata": {"name": "t"},
@@ -69,7 +73,7 @@ def test_written_numbers_are_read_again() -> None:
 
 
 def test_moves(tmp_path: pathlib.Path) -> None:
-    (suite,) = suites_in([suite_with(tmp_path)])
+    (suite,) = suites_in([suite_with(tmp_path)], LIMITS)
     lines = [move.line for move in moves_of(suite.template, suite.shapes, suite.cases)]
     assert lines == [
         "metric m, successCondition: 2 -> 2.000001",
@@ -114,7 +118,7 @@ def test_moves(tmp_path: pathlib.Path) -> None:
 def test_a_suite_is_refused(tmp_path: pathlib.Path, members: Object, said: str) -> None:
     path = suite_with(tmp_path, **members)
     with pytest.raises(Refused) as refused:
-        suites_in([path])
+        suites_in([path], LIMITS)
     assert said in str(refused.value)
 
 
@@ -123,7 +127,7 @@ def test_rounds_take_metrics_by_turns(tmp_path: pathlib.Path) -> None:
     answers = {"b": [{"value": 1, "repeat": 2}], "a": [2, 3, 4]}
     tests = [{"name": "one", "answers": answers, "expect": {"run": "Failed"}}]
     shapes = {"a": "decimal", "b": "decimal"}
-    (suite,) = suites_in([suite_with(tmp_path, template=template, shapes=shapes, tests=tests)])
+    (suite,) = suites_in([suite_with(tmp_path, template=template, shapes=shapes, tests=tests)], LIMITS)
     (case,) = suite.cases
     assert [(one.metric, one.members["value"]) for one in case.in_order()] == [
         ("a", 2),

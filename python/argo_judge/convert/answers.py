@@ -4,7 +4,7 @@ import re
 from argparse import ArgumentParser, Namespace
 from collections.abc import Callable, Sequence
 
-from argo_judge.cuts import note_cuts
+from argo_judge.differences import note_differences
 from argo_judge.documents import document
 from argo_judge.dryruns import with_dry_names
 from argo_judge.errors import Refused
@@ -109,5 +109,5 @@ def with_answers(words: Namespace, answers_of: Callable[[], list[Object]]) -> Ob
     if not entries and not words.allow_empty:
         raise Refused(f"answers: found none of metric {shown(metric)}; expected one or more, or --allow-empty")
     made = {**begun_document, "measurements": merged(begun_document["measurements"], entries)}
-    note_cuts(made)
+    note_differences(made)
     return made

@@ -75,7 +75,7 @@ def add_arguments(parser: ArgumentParser) -> None:
     """What the command takes."""
     parser.add_argument("parts", metavar="FOLDER", help="the parts and their reports")
     parser.add_argument(
-        "--output", choices=("text", "json"), default="text", help="how the report is printed; text without it"
+        "-o", "--output", choices=("text", "json"), default="text", help="how the report is printed; text without it"
     )
 
 

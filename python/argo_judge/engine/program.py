@@ -2,6 +2,7 @@
 import json
 import os
 import subprocess
+import tempfile
 from collections.abc import Sequence
 
 from argo_judge.errors import Refused
@@ -31,6 +32,31 @@ def judged(engine: str, words: Sequence[str], made: Json) -> subprocess.Complete
         return subprocess.run(start, input=json.dumps(made), encoding="utf-8", capture_output=True)
     except OSError as fault:
         raise cannot_start(engine, fault)
+
+
+class Started:
+    """A start of the engine that isn't waited for: what it reads and writes are files."""
+
+    def __init__(self, engine: str, words: Sequence[str], made: Json) -> None:
+        self.start = start_of(engine, words)
+        self.files = [tempfile.TemporaryFile() for _ in range(3)]
+        self.files[0].write(json.dumps(made).encode("utf-8"))
+        self.files[0].seek(0)
+        stdin, stdout, stderr = self.files
+        try:
+            self.process = subprocess.Popen(self.start, stdin=stdin, stdout=stdout, stderr=stderr)
+        except OSError as fault:
+            raise cannot_start(engine, fault)
+
+    def ended(self) -> subprocess.CompletedProcess[str]:
+        """Its status and what it wrote, once it has ended."""
+        status = self.process.wait()
+        for file in self.files:
+            file.seek(0)
+        output, errors = (file.read().decode("utf-8", "replace") for file in self.files[1:])
+        for file in self.files:
+            file.close()
+        return subprocess.CompletedProcess(self.start, status, output, errors)
 
 
 def judged_bytes(engine: str, words: Sequence[str], document: bytes) -> subprocess.CompletedProcess[bytes]:

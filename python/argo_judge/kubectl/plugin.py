@@ -17,25 +17,25 @@ changed: objects are read by `kubectl get`. The shapes of the metrics' answers a
 annotation argo-judge/shapes of the template or the run. The exit status is argo_judge's own; 2 also where kubectl has
 no such object.
 """
+import sys
 from argparse import ArgumentParser, Namespace
-from collections.abc import Callable, Sequence
+from collections.abc import Callable, Iterator, Sequence
 
 from argo_judge.analysisruns import Measured, add_flags, document_of, flags_of
 from argo_judge.backtest.command import add_flags as add_backtest_flags
 from argo_judge.backtest.command import backtest as tried
 from argo_judge.backtest.runs import runs_in
+from argo_judge.clear import with_clear_names
 from argo_judge.documents import document
 from argo_judge.dryruns import with_dry_names
-from argo_judge.engine.explanations import explained_in, lines_of_run
+from argo_judge.engine.explanations import event_of, parts_of
 from argo_judge.engine.program import handed_through, judged, shell_status
-from argo_judge.engine.refusals import hand_on
-from argo_judge.engine.reports import EventReport
-from argo_judge.errors import GOOD
 from argo_judge.files import write_text
 from argo_judge.kubectl.clusters import cluster_flags, fetched, fetched_all, kind_of_template, template_of
 from argo_judge.lint.command import add_flags as add_lint_flags
 from argo_judge.lint.command import lint as found_mistakes
-from argo_judge.notes import one_line
+from argo_judge.manifests import Found
+from argo_judge.notes import note, one_line, say
 from argo_judge.objects import Object, member
 from argo_judge.options import CommandLine, Commands, add_arg_flag, add_engine_flag, add_shapes_flag
 from argo_judge.shapes import shapes_of
@@ -51,17 +51,28 @@ def made_of_run(words: Namespace) -> tuple[Object, list[Measured]]:
     return document_of(found, flags_of(words), template, words.arg)
 
 
+def printed(engine: str, command: Sequence[str], made: Object) -> int:
+    """Prints what the engine writes of a document, which has names as they are; a terminal gets them escaped."""
+    clear = with_clear_names(made) if sys.stdout.isatty() else made
+    if clear != made:
+        note("names that a terminal would obey are escaped here; elsewhere they are printed as they are")
+    return handed_through(engine, command, clear)
+
+
 def run(words: Namespace) -> int:
     """Judges the measurements of an AnalysisRun."""
     made, _ = made_of_run(words)
-    return handed_through(words.engine, ["run", "--plain"], made)
+    return printed(words.engine, ["run", "--plain"], made)
 
 
-def of_controller(measurements: Sequence[Measured], event: EventReport) -> list[str]:
-    """What the controller says of the measurement that an event is."""
-    if event["stop"]:
+def of_controller(measurements: Sequence[Measured], number: int | None) -> list[str]:
+    """What the controller says of the measurement that an event is; a stop is none."""
+    if number is None or number >= len(measurements):
         return []
-    _, one, _ = measurements[event["number"]]
+    found = measurements[number]
+    if found.is_placeholder:
+        return ["  controller: this is a placeholder for a measurement that it dropped"]
+    one = found.measurement
     message = member(one, "message")
     said = f"  controller: {member(one, 'phase')}"
     return [said if message is None else f"{said}: {one_line(message)}"]
@@ -73,15 +84,12 @@ says."""
     made, measurements = made_of_run(words)
     selected = [] if words.event is None else ["--event", words.event]
     selected += [] if words.metric is None else ["--metric", words.metric]
-    ended = judged(words.engine, ["explain", "--output", "json", *selected], made)
-    hand_on(ended.returncode, ended.stderr)
-    if ended.returncode == GOOD:
-        for one in explained_in(ended.stdout, "explain"):
-            write_text(
-                "".join(
-                    line + "\n" for line in lines_of_run(one, noted=lambda event: of_controller(measurements, event))
-                )
-            )
+    ended = judged(words.engine, ["explain", *selected], made)
+    for line in ended.stderr.splitlines():
+        say(line)
+    for head, *below in parts_of(ended.stdout):
+        lines = [head, *of_controller(measurements, event_of(head)), *below]
+        write_text("".join(f"{line}\n" for line in lines))
     return shell_status(ended.returncode)
 
 
@@ -89,7 +97,7 @@ def check(words: Namespace) -> int:
     """Says what the conditions of an AnalysisTemplate may cost at most."""
     template = with_dry_names(template_of(words.name, words))
     made = document(template, shapes_of(template, words.shapes), words.name, arguments_of(template, words.arg), [])
-    return handed_through(words.engine, ["check"], made)
+    return printed(words.engine, ["check"], made)
 
 
 def lint(words: Namespace) -> int:
@@ -98,10 +106,15 @@ def lint(words: Namespace) -> int:
     return found_mistakes(words, lambda: fetched_all(kind, words, words.names, words.selector), f"kubectl get {kind}")
 
 
+def measured_by(words: Namespace) -> Iterator[Found]:
+    """The namespace's AnalysisRuns, which are fetched once the first is wanted."""
+    yield from fetched_all("analysisrun", words, selector=words.selector)
+
+
 def backtest(words: Namespace) -> int:
     """Says what a template, of the cluster or of a file, would have made of the namespace's AnalysisRuns that ended."""
     template = template_of(words.template, words) if words.file is None else read_template(words.file)
-    return tried(words, template, lambda: runs_in(fetched_all("analysisrun", words, selector=words.selector)))
+    return tried(words, template, runs_in(measured_by(words)))
 
 
 # ---- the command line

@@ -5,15 +5,15 @@ from dataclasses import dataclass
 from itertools import zip_longest
 from typing import NamedTuple
 
+from argo_judge.engine.limits import Limits
 from argo_judge.errors import Refused
 from argo_judge.objects import Object, shown
 from argo_judge.suite.expected import NOTHING, OfCase, OfEvent, of_case, of_event
+from argo_judge.suite.known import Known
 from argo_judge.suite.nodes import Node, check_fields, guess, known_name, text_of, whole_of
 
 FIELDS = ("name", "args", "answers", "measurements", "expect")
 ANSWER_FIELDS = ("value", "error", "stop", "repeat", "verdict", "effect", "fault")
-# What the engine reads of one document.
-MOST_MEASUREMENTS, MOST_BYTES = 100_000, 16_777_216
 
 
 class Answer(NamedTuple):
@@ -79,47 +79,50 @@ def members_of(node: Node) -> Object:
     return {name: member.value}
 
 
-def answer_of(node: Node, metric: str | None, more_fields: tuple[str, ...] = ()) -> Answer:
-    """An answer: a value that is no object by itself, or an object."""
+def answer_of(node: Node, metric: str | None, most: int, more_fields: tuple[str, ...] = ()) -> Answer:
+    """An answer: a value that is no object by itself, or an object; `most`: how often it may be repeated."""
     if not isinstance(node.value, dict):
         return Answer(metric, {"value": node.value}, 1, NOTHING, node)
-    known = ANSWER_FIELDS + more_fields
+    fields = ANSWER_FIELDS + more_fields
     for name in node.value:
-        if name not in known:
+        if name not in fields:
             raise Refused(
-                f"{node.member(name).where}: an answer has no field {shown(name)}; {guess(name, known)}; "
+                f"{node.member(name).where}: an answer has no field {shown(name)}; {guess(name, fields)}; "
                 "a record is written as `value: {..}`"
             )
     members, repeat = members_of(node), node.member("repeat")
-    times = 1 if repeat.value is None else whole_of(repeat, 1, MOST_MEASUREMENTS)
+    times = 1 if repeat.value is None else whole_of(repeat, 1, most)
     is_stop = "stop" in members
     return Answer(None if is_stop else metric, members, times, of_event(node, is_stop), node)
 
 
-def measurement_of(node: Node, metrics: Sequence[str]) -> Answer:
+def measurement_of(node: Node, known: Known) -> Answer:
     """An answer of a list across metrics, which names its metric."""
     check_fields(node, (*ANSWER_FIELDS, "metric"), "a measurement")
     named = node.member("metric")
     if node.has("stop"):
         if named.value is not None:
             raise Refused(f"{named.where}: a stop is one of the run; expected no `metric`")
-        return answer_of(node, None, ("metric",))
-    known_name(named, text_of(named, "the name of a metric"), metrics, "metric")
-    return answer_of(node, named.value, ("metric",))
+        return answer_of(node, None, known.limits.measurements, ("metric",))
+    known_name(named, text_of(named, "the name of a metric"), known.metrics, "metric")
+    return answer_of(node, named.value, known.limits.measurements, ("metric",))
 
 
-def columns_of(node: Node, metrics: Sequence[str]) -> list[list[Answer]]:
+def columns_of(node: Node, known: Known) -> list[list[Answer]]:
     """The answers of a test: a list for each metric, in the template's order, or one list across metrics."""
     answers, measurements = node.member("answers"), node.member("measurements")
     if answers.value is not None and measurements.value is not None:
         raise Refused(f"{measurements.where}: expected `answers` or `measurements`, found both")
     if measurements.value is not None:
-        return [[measurement_of(item, metrics) for item in measurements.items("a list of measurements")]]
+        return [[measurement_of(item, known) for item in measurements.items("a list of measurements")]]
     given = {} if answers.value is None else answers.members("an object that has a list of answers for a metric's name")
     for name, member in given.items():
-        known_name(member, name, metrics, "metric")
+        known_name(member, name, known.metrics, "metric")
+    most = known.limits.measurements
     return [
-        [answer_of(item, name) for item in given[name].items("a list of answers")] for name in metrics if name in given
+        [answer_of(item, name, most) for item in given[name].items("a list of answers")]
+        for name in known.metrics
+        if name in given
     ]
 
 
@@ -141,13 +144,13 @@ def args_of(node: Node, names: Sequence[str]) -> dict[str, str]:
     return {name: argument_text(member) for name, member in given.items()}
 
 
-def check_sizes(case: Case) -> None:
+def check_sizes(case: Case, limits: Limits) -> None:
     """Refuses a test that is too large for the engine."""
-    if case.count > MOST_MEASUREMENTS:
-        raise Refused(f"{case.node.where}: found {case.count} measurements; expected at most {MOST_MEASUREMENTS}")
-    if case.size > MOST_BYTES:
+    if case.count > limits.measurements:
+        raise Refused(f"{case.node.where}: found {case.count} measurements; expected at most {limits.measurements}")
+    if case.size > limits.document_bytes:
         found = f"its measurements have about {case.size} bytes"
-        raise Refused(f"{case.node.where}: {found}; expected at most {MOST_BYTES}")
+        raise Refused(f"{case.node.where}: {found}; expected at most {limits.document_bytes}")
 
 
 def check_expects(case: Case) -> None:
@@ -162,14 +165,14 @@ def check_expects(case: Case) -> None:
         )
 
 
-def case_of(node: Node, args: Mapping[str, str], metrics: Sequence[str], argument_names: Sequence[str]) -> Case:
+def case_of(node: Node, args: Mapping[str, str], known: Known) -> Case:
     """A test; `args`: the suite's arguments."""
     check_fields(node, FIELDS, "a test")
     name = text_of(node.member("name"), "a text as the test's `name`")
     if not name:
         raise node.member("name").refused("a text that isn't empty as the test's `name`")
-    own = args_of(node.member("args"), argument_names)
-    case = Case(name, node, {**args, **own}, columns_of(node, metrics), of_case(node.member("expect"), metrics))
-    check_sizes(case)
+    own = args_of(node.member("args"), known.arguments)
+    case = Case(name, node, {**args, **own}, columns_of(node, known), of_case(node.member("expect"), known))
+    check_sizes(case, known.limits)
     check_expects(case)
     return case

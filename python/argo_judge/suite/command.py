@@ -24,6 +24,7 @@ command line, is refused.
 """
 from argparse import ArgumentParser, Namespace
 
+from argo_judge.engine.limits import limits_of
 from argo_judge.errors import GOOD, VERDICT, Refused
 from argo_judge.files import write_text
 from argo_judge.notes import kept_notes, note
@@ -64,14 +65,14 @@ def add_arguments(parser: ArgumentParser) -> None:
     """What the command takes, and the plugin's, too."""
     parser.add_argument("--filter", metavar="TEXT", help="run the tests alone whose name has this text")
     parser.add_argument("--mutate", action="store_true", help="list moves of limits and thresholds that none notices")
-    parser.add_argument("--output", choices=WRITERS, default="text", help="what is written; text without it")
+    parser.add_argument("-o", "--output", choices=WRITERS, default="text", help="what is written; text without it")
     add_engine_flag(parser)
     parser.add_argument("files", nargs="+", metavar="FILE", help="a suite in YAML or JSON, or a folder; - is the input")
 
 
 def main(words: Namespace) -> int:
     """Runs the tests of suites, and writes what came of them."""
-    suites = chosen(suites_in(words.files), words.filter)
+    suites = chosen(suites_in(words.files, limits_of(words.engine)), words.filter)
     results = [result for suite in suites for result in results_of(words.engine, suite)]
     passed = all(result.passed for result in results)
     trials = trials_of(words.engine, suites) if words.mutate and passed else None

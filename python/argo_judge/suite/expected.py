@@ -1,13 +1,12 @@
 """What a test expects: of the run, of its metrics, of single events, or that the document is refused."""
-from collections.abc import Sequence
 from typing import NamedTuple, TypeAlias
 
 from argo_judge.engine.reports import CAUSES, COUNTS, EFFECTS, FAULTS, MISFITS, PHASES, VERDICTS
 from argo_judge.errors import Refused
 from argo_judge.objects import shown
+from argo_judge.suite.known import Known
 from argo_judge.suite.nodes import Node, check_fields, guess, known_name, text_of, whole_of, word_of
 
-MOST_COUNTED = 100_000
 FIELDS = ("run", "metrics", "refused")
 
 
@@ -84,8 +83,8 @@ def of_event(node: Node, is_stop: bool) -> OfEvent:
 # ---- the run and its metrics
 
 
-def of_metric(node: Node) -> OfMetric:
-    """A metric's phase, alone or as `phase` next to counts."""
+def of_metric(node: Node, most: int) -> OfMetric:
+    """A metric's phase, alone or as `phase` next to counts; `most`: the greatest count."""
     if isinstance(node.value, str):
         return {"phase": word_of(node, PHASES, "a phase")}
     check_fields(node, ("phase", *COUNTS), "what is expected of a metric")
@@ -93,23 +92,23 @@ def of_metric(node: Node) -> OfMetric:
     if not given:
         raise node.refused(f"a phase, or an object with `phase` or counts ({', '.join(COUNTS)})")
     return {
-        name: word_of(member, PHASES, "a phase") if name == "phase" else whole_of(member, 0, MOST_COUNTED)
+        name: word_of(member, PHASES, "a phase") if name == "phase" else whole_of(member, 0, most)
         for name, member in given.items()
     }
 
 
-def of_case(node: Node, metrics: Sequence[str]) -> OfCase:
-    """What a test expects of its run; `metrics`: the names of the template's metrics."""
+def of_case(node: Node, known: Known) -> OfCase:
+    """What a test expects of its run."""
     if node.value is None:
         return OfCase(None, {}, None)
     check_fields(node, FIELDS, "what a test expects")
     run, by_name, refused = (node.member(name) for name in FIELDS)
     found = {} if by_name.value is None else by_name.members("an object of what is expected by the names of metrics")
     for name, member in found.items():
-        known_name(member, name, metrics, "metric")
+        known_name(member, name, known.metrics, "metric")
     expected = OfCase(
         None if run.value is None else word_of(run, PHASES, "a phase"),
-        {name: of_metric(member) for name, member in found.items()},
+        {name: of_metric(member, known.limits.measurements) for name, member in found.items()},
         None if refused.value is None else text_of(refused, "the name of a refusal, as NoValue"),
     )
     if expected.refused is not None and (expected.run or expected.metrics):

@@ -4,14 +4,14 @@ from dataclasses import replace
 from itertools import islice
 from typing import NamedTuple
 
-from argo_judge.engine.explanations import event_head, explained_in, lines_of_event, lines_of_metric
-from argo_judge.engine.refusals import Refusal
-from argo_judge.errors import Refused
+from argo_judge.engine.explanations import lines_of, parts_of
+from argo_judge.engine.program import judged
+from argo_judge.errors import GOOD, Refused
 from argo_judge.objects import Object
 from argo_judge.suite.cases import Case
 from argo_judge.suite.comparing import Difference, differences
 from argo_judge.suite.files import Suite
-from argo_judge.suite.judging import Outcome, Subject, answered, document_of
+from argo_judge.suite.judging import Outcome, Subject, document_of
 
 # Of a case, how many differences are shown, and how many events are explained.
 MOST_DIFFERENCES, MOST_EVENTS = 8, 4
@@ -34,13 +34,13 @@ class Result(NamedTuple):
         return not self.differences
 
 
-def explained(engine: str, document: Object, place: int | None) -> Object:
+def explained(engine: str, document: Object, place: int | None) -> list[list[str]]:
     """What the engine explains of an event, and the metrics of its run; without an event, of a run that has none."""
     words = ["--event", str(place)] if place is not None else ["--run", NAME]
-    found = answered(engine, ["explain", "--output", "json", *words], document)
-    if isinstance(found, Refusal):
-        raise Refused(f"the engine judges a document and refuses to explain it: {found.line}")
-    return explained_in(found.stdout, "explain")[0]
+    ended = judged(engine, ["explain", *words], document)
+    if ended.returncode != GOOD:
+        raise Refused(f"the engine judges a document and doesn't explain it: {ended.stderr.strip()}")
+    return parts_of(ended.stdout)
 
 
 def reasons(engine: str, subject: Subject, case: Case, found: Sequence[Difference]) -> list[str]:
@@ -48,11 +48,9 @@ def reasons(engine: str, subject: Subject, case: Case, found: Sequence[Differenc
     places: list[int | None] = [*sorted({place for one in found for place in one.events})]
     document = document_of(subject, [replace(case, name=NAME)])
     runs = [explained(engine, document, place) for place in places[:MOST_EVENTS] or [None]]
-    lines = []
-    for one in [one for run in runs for one in run["events"]]:
-        lines += [event_head(one["event"]), *lines_of_event(one)]
+    lines = [line for parts in runs for line in lines_of(parts, "event")]
     lines += ["other events are left out"] if places[MOST_EVENTS:] else []
-    return lines + [line for one in runs[-1]["metrics"] for line in lines_of_metric(one)]
+    return lines + lines_of(runs[-1], "metric")
 
 
 def result_of(engine: str, subject: Subject, suite: Suite, case: Case, outcome: Outcome) -> Result:

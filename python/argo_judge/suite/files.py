@@ -5,6 +5,7 @@ from dataclasses import dataclass
 
 from argo_judge.documents import with_conditions
 from argo_judge.dryruns import with_dry_names
+from argo_judge.engine.limits import Limits
 from argo_judge.errors import Refused
 from argo_judge.jsontext import NumberText
 from argo_judge.manifests import SUFFIXES, Found, documents_of, files_in, objects_of
@@ -12,6 +13,7 @@ from argo_judge.notes import note
 from argo_judge.objects import Json, Object, listed, member, objects, shown
 from argo_judge.shapes import noted_shapes, with_own
 from argo_judge.suite.cases import Case, args_of, case_of
+from argo_judge.suite.known import Known
 from argo_judge.suite.nodes import Node, check_fields, text_of
 from argo_judge.templates import metric_names
 from argo_judge.yamltext import is_read
@@ -99,18 +101,18 @@ def shapes_of(suite: Node, template: Object) -> Object:
 # ---- suites
 
 
-def suite_of(found: Found) -> Suite:
+def suite_of(found: Found, limits: Limits) -> Suite:
     """The suite that a document is."""
     node = Node(found.value, found, "")
     check_fields(node, FIELDS, "a suite")
     template = template_of(node)
     named = [member(arg, "name") for arg in objects(member(template, "spec", "args"))]
-    arguments = [name for name in named if isinstance(name, str)]
-    args, metrics = args_of(node.member("args"), arguments), metric_names(template)
+    known = Known(metric_names(template), [name for name in named if isinstance(name, str)], limits)
+    args = args_of(node.member("args"), known.arguments)
     cases: list[Case] = []
     places: dict[str, str] = {}
     for item in node.member("tests").items("a list of tests as `tests`"):
-        case = case_of(item, args, metrics, arguments)
+        case = case_of(item, args, known)
         if case.name in places:
             raise Refused(f"{item.where}: a test has the name {shown(case.name)} already: {places[case.name]}")
         places[case.name] = item.where
@@ -135,8 +137,9 @@ def check_readable(path: str) -> None:
         raise Refused(f"{path}: found YAML; expected PyYAML, or the suite as JSON, as `yq -o json` writes it")
 
 
-def suites_in(paths: Sequence[str]) -> list[Suite]:
-    """The suites of files and folders. Objects of Kubernetes that are there, too, are counted in a line."""
+def suites_in(paths: Sequence[str], limits: Limits) -> list[Suite]:
+    """The suites of files and folders, whose tests are within limits. Objects of Kubernetes that are there, too, are
+    counted in a line."""
     suites, passed_over = [], 0
     for path in files_in(paths):
         check_readable(path)
@@ -144,7 +147,7 @@ def suites_in(paths: Sequence[str]) -> list[Suite]:
             if is_of_kubernetes(found.value):
                 passed_over += 1
             else:
-                suites.append(suite_of(found))
+                suites.append(suite_of(found, limits))
     if not suites:
         raise Refused(f"{', '.join(paths)}: expected a suite, an object with `template` and `tests`; found none")
     if passed_over:

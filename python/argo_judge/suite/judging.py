@@ -4,15 +4,14 @@ from collections.abc import Callable, Iterator, Sequence
 from subprocess import CompletedProcess
 from typing import NamedTuple, NoReturn
 
+from argo_judge.engine.limits import Limits, limits_of
 from argo_judge.engine.program import judged, shell_status
 from argo_judge.engine.refusals import Refusal, Warned, hand_on, refusal_in, warnings_in
 from argo_judge.engine.reports import RunReport, checked
 from argo_judge.errors import JUDGED, REFUSED, Status
 from argo_judge.notes import note
 from argo_judge.objects import Object
-from argo_judge.suite.cases import MOST_BYTES, MOST_MEASUREMENTS, Answer, Case
-
-MOST_RUNS = 64
+from argo_judge.suite.cases import Answer, Case
 
 
 class Subject(NamedTuple):
@@ -44,14 +43,14 @@ def document_of(subject: Subject, cases: Sequence[Case]) -> Object:
     return {"manifest": subject.template, "shapes": subject.shapes, "runs": runs, "measurements": entries}
 
 
-def parts_of(cases: Sequence[Case], first_size: int) -> Iterator[list[Case]]:
+def parts_of(cases: Sequence[Case], first_size: int, limits: Limits) -> Iterator[list[Case]]:
     """Cases in parts that fit one document each. One that expects a refusal is alone: it would be one of all."""
     part: list[Case] = []
     count, size = 0, first_size
     for case in cases:
         is_alone = case.expected.refused is not None
-        is_larger = count + case.count > MOST_MEASUREMENTS or size + case.size > MOST_BYTES
-        is_full = len(part) == MOST_RUNS or is_larger
+        is_larger = count + case.count > limits.measurements or size + case.size > limits.document_bytes
+        is_full = len(part) == limits.runs or is_larger
         if part and (is_full or is_alone):
             yield part
             part, count, size = [], 0, first_size
@@ -113,5 +112,5 @@ def outcomes_of_part(engine: str, subject: Subject, cases: Sequence[Case]) -> li
 def outcomes_of(engine: str, subject: Subject, cases: Sequence[Case]) -> Iterator[tuple[Case, Outcome]]:
     """Each case with its outcome."""
     first_size = len(json.dumps([subject.template, subject.shapes])) + 1024
-    for part in parts_of(cases, first_size):
+    for part in parts_of(cases, first_size, limits_of(engine)):
         yield from zip(part, outcomes_of_part(engine, subject, part))

@@ -4,7 +4,8 @@ from dataclasses import dataclass
 from fractions import Fraction
 from typing import NamedTuple, TypeAlias
 
-from argo_judge.literals import ARGUMENT, COMPARISONS, Literal, bound, numbers_of
+from argo_judge.binding import argument_of, bound, references_in
+from argo_judge.literals import COMPARISONS, Literal, numbers_of
 from argo_judge.objects import Json, Object, member, objects
 from argo_judge.suite.cases import Case
 from argo_judge.suite.numbers import MILLIONTH, moved, moved_text, number_in, signed
@@ -123,11 +124,11 @@ def need_of_literal(literal: Literal) -> Need:
 def pieces_of(text: str, values: Mapping[str, str]) -> Iterator[Piece]:
     """The pieces of a text that is bound with the values of arguments."""
     start, at = 0, 0
-    for found in ARGUMENT.finditer(text):
-        own, value = found.start() - at, len(values.get(found[1], ""))
+    for found in references_in(text):
+        own, value = found.start - at, len(values.get(found.name, ""))
         yield Piece(start, start + own, at, None)
-        yield Piece(start + own, start + own + value, found.start(), found[1])
-        start, at = start + own + value, found.end()
+        yield Piece(start + own, start + own + value, found.start, found.name)
+        start, at = start + own + value, found.end
     yield Piece(start, start + len(text) - at, at, None)
 
 
@@ -190,8 +191,8 @@ def of_condition(
 def of_limit(value: Json, what: str, path: Path, limit: Limit, uses: dict[str, Use]) -> Iterator[Move]:
     """The moves of a limit. An argument that is one is added to `uses`."""
     use = Use(Fraction(1), limit.least, need_of_limit(limit.choice, limit.counted))
-    if isinstance(value, str) and (argument := ARGUMENT.fullmatch(value)):
-        uses.setdefault(argument[1], use)
+    if isinstance(value, str) and (argument := argument_of(value)) is not None:
+        uses.setdefault(argument, use)
         return
     text = str(value)
     if isinstance(value, bool) or not isinstance(value, (int, str)) or not text.isdecimal():

@@ -1,6 +1,5 @@
 """Results of suites as text, JSON and JUnit's XML."""
 import json
-import re
 from collections.abc import Iterator, Sequence
 from typing import NamedTuple
 from xml.etree import ElementTree
@@ -11,10 +10,9 @@ from argo_judge.suite.explaining import Result
 from argo_judge.suite.moves import Move
 from argo_judge.suite.mutating import Trial
 from argo_judge.suite.nodes import Node
+from argo_judge.xmltext import xml_text
 
 VERSION = 1
-# What XML has no form for.
-NOT_XML = re.compile("[^\t\n\r\u0020-\ud7ff\ue000-\ufffd\U00010000-\U0010ffff]")
 
 
 def place_of(file: str, node: Node) -> str:
@@ -37,34 +35,35 @@ def counted(number: int, what: str) -> str:
 # ---- text
 
 
-def text_of_moves(trial: Trial) -> Iterator[str]:
+def lines_of_moves(trial: Trial) -> Iterator[str]:
     """What is said of the moves of a suite's template."""
     for move in trial.unnoticed:
-        yield f"UNNOTICED {trial.suite.file}: {one_line(move.line)}\n  needs {move.need}\n"
+        yield f"UNNOTICED {trial.suite.file}: {move.line}"
+        yield f"  needs {move.need}"
     for move, why in trial.passed_over:
-        yield f"passed over {trial.suite.file}: {one_line(move.line)}: {why}\n"
+        yield f"passed over {trial.suite.file}: {move.line}: {why}"
     tried = len(trial.noticed) + len(trial.unnoticed)
     said = f"{len(trial.noticed)} of {counted(tried, 'move')} noticed" if tried else "nothing to move"
     if not trial.cases:
         said = "nothing is moved, since each test expects a refusal"
-    yield f"{trial.suite.file}: {said}\n"
+    yield f"{trial.suite.file}: {said}"
 
 
 def text_of(results: Sequence[Result], trials: Sequence[Trial] | None) -> str:
     """All lines, by file."""
-    parts: list[str] = []
+    lines: list[str] = []
     by_file: dict[str, list[Result]] = {}
     for result in results:
         by_file.setdefault(result.suite.file, []).append(result)
     for file, own in by_file.items():
         for result in own:
             if not result.passed:
-                parts.append(f"FAILED {place_of(file, result.case.node)}: {shown(result.case.name)}\n")
-                parts += [f"  {one_line(line)}\n" for line in lines_of(result)]
-        parts.append(f"{file}: {sum(one.passed for one in own)} passed, {sum(not one.passed for one in own)} failed\n")
+                lines.append(f"FAILED {place_of(file, result.case.node)}: {shown(result.case.name)}")
+                lines += [f"  {line}" for line in lines_of(result)]
+        lines.append(f"{file}: {sum(one.passed for one in own)} passed, {sum(not one.passed for one in own)} failed")
     for trial in trials or ():
-        parts += text_of_moves(trial)
-    return "".join(parts) + last_line(results, trials)
+        lines += lines_of_moves(trial)
+    return "".join(f"{one_line(line)}\n" for line in [*lines, last_line(results, trials)])
 
 
 def last_line(results: Sequence[Result], trials: Sequence[Trial] | None) -> str:
@@ -72,7 +71,7 @@ def last_line(results: Sequence[Result], trials: Sequence[Trial] | None) -> str:
     failed = sum(not one.passed for one in results)
     unnoticed = sum(len(trial.unnoticed) for trial in trials or ())
     moves = "" if trials is None else f"; {counted(unnoticed, 'move')} unnoticed"
-    return f"test: {len(results) - failed} passed, {failed} failed{moves}\n"
+    return f"test: {len(results) - failed} passed, {failed} failed{moves}"
 
 
 # ---- JSON
@@ -132,11 +131,6 @@ def json_of(results: Sequence[Result], trials: Sequence[Trial] | None) -> str:
 
 
 # ---- JUnit
-
-
-def xml_text(text: str) -> str:
-    """A text whose characters XML has; others are written as Python writes them."""
-    return NOT_XML.sub(lambda found: found[0].encode("unicode_escape").decode(), text)
 
 
 class JunitCase(NamedTuple):
