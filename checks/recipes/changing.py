@@ -14,13 +14,15 @@ from checks.data import EXAMPLES
 
 Json: TypeAlias = Any
 
+# Lines that a text of an object would write if it weren't escaped.
+FORGED = ("event 0 forged Successful applied", "::error::forged", "forged.yaml: error: forged")
 # Texts that no name, condition or message should make anything else of.
 TEXTS = (
+    *(f"run other Successful\n{line}" for line in FORGED),
+    *(f"{separator}{line}" for separator, line in zip(("\r", "\u2028", "\x0b"), FORGED)),
     "",
     " ",
     "\n",
-    "run other Successful\nevent 0 rate Successful applied",
-    "::error::forged",
     "\x1b[2J\x1b[31mred",
     "\x00",
     "\x85\u2028\u2029",

@@ -7,7 +7,7 @@
 Each case is a stored AnalysisRun, template or suite with some changes, read by a recipe in a process of its own, which
 is forked from one that has loaded the package. It has to end with status 0, 1 or 2, within 2 seconds of processor and
 300 MB, the engine among them. Standard error has lines without control characters, the last of which says why where the
-status is 2; so has what is written as text. The last line counts the cases.
+status is 2; so has what is written as text, in which no object has a line of its own. The last line counts the cases.
 """
 
 import argparse
@@ -27,7 +27,7 @@ from argo_judge.running import run_command
 from checks import ROOT
 from checks.data import EXAMPLES
 from checks.harness import Counts, built
-from checks.recipes.changing import SOURCES, changed
+from checks.recipes.changing import FORGED, SOURCES, changed
 
 SECONDS, MEGABYTES, LONGEST = 2.0, 300, 60
 STRICTER, RUNS = EXAMPLES / "backtest/stricter.json", EXAMPLES / "backtest/runs.json"
@@ -36,6 +36,7 @@ COMMANDS: dict[str, tuple[str, ...]] = {
     "run": (
         "convert analysisrun @",
         "convert analysisrun --partial --shapes SHAPES @",
+        "compare @",
         "shapes @",
         "shapes --annotate NAME @",
         f"backtest --template {STRICTER} @",
@@ -131,7 +132,7 @@ def odd_characters(written: bytes) -> bool:
 
 def is_text(words: Sequence[str]) -> bool:
     """Whether a command writes text, which is no JSON."""
-    return words[0] in ("lint", "test", "backtest") and not {"json", "sarif", "svg", "junit"} & set(words)
+    return words[0] in ("lint", "test", "backtest", "compare") and not {"json", "sarif", "svg", "junit"} & set(words)
 
 
 def faults_of(case: Case, found: Ended) -> Iterator[str]:
@@ -145,6 +146,8 @@ def faults_of(case: Case, found: Ended) -> Iterator[str]:
         yield f"standard error: {found.errors[-200:]!r}"
     if is_text(case.words) and odd_characters(found.output):
         yield f"standard output: {found.output[-200:]!r}"
+    if is_text(case.words) and any(line in FORGED for line in found.output.decode("utf-8", "replace").splitlines()):
+        yield "a line of an object's own"
     if found.seconds > SECONDS or found.megabytes > MEGABYTES:
         yield f"{found.seconds:.1f} seconds, {found.megabytes} MB"
 

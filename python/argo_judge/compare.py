@@ -18,6 +18,7 @@ from argo_judge.engine.refusals import hand_on, said_in
 from argo_judge.engine.reports import RunReport, checked, effect_text, verdict_text
 from argo_judge.errors import GOOD, JUDGED, VERDICT, Refused
 from argo_judge.files import read_json
+from argo_judge.notes import one_line
 from argo_judge.objects import Object, member, objects, shown
 from argo_judge.options import add_engine_flag
 
@@ -72,6 +73,6 @@ def main(words: Namespace) -> int:
     compared = list(compared_in(run, found, report_of(words.engine, made)))
     differing = [one for one in compared if one.controller != one.engine]
     for one in differing:
-        print(f"{one.what}: the controller {one.controller}, argo_judge {one.said}")
+        print(one_line(f"{one.what}: the controller {one.controller}, argo_judge {one.said}"))
     print(f"{len(compared)} phases compared, {len(differing)} differ")
     return VERDICT if differing else GOOD

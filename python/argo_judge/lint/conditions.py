@@ -109,12 +109,12 @@ def asked_of_metric(subject: Subject, place: int, metric: Object, shape: Json) -
     ]
 
 
-def asked_of(subject: Subject) -> list[Asked]:
-    """What the engine is asked of all conditions."""
+def asked_of(subject: Subject, most: int) -> list[Asked]:
+    """What the engine is asked of the conditions of the first metrics, as many as it takes."""
     shapes = shapes_of_metrics(subject)
     return [
         asked
-        for place, metric in subject.metrics
+        for place, metric in subject.metrics[:most]
         for asked in asked_of_metric(subject, place, metric, shapes[place].shape if place in shapes else None)
     ]
 

@@ -1,5 +1,6 @@
 """Values of a shape on which a condition is tried: round its numbers, of each length that matters, with and without
 what is optional. There are a few hundred at most, whatever the shape is."""
+import functools
 import itertools
 import json
 import math
@@ -192,10 +193,16 @@ class Maker:
         return tuple(reversed(chosen))
 
 
+@functools.lru_cache(128)
+def values_by_text(shape: str, conditions: tuple[str, ...]) -> tuple[list[Json], bool]:
+    """The same by the shape's text. Metrics of a template are often alike."""
+    maker = Maker(material_of(conditions))
+    return maker.values(json.loads(shape)), maker.is_complete
+
+
 def values_of(shape: Json, conditions: Sequence[str]) -> tuple[list[Json], bool]:
     """Values of a shape on which conditions are tried, the smallest first, and whether each combination is there."""
-    maker = Maker(material_of(conditions))
-    return maker.values(shape), maker.is_complete
+    return values_by_text(json.dumps(shape), tuple(conditions))
 
 
 def value_text(value: Json) -> str:

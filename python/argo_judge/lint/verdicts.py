@@ -2,6 +2,7 @@
 from collections.abc import Iterator, Sequence
 from typing import TypeVar
 
+from argo_judge.engine.limits import limits_of
 from argo_judge.lint.conditions import Asked, asked_of, refused
 from argo_judge.lint.findings import Finding, info, warning
 from argo_judge.lint.questions import answered
@@ -76,7 +77,7 @@ def of_both(first: Asked, answers: Sequence[bool | str], others: Sequence[bool |
 
 def findings_of_answers(engine: str, subject: Subject) -> Iterator[Finding]:
     """What the engine's answers show of each condition, and of both of a metric."""
-    asked = asked_of(subject)
+    asked = asked_of(subject, limits_of(engine).metrics)
     answers = answered(engine, [one.question for one in asked])
     shapes = shapes_of_metrics(subject)
     seen_shapes = set()
