@@ -65,6 +65,12 @@ def write_text(text: str) -> None:
     sys.stdout.buffer.write(text.encode("utf-8"))
 
 
+def write_file(path: str, text: str) -> None:
+    """Writes a text to a file."""
+    with open(path, "w", encoding="utf-8") as file:
+        file.write(text)
+
+
 def write_json(value: Json) -> None:
     """Writes a JSON value: all of it or, where it can't be encoded, nothing."""
     write_text(escaped(json.dumps(value, ensure_ascii=False, indent=2)) + "\n")

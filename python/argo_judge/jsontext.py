@@ -7,7 +7,7 @@ import re
 from typing import TypeGuard
 
 from argo_judge.errors import Refused
-from argo_judge.objects import Json
+from argo_judge.objects import Json, Object, shown
 
 # What a whole number may have for the engine to read the document.
 MOST_DIGITS = 309
@@ -38,7 +38,23 @@ def is_whole(value: Json) -> TypeGuard[int]:
     return isinstance(value, int) and not isinstance(value, bool)
 
 
-DECODER = json.JSONDecoder(parse_float=NumberText, parse_constant=str, parse_int=whole)
+class DoubleName(ValueError):
+    """A name that an object has twice: which of the values is meant nobody can say."""
+
+
+def object_of(pairs: list[tuple[str, Json]]) -> Object:
+    """An object, of whose names none is there twice."""
+    found = dict(pairs)
+    if len(found) != len(pairs):
+        seen: set[str] = set()
+        for name, _ in pairs:
+            if name in seen:
+                raise DoubleName(f"{shown(name)} twice in an object")
+            seen.add(name)
+    return found
+
+
+DECODER = json.JSONDecoder(parse_float=NumberText, parse_constant=str, parse_int=whole, object_pairs_hook=object_of)
 BLANKS = re.compile(r"[ \t\n\r]*")
 
 
@@ -49,7 +65,7 @@ def decoded(text: str, at: int, where: str, expected: str) -> tuple[Json, int]:
     except json.JSONDecodeError as fault:
         place = f"line {fault.lineno}, column {fault.colno}" if "\n" in text.rstrip() else f"column {fault.colno}"
         raise Refused(f"{where}: expected {expected}; the fault is at {place}")
-    except LongNumber as fault:
+    except (LongNumber, DoubleName) as fault:
         raise Refused(f"{where}: found {fault}")
     except RecursionError:
         raise Refused(f"{where}: values in values are too deep; expected at most 127 levels, as the engine reads")

@@ -83,13 +83,9 @@ def files_in(paths: Iterable[str], suffixes: tuple[str, ...] = SUFFIXES) -> Iter
             )
 
 
-def found_in(paths: Iterable[str]) -> list[Found]:
-    """The objects of files and folders."""
-    return [found for path in files_in(paths) for found in objects_of(path, path)]
-
-
 def each_found_in(paths: Iterable[str]) -> Iterator[Found]:
-    """The same, and those of files with an object a line. One file, or one such line, at a time is in memory."""
+    """The objects of files and folders, also of files with an object a line. One file, or one such line, is in memory
+    at a time."""
     for path in files_in(paths, (*SUFFIXES, LINES)):
         if path.endswith(LINES):
             for line, where in read_lines(path, path):

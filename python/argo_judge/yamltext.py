@@ -118,6 +118,18 @@ STANDARD_TAGS, TEXT_TAG = "tag:yaml.org,2002:", "tag:yaml.org,2002:str"
 RESOLVER: Yaml = yaml and yaml.SafeLoader("")
 
 
+def merged_in(read: Read, at: str) -> list[Read]:
+    """The objects that are merged into another one: one, or those of a list."""
+    if isinstance(read.value, dict):
+        return [read]
+    items = read.value if isinstance(read.value, list) else [None]
+    if not all(isinstance(item, dict) for item in items):
+        raise Refused(f"{at}: expected an object that is merged (`<<`), or a list of them")
+    return [
+        Read(item, read.line, read.under.get(str(place), UNKNOWN).under, read.size) for place, item in enumerate(items)
+    ]
+
+
 class Reader:
     """The values of YAML documents, of PyYAML's events: a value in a value is a call in a call, which are few."""
 
@@ -198,17 +210,26 @@ class Reader:
         return values
 
     def mapping(self, under: dict[str, Lines], level: int) -> dict[str, Json]:
-        """An object, whose names are texts of which none is there twice, and whose lines are kept."""
+        """An object, whose names are texts of which none is there twice, and whose lines are kept. What is merged into
+        it (`<<`) has the names that it lacks."""
         values: dict[str, Json] = {}
+        merged: list[Read] = []
         while not isinstance(key := next(self.events), yaml.MappingEndEvent):
             at = self.at(key)
-            if not isinstance(key, yaml.ScalarEvent) or self.tag_of(key).endswith(":merge"):
-                raise Refused(f"{at}: expected a name, and no merge or value as a name")
+            if not isinstance(key, yaml.ScalarEvent):
+                raise Refused(f"{at}: expected a name, and no value as a name")
+            read = self.value(next(self.events), level + 1)
+            if self.tag_of(key).endswith(":merge"):
+                merged += merged_in(read, at)
+                continue
             if key.value in values:
                 raise Refused(f"{at}: {shown(key.value)} is there twice")
-            read = self.value(next(self.events), level + 1)
             under[key.value] = read.lines(key.start_mark.line + 1)
             values[key.value] = read.value
+        for read in merged:
+            for name in read.value:
+                if name not in values:
+                    under[name], values[name] = read.under.get(name, UNKNOWN), read.value[name]
         return values
 
 

@@ -1,4 +1,5 @@
 """The reader of the Custom Resources' schema, held to the verdicts of jsonschema. Needs that, and hypothesis."""
+import contextlib
 import json
 import pathlib
 from collections.abc import Callable, Iterator
@@ -17,9 +18,10 @@ from argo_judge.crd.schema import (
     schema_of_kind,
     written_schema,
 )
+from argo_judge.errors import Refused
 from argo_judge.jsontext import NumberText, is_text, is_whole
 from argo_judge.lint.subjects import KINDS
-from argo_judge.manifests import found_in, is_of
+from argo_judge.manifests import each_found_in, is_of
 from argo_judge.objects import Json, Object
 from argo_judge.yamltext import is_read
 
@@ -55,7 +57,8 @@ def stored() -> Iterator[Object]:
     """The templates and runs of the examples and of stored tests, and some that have every field or provider."""
     for path in sorted([*CHECKOUT.glob("examples/templates/*"), *CHECKOUT.glob("recipes/tests/**/*.json")]):
         if path.suffix == ".json" and path.read_bytes()[:1] == b"{" or is_read() and path.suffix == ".yaml":
-            yield from (found.value for found in found_in([str(path)]) if is_of(found, KINDS))
+            with contextlib.suppress(Refused):  # some are stored since they can't be read
+                yield from (found.value for found in each_found_in([str(path)]) if is_of(found, KINDS))
     for kind in KINDS:
         yield {**whole_of(schema_of_kind(kind)), "kind": kind}
     for name, provider in whole_of(PROVIDER).items():

@@ -77,3 +77,8 @@ def test_measured(text: str, value: object) -> None:
 def test_a_text_that_is_not_closed_is_looked_at_once() -> None:
     assert measured('\\"' * 100_000) == '\\"' * 100_000
     assert measured('["NaN \\" Inf", NaN, "Inf') == '["NaN \\" Inf", NaN, "Inf'
+
+
+def test_a_name_that_is_there_twice_is_refused() -> None:
+    with pytest.raises(Refused, match='^here: found "b" twice in an object'):
+        parsed('{"a": [{"b": 1, "c": 2, "b": 3}]}', "here")

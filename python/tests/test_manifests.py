@@ -6,7 +6,7 @@ import pytest
 
 from argo_judge.errors import Refused
 from argo_judge.jsontext import NumberText
-from argo_judge.manifests import each_found_in, files_in, found_in, is_json, objects_of, of_kinds
+from argo_judge.manifests import each_found_in, files_in, is_json, objects_of, of_kinds
 from argo_judge.notes import kept_notes
 
 LISTS = """\
@@ -112,8 +112,9 @@ def test_fractions_are_no_texts(tmp_path: pathlib.Path) -> None:
     [
         ("a: 1\nb: 2\na: 3\n", 'one.yaml, line 3: "a" is there twice'),
         ("a: 1\nb: .inf\n", "one.yaml, line 2: found .inf; expected a finite number, or a text in quotes"),
-        ("? [1]\n: 2\n", "one.yaml, line 1: expected a name, and no merge or value as a name"),
-        ("a: &x {b: 1}\nc:\n  <<: *x\n", "one.yaml, line 3: expected a name, and no merge or value as a name"),
+        ("? [1]\n: 2\n", "one.yaml, line 1: expected a name, and no value as a name"),
+        ("c:\n  <<: 1\n", "one.yaml, line 2: expected an object that is merged (`<<`), or a list of them"),
+        ("c:\n  <<: [{a: 1}, 2]\n", "one.yaml, line 2: expected an object that is merged (`<<`), or a list of them"),
         (
             "a: !python/object:os.system x\n",
             'one.yaml, line 1: found the tag "!python/object:os.system"; expected none',
@@ -127,6 +128,15 @@ def test_yaml_is_refused(tmp_path: pathlib.Path, text: str, line: str) -> None:
     with pytest.raises(Refused) as refused:
         value_in(tmp_path, text)
     assert str(refused.value) == line
+
+
+def test_objects_are_merged_as_kubectl_merges_them(tmp_path: pathlib.Path) -> None:
+    pytest.importorskip("yaml")
+    text = "x: &x {a: 1, b: 2}\ny: &y {b: 3, c: 4}\none: {<<: *x, b: 5}\nboth:\n  <<: [*x, *y]\n  d: 6\n"
+    found = objects_of(put(tmp_path, "one.yaml", text), "one.yaml")[0]
+    assert found.value["one"] == {"a": 1, "b": 5}
+    assert found.value["both"] == {"a": 1, "b": 2, "c": 4, "d": 6}
+    assert [found.line_of(f"/both/{name}") for name in "acd"] == [1, 2, 6]
 
 
 def test_aliases_of_aliases_are_bounded(tmp_path: pathlib.Path) -> None:
@@ -181,7 +191,7 @@ def test_is_json(path: str, text: str, answer: bool) -> None:
 def test_other_kinds_are_counted(tmp_path: pathlib.Path) -> None:
     path = put(tmp_path, "some.json", '{"kind": "A"}{"kind": "B\\n"}{"kind": "B\\n"}7')
     with kept_notes() as noted:
-        found = of_kinds(found_in([path]), ("A",), "template")
+        found = of_kinds(each_found_in([path]), ("A",), "template")
     assert len(found) == 1
     assert noted == ['objects that are no template are passed over: "B\\n" (2), "none" (1)']
 
@@ -191,7 +201,7 @@ def test_objects_one_a_line(tmp_path: pathlib.Path) -> None:
     put(tmp_path, "a.json", '{"kind": "C"}')
     found = list(each_found_in([str(tmp_path)]))
     assert [one.value["kind"] for one in found] == ["C", "A", "B"]
-    assert [one.value["kind"] for one in found_in([str(tmp_path)])] == ["C"]
+    assert list(files_in([str(tmp_path)])) == [str(tmp_path / "a.json")]
 
 
 def test_a_line_that_is_no_object_is_refused(tmp_path: pathlib.Path) -> None:

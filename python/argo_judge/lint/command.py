@@ -9,19 +9,23 @@ Lists. Other objects are passed over. What a condition does is asked of argo_jud
 that of --shapes, of the annotation argo-judge/shapes, or what the provider usually answers. docs/use/lint.md has each
 rule.
 
-The status is 0, 1 where there is an error (with --strict also a warning), or 2 where the input is refused.
+The status is 0, 1 where there is an error (with --strict also a warning), or 2 where the input is refused: also where
+one of several files has no JSON or YAML, unless --skip-unreadable is given. The annotation argo-judge/lint-ignore of a
+template names rules, with commas between them, whose findings are left out, and so are those of --baseline.
 """
 from argparse import ArgumentParser, Namespace
 from collections.abc import Callable, Sequence
 
-from argo_judge.errors import GOOD, VERDICT, Refused
-from argo_judge.files import read_json, write_text
+from argo_judge.errors import GOOD, REFUSED, VERDICT, Refused
+from argo_judge.files import read_json, write_file, write_text
+from argo_judge.lint.exceptions import baseline_in, baseline_text, without_exceptions
 from argo_judge.lint.findings import Severity, chosen_rules
 from argo_judge.lint.outputs import STANDARD_INPUT, Located, as_github, as_json, as_text
 from argo_judge.lint.rules import findings_of
 from argo_judge.lint.sarif import as_sarif
 from argo_judge.lint.subjects import KINDS, Subject
-from argo_judge.manifests import Found, found_in, of_kinds
+from argo_judge.manifests import Found, files_in, objects_of, of_kinds
+from argo_judge.notes import note
 from argo_judge.objects import listed, shown
 from argo_judge.options import add_arg_flag, add_engine_flag, add_shapes_flag
 from argo_judge.shapes import shapes_in
@@ -58,6 +62,8 @@ def add_flags(parser: ArgumentParser) -> None:
     flag("--strict", action="store_true", help="end with status 1 for warnings, too")
     for name, does in (("--rule", "apply this rule alone"), ("--without", "leave this rule out")):
         flag(name, action="append", default=[], metavar="RULE", help=f"{does}; may be given several times")
+    flag("--baseline", metavar="FILE", help="leave out the findings that this file has")
+    flag("--write-baseline", metavar="FILE", help="write the findings to this file, for --baseline, and end with 0")
     add_shapes_flag(parser)
     add_arg_flag(parser)
     add_engine_flag(parser)
@@ -66,10 +72,15 @@ def add_flags(parser: ArgumentParser) -> None:
 def lint(words: Namespace, read_objects: Callable[[], list[Found]], where: str) -> int:
     """Writes the findings of the templates among objects, which are read once the words are checked."""
     chosen = chosen_rules(words.rule, words.without)
+    baseline = baseline_in(words.baseline) if words.baseline else ()
     subjects = subjects_of(words, read_objects(), where)
-    located = [
+    found = [
         Located(subject, finding) for subject in subjects for finding in findings_of(words.engine, subject, chosen)
     ]
+    located = without_exceptions(found, baseline)
+    if words.write_baseline:
+        write_file(words.write_baseline, baseline_text(located))
+        return GOOD
     write_text(OUTPUTS[words.output](located, subjects))
     failing = (Severity.ERROR, Severity.WARNING) if words.strict else (Severity.ERROR,)
     return VERDICT if any(one.finding.severity in failing for one in located) else GOOD
@@ -78,10 +89,34 @@ def lint(words: Namespace, read_objects: Callable[[], list[Found]], where: str) 
 def add_arguments(parser: ArgumentParser) -> None:
     """What the command takes."""
     add_flags(parser)
+    parser.add_argument("--skip-unreadable", action="store_true", help="pass over files that have no JSON or YAML")
     parser.add_argument("paths", nargs="+", metavar="TEMPLATE", help="a file, a folder, or - for standard input")
 
 
+def readable_in(paths: Sequence[str], faults: list[Refused]) -> list[Found]:
+    """The objects of files and folders; what can't be read is added to the faults."""
+    found: list[Found] = []
+    for path in files_in(paths):
+        try:
+            found += objects_of(path, path)
+        except Refused as fault:
+            faults.append(fault)
+    return found
+
+
 def main(words: Namespace) -> int:
-    """Writes the findings of the templates in files and folders."""
+    """Writes the findings of the templates in files and folders. One that can't be read doesn't stop the others."""
     places = [STANDARD_INPUT if path == "-" else path for path in words.paths]
-    return lint(words, lambda: found_in(words.paths), ", ".join(places))
+    faults: list[Refused] = []
+
+    def read() -> list[Found]:
+        """The objects; where there are none, why the first file can't be read."""
+        found = readable_in(words.paths, faults)
+        if faults and not found:
+            raise faults[0]
+        for fault in faults:
+            note(f"{fault}; it is passed over")
+        return found
+
+    status = lint(words, read, ", ".join(places))
+    return REFUSED if faults and not words.skip_unreadable else status

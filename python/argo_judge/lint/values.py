@@ -202,7 +202,10 @@ def values_by_text(shape: str, conditions: tuple[str, ...]) -> tuple[list[Json],
 
 def values_of(shape: Json, conditions: Sequence[str]) -> tuple[list[Json], bool]:
     """Values of a shape on which conditions are tried, the smallest first, and whether each combination is there."""
-    return values_by_text(json.dumps(shape), tuple(conditions))
+    try:
+        return values_by_text(json.dumps(shape), tuple(conditions))
+    except RecursionError:  # the engine refuses it
+        return [], True
 
 
 def value_text(value: Json) -> str:
