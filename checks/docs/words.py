@@ -23,7 +23,7 @@ MOST = {
     "README.md": 1145,
     "CONTRIBUTING.md": 1600,
     "CHANGELOG.md": 1060,
-    "docs/use/recipes.md": 1645,
+    "docs/use/recipes.md": 1670,
     "docs/use/formats.md": 3690,
     "docs/use/json.md": 875,
     "docs/use/explain.md": 970,

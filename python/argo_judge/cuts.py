@@ -17,9 +17,9 @@ MOST_LINES = 8
 
 
 def decimals_of(value: Json, shape: Json) -> Iterator[str]:
-    """The texts in a value that its shape has as decimals."""
+    """The texts in a value that its shape has as decimals, and that are some."""
     if shape == "decimal":
-        if isinstance(value, str) and FINE.search(value) and is_decimal(value):
+        if isinstance(value, str) and is_decimal(value):
             yield value
     elif member(shape, "optional") is not None:
         yield from decimals_of(value, shape["optional"])
@@ -34,6 +34,8 @@ def decimals_of(value: Json, shape: Json) -> Iterator[str]:
 def difference(texts: Iterable[str], literals: Sequence[Literal]) -> str | None:
     """The first of decimal texts that compares otherwise once it is cut, as a line says it."""
     for text in texts:
+        if not FINE.search(text):
+            continue
         number = number_of(text)
         cut = millionths(number)
         for literal in literals if fits(cut) else ():

@@ -12,9 +12,11 @@ they come after its measurements, since they have no times.
 from argparse import ArgumentParser, Namespace
 
 from argo_judge.convert.answers import add_flags, with_answers
+from argo_judge.differences import note_texts
 from argo_judge.files import read_text, write_json
 from argo_judge.jsontext import parsed_lines
-from argo_judge.objects import Object
+from argo_judge.objects import Json, Object
+from argo_judge.templates import chosen_metric
 
 
 def add_arguments(parser: ArgumentParser) -> None:
@@ -24,9 +26,14 @@ def add_arguments(parser: ArgumentParser) -> None:
 
 def main(words: Namespace) -> None:
     """Writes the document of a metric's answers."""
+    values: list[Json] = []
 
     def answers_of() -> list[Object]:
         """A value for each line."""
-        return [{"value": value} for value in parsed_lines(read_text(words.answers, "answers"), "answers")]
+        values.extend(parsed_lines(read_text(words.answers, "answers"), "answers"))
+        return [{"value": value} for value in values]
 
-    write_json(with_answers(words, answers_of))
+    made = with_answers(words, answers_of)
+    metric = chosen_metric(made["manifest"], words.metric)
+    note_texts(metric, values, made["shapes"].get(metric))
+    write_json(made)

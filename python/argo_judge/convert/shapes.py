@@ -18,6 +18,7 @@ import shlex
 from argparse import ArgumentParser, Namespace
 
 from argo_judge.analysisruns import measurements_of
+from argo_judge.differences import note_texts
 from argo_judge.errors import Refused
 from argo_judge.files import read_json, read_text, write_json
 from argo_judge.jsontext import parsed
@@ -67,6 +68,8 @@ def main(words: Namespace) -> None:
     answers, usual = answers_of(words)
     shapes = {metric: proposed(metric, answers[metric], usual.get(metric), words.engine) for metric in answers}
     shapes = {metric: shape for metric, shape in shapes.items() if shape is not None}
+    if words.metric in shapes:  # of an AnalysisRun or a document nobody can tell numbers and texts apart
+        note_texts(words.metric, answers[words.metric], shapes[words.metric])
     if not shapes:
         raise Refused(
             "input: expected answers that say of what kind they are; docs/use/shapes.md has shapes by provider"
