@@ -68,7 +68,7 @@ def main(words: Namespace) -> None:
     answers, usual = answers_of(words)
     shapes = {metric: proposed(metric, answers[metric], usual.get(metric), words.engine) for metric in answers}
     shapes = {metric: shape for metric, shape in shapes.items() if shape is not None}
-    if words.metric in shapes:  # of an AnalysisRun or a document nobody can tell numbers and texts apart
+    if words.metric in shapes:  # in AnalysisRuns and documents numbers and texts look alike
         note_texts(words.metric, answers[words.metric], shapes[words.metric])
     if not shapes:
         raise Refused(
