@@ -3,6 +3,7 @@
 import pytest
 
 from argo_judge.jsontext import NumberText
+from argo_judge.lint.arguments import unknown_arguments
 from argo_judge.lint.fields import close_to, refused_values, unknown_fields
 from argo_judge.lint.limits import is_duration, refused_by_controller, unreachable_limits
 from argo_judge.lint.references import bound, pieces, referred_in
@@ -228,3 +229,15 @@ def test_a_deep_shape_ends() -> None:
 def test_value_text() -> None:
     assert value_text([NumberText("0.5"), "0.5", None, True, 1]) == '[0.5, "0.5", null, true, .. 5 items]'
     assert value_text({"a\n": {"b": []}}) == '{"a\\n": {"b": []}}'
+
+
+def test_what_is_no_argument_cannot_be_resolved() -> None:
+    provider = {
+        "web": {"url": "http://{{args.host}}/{{ inputs.parameters.x }}", "body": "{{.status.phase}}{{.status.phase}}"}
+    }
+    found = [one.message for one in unknown_arguments(subject_of({"provider": provider}))]
+    assert [message.partition("`")[2].partition("`")[0] for message in found] == [
+        "{{args.host}}",
+        "{{inputs.parameters.x}}",
+        "{{.status.phase}}",
+    ]

@@ -1,8 +1,9 @@
 """Objects of a cluster, read by `kubectl get`. Nothing in the cluster is changed."""
 import subprocess
-from argparse import Namespace
+from argparse import SUPPRESS, ArgumentParser, Namespace
 from collections.abc import Sequence
 from dataclasses import replace
+from typing import Any
 
 from argo_judge.errors import Refused
 from argo_judge.jsontext import parsed
@@ -13,20 +14,31 @@ from argo_judge.options import CommandLine, command_line
 HANDED_ON = ("namespace", "context", "kubeconfig")
 
 
+def add_cluster_flags(parser: ArgumentParser, **more: Any) -> None:
+    """The flags that are handed on to kubectl."""
+    parser.add_argument("-n", "--namespace", metavar="NAME", help="handed on to kubectl", **more)
+    parser.add_argument("--context", metavar="NAME", help="handed on to kubectl", **more)
+    parser.add_argument("--kubeconfig", metavar="FILE", help="handed on to kubectl", **more)
+
+
 def cluster_flags() -> CommandLine:
-    """What each command takes that reads a cluster."""
+    """What each command takes that reads a cluster. What is given before the command holds unless it is given again."""
     parser = command_line(None, add_help=False)
-    parser.add_argument("-n", "--namespace", metavar="NAME", help="handed on to kubectl")
-    parser.add_argument("--context", metavar="NAME", help="handed on to kubectl")
-    parser.add_argument("--kubeconfig", metavar="FILE", help="handed on to kubectl")
+    add_cluster_flags(parser, default=SUPPRESS)
     parser.add_argument("--cluster", action="store_true", help="the template is a ClusterAnalysisTemplate")
     return parser
+
+
+def add_all_flag(parser: ArgumentParser) -> None:
+    """The flag of commands that read many objects."""
+    parser.add_argument("-A", "--all-namespaces", action="store_true", help="read those of all namespaces")
 
 
 def got(what: Sequence[str], words: Namespace) -> str:
     """What `kubectl get` prints as JSON of a kind and names, or of a kind and a selector."""
     given = [(flag, getattr(words, flag)) for flag in HANDED_ON if getattr(words, flag) is not None]
     command = ["kubectl", "get", *what, "-o", "json", *(word for flag, value in given for word in (f"--{flag}", value))]
+    command += ["--all-namespaces"] if getattr(words, "all_namespaces", False) else []
     try:
         ended = subprocess.run(command, capture_output=True, text=True)
     except OSError as fault:

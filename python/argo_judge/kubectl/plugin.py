@@ -31,7 +31,15 @@ from argo_judge.dryruns import with_dry_names
 from argo_judge.engine.explanations import event_of, parts_of
 from argo_judge.engine.program import handed_through, judged, shell_status
 from argo_judge.files import write_text
-from argo_judge.kubectl.clusters import cluster_flags, fetched, fetched_all, kind_of_template, template_of
+from argo_judge.kubectl.clusters import (
+    add_all_flag,
+    add_cluster_flags,
+    cluster_flags,
+    fetched,
+    fetched_all,
+    kind_of_template,
+    template_of,
+)
 from argo_judge.lint.command import add_flags as add_lint_flags
 from argo_judge.lint.command import lint as found_mistakes
 from argo_judge.manifests import Found
@@ -159,6 +167,7 @@ def add_commands(commands: Commands) -> None:
     one = add_command(commands, lint, "find mistakes in AnalysisTemplates")
     add_lint_flags(one)
     add_selector_flag(one, "the templates with these labels alone")
+    add_all_flag(one)
     one.add_argument("names", nargs="*", metavar="TEMPLATE", help="their names")
 
     one = commands.add_parser("test", help="run tests of templates", description=test.__doc__)
@@ -171,10 +180,12 @@ def add_commands(commands: Commands) -> None:
     which.add_argument("--template", metavar="NAME", help="this AnalysisTemplate of the cluster")
     which.add_argument("--file", metavar="FILE", help="the template of this file")
     add_selector_flag(one, "the AnalysisRuns with these labels alone")
+    add_all_flag(one)
 
 
 def add_arguments(parser: CommandLine) -> None:
-    """The plugin's own commands."""
+    """The plugin's own commands, and flags that may come before them."""
+    add_cluster_flags(parser)
     add_commands(parser.add_subparsers(required=True, metavar="COMMAND"))
 
 

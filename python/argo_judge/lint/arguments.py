@@ -4,7 +4,7 @@ from collections.abc import Iterator
 from argo_judge.lint.fields import close_to
 from argo_judge.lint.findings import Finding, error, info, warning
 from argo_judge.lint.limits import LIMITS
-from argo_judge.lint.references import STAND_IN, referred_in, referring_texts
+from argo_judge.lint.references import STAND_IN, others_in, referred_in, referring_texts
 from argo_judge.lint.subjects import Subject, placed
 from argo_judge.objects import listed, shown
 from argo_judge.pointers import pointer_to
@@ -24,6 +24,14 @@ def unknown_arguments(subject: Subject) -> Iterator[Finding]:
                     f"{reference} refers to an argument that isn't declared; arguments are {listed(names)}",
                     f"did you mean {shown(close)}?" if close else f"add {shown(name)} to `spec.args`",
                 )
+        # Of conditions there is another finding.
+        for other in dict.fromkeys(others_in(text)) if leading[-1] not in CONDITIONS else ():
+            yield error(
+                "unknown-argument",
+                pointer_to(*leading),
+                f"the controller can't resolve `{{{{{other}}}}}`, which is no argument",
+                "write `{{args.NAME}}` of an argument",
+            )
 
 
 def unused_arguments(subject: Subject) -> Iterator[Finding]:

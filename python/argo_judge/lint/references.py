@@ -29,6 +29,11 @@ def referred_in(text: str) -> list[str]:
     return [inside[len(BEFORE_NAME) :] for inside in (pieces(text) or [])[1::2] if inside.startswith(BEFORE_NAME)]
 
 
+def others_in(text: str) -> list[str]:
+    """What else is in braces, which is no reference to an argument."""
+    return [inside for inside in (pieces(text) or [])[1::2] if not inside.startswith(BEFORE_NAME)]
+
+
 def bound(text: str, values: Mapping[str, str]) -> str | None:
     """A text with its arguments' values; None where one has no value, or where braces hold something else."""
     parts = pieces(text)
