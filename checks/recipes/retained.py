@@ -130,7 +130,7 @@ def differences(number: int) -> tuple[bool, list[str]]:
     except Refused as refusal:
         return True, [f"{refusal}"]
     lacks = any(one.is_placeholder for one in found)
-    differing = [one for one in compared if one.controller != one.engine]
+    differing = [one for one in compared if one.differs]
     return lacks, [f"{one.what}: the controller {one.controller}, argo_judge {one.said}" for one in differing]
 
 
