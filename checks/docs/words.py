@@ -32,7 +32,7 @@ MOST = {
     "docs/use/install.md": 800,
     "docs/use/lint.md": 965,
     "docs/use/language.md": 3500,
-    "docs/use/phases.md": 1200,
+    "docs/use/phases.md": 1220,
     "docs/use/shapes.md": 1000,
     "docs/use/troubleshooting.md": 1115,
     "docs/use/scaling.md": 700,
