@@ -122,7 +122,7 @@ def proposed_shapes(found: Sequence[Measured], template: Object, engine: str) ->
     needs one nothing is known."""
     answers: dict[str, list[Json]] = {}
     for one in found:
-        if "value" in one.answer:
+        if "value" in one.answer and isinstance(one.metric, str):
             answers.setdefault(one.metric, []).append(one.answer["value"])
     needing = [metric for metric in metrics_of(template) if own_shape(metric) is None]
     shapes = {}
@@ -163,7 +163,7 @@ def with_placeholders(
     """A document, and its measurements, with placeholders for what the controller dropped."""
     kept: dict[str, dict[str, Object]] = {}
     for one in found:
-        if "value" in one.answer:
+        if "value" in one.answer and isinstance(one.metric, str):
             kept.setdefault(one.metric, {})[one.measurement["phase"]] = one.answer
     put = placeholders(engine, made, gone, kept)
     entries = [*entries_of(put, made["runs"][0]["name"]), *made["measurements"]]

@@ -93,13 +93,13 @@ def in_order(gone: Gone, most: int) -> list[str]:
 def verdicts_asked(engine: str, made: Object, name: str) -> dict[str, Object]:
     """A value for each verdict that a metric's conditions give on some values of its shape."""
     template, run = made["manifest"], made["runs"][0]
-    metric = next(one for one in metrics_of(template) if one["name"] == name)
+    metric: Object = next((one for one in metrics_of(template) if one.get("name") == name), {})
     args = {**values_of_args(member(template, "spec", "args")), **run.get("args", {})}
     conditions = [bound(metric[one], args) for one in CONDITIONS if isinstance(member(metric, one), str)]
     values, _ = values_of(made["shapes"].get(name), conditions)
     limits = dict.fromkeys(("failureLimit", "inconclusiveLimit", "consecutiveErrorLimit"), MOST_LIMIT)
-    own = {one: metric[one] for one in ("name", *CONDITIONS) if one in metric}
-    endless: Object = {**own, "interval": "1m", **limits}
+    own = {one: metric[one] for one in CONDITIONS if one in metric}
+    endless: Object = {**own, "name": name, "interval": "1m", **limits}
     asked = {
         **made,
         "manifest": {**template, "spec": {**template["spec"], "metrics": [endless], "dryRun": []}},

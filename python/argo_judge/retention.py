@@ -53,7 +53,11 @@ def unmeasured(run: Json) -> str:
     """What is said of a run that its controller ended badly before anything was measured: no condition said why."""
     phase, message = member(run, "status", "phase"), member(run, "status", "message")
     results = objects(member(run, "status", "metricResults"))
-    if phase not in BAD or any(objects(member(result, "measurements")) for result in results):
+    if (
+        not isinstance(phase, str)
+        or phase not in BAD
+        or any(objects(member(result, "measurements")) for result in results)
+    ):
         return ""
     why = message if isinstance(message, str) else "it doesn't say why"
     return f"the controller ended the run as {phase} before anything was measured: {why}"

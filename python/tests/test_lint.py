@@ -241,3 +241,9 @@ def test_what_is_no_argument_cannot_be_resolved() -> None:
         "{{inputs.parameters.x}}",
         "{{.status.phase}}",
     ]
+
+
+def test_of_many_refused_items_the_first_are_looked_at() -> None:
+    found = list(refused_values(subject_of({"provider": {"web": {"url": "x", "headers": [0] * 20_000}}})))
+    assert len(found) == 51
+    assert found[-1].message == "there are 19950 more values of web.headers that the API server refuses"

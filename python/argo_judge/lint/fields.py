@@ -1,5 +1,6 @@
 """Fields that Argo Rollouts doesn't have, and values that the API server refuses."""
 import difflib
+from collections import Counter
 from collections.abc import Collection, Iterable, Iterator, Sequence
 
 from argo_judge.crd.reader import Fault, Keyword, Place, faults_of
@@ -13,8 +14,8 @@ from argo_judge.pointers import pointer_to
 
 # Longer names are compared with nothing: that takes the square of their length.
 LONGEST_NAME = 64
-# Of a part with more fields that nobody knows the others are only counted.
-MOST_UNKNOWN = 50
+# How many findings of one kind a part has; others are only counted.
+MOST_OF_PART = 50
 # What is missing by other findings, which say more of it.
 SAID_ELSEWHERE = (SPEC, METRIC, PROVIDER)
 EXPECTED = {
@@ -78,9 +79,9 @@ def unknown_by_part(faults: Iterable[Fault]) -> dict[str, list[Fault]]:
 def unknown_fields(subject: Subject) -> Iterator[Finding]:
     """Fields that no part has, of which the first few of a part are looked at."""
     for pointer, faults in unknown_by_part(faults_in(subject)).items():
-        yield from (unknown_field(subject, fault) for fault in faults[:MOST_UNKNOWN])
-        if len(faults) > MOST_UNKNOWN:
-            more = f"{len(faults) - MOST_UNKNOWN} more fields that Argo Rollouts 1.8 doesn't know"
+        yield from (unknown_field(subject, fault) for fault in faults[:MOST_OF_PART])
+        if len(faults) > MOST_OF_PART:
+            more = f"{len(faults) - MOST_OF_PART} more fields that Argo Rollouts 1.8 doesn't know"
             has = f"{title_of(faults[0].place.fields)} has {more}"
             yield warning("unknown-field", pointer, has, "remove them")
 
@@ -122,18 +123,30 @@ def misspelt(faults: Sequence[Fault]) -> Iterator[tuple[str, str]]:
     """The pointer of each part that lacks fields, with the fields that it seems to have under another name."""
     lacking = {fault.place.pointer for fault in faults if fault.keyword is Keyword.REQUIRED}
     for pointer, unknown in unknown_by_part(faults).items():
-        for fault in unknown[:MOST_UNKNOWN] if pointer in lacking else ():
+        for fault in unknown[:MOST_OF_PART] if pointer in lacking else ():
             if close := close_to(fault.found, fault.expected.required):
                 yield pointer, close
 
 
-def refused_values(subject: Subject) -> Iterator[Finding]:
-    """Values that the API server refuses, and fields that it misses, unless another finding has said so."""
-    faults = list(faults_in(subject))
+def refusals_of(faults: Sequence[Fault]) -> Iterator[tuple[Fault, Finding]]:
+    """The finding of each value that is refused, and of each field that is missing unless another finding says so."""
     said = set(misspelt(faults))
     for fault in faults:
         if fault.keyword is Keyword.REQUIRED:
             is_said = (*fault.place.fields, fault.found) in SAID_ELSEWHERE or (fault.place.pointer, fault.found) in said
-            yield from [] if is_said else [missing_field(fault)]
+            yield from [] if is_said else [(fault, missing_field(fault))]
         elif fault.keyword is not Keyword.PROPERTIES:
-            yield refused_value(fault)
+            yield fault, refused_value(fault)
+
+
+def refused_values(subject: Subject) -> Iterator[Finding]:
+    """Values that the API server refuses, and fields that it misses; of many items the first are looked at."""
+    times: Counter[tuple[str, ...]] = Counter()
+    for fault, finding in refusals_of(list(faults_in(subject))):
+        times[fault.place.fields] += 1
+        if times[fault.place.fields] <= MOST_OF_PART:
+            yield finding
+    for fields, number in times.items():
+        if number > MOST_OF_PART:
+            more = f"{number - MOST_OF_PART} more values of {title_of(fields)} that the API server refuses"
+            yield error("refused-by-controller", pointer_to(*fields[:1]), f"there are {more}", "mend the first ones")

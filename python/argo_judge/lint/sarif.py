@@ -49,4 +49,4 @@ def as_sarif(located: Sequence[Located], _subjects: Sequence[Subject]) -> str:
         "results": [result_of(one) for one in located],
         "columnKind": "unicodeCodePoints",
     }
-    return json.dumps({"$schema": SCHEMA, "version": "2.1.0", "runs": [run]}, ensure_ascii=False, indent=2) + "\n"
+    return json.dumps({"$schema": SCHEMA, "version": "2.1.0", "runs": [run]}, ensure_ascii=False) + "\n"
