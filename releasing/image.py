@@ -2,35 +2,81 @@
 
     packaging/image dist/argo_judge-VERSION-linux-x86_64.tar.gz
 
-It is an OCI archive next to the release's: one layer with /bin/argo_judge, which is what the image starts. The same
-release gives the same bytes. `skopeo copy oci-archive:FILE docker://NAME:VERSION` puts it into a registry.
+It is an OCI archive next to the release's: one layer with /bin/argo_judge, which is what the image starts. The release
+has to have the files that its PROVED lists, with these checksums, and no others; otherwise it is refused in one line,
+with status 2. The same release gives the same bytes. `skopeo copy oci-archive:FILE docker://NAME:VERSION` puts it into
+a registry.
 """
 import datetime
 import json
 import pathlib
+import posixpath
 import re
 import sys
 import tarfile
+import zlib
 from typing import Any
 
+from releasing import evidence
 from releasing.archives import File, tar
 from releasing.installing import Refused
 from releasing.scripts import CommandLine, checksum, ended
 
 ARCHIVE = re.compile(r"(argo_judge-(.+))-linux-x86_64\.tar\.gz")
-PROGRAM = "bin/argo_judge"
+PROGRAM, PROVED = "bin/argo_judge", "PROVED"
 OCI = "application/vnd.oci.image"
 # A user without rights, as a cluster may demand.
 USER = "65532:65532"
 
 
-def member_of(archive: tarfile.TarFile, path: str) -> tuple[bytes, int]:
-    """A file of the release, and its time."""
-    found = next((member for member in archive if member.name.partition("/")[2] == path), None)
-    file = archive.extractfile(found) if found is not None else None
-    if found is None or file is None:
-        raise Refused(f"the release has no {path}")
-    return file.read(), int(found.mtime)
+def files_of(archive: tarfile.TarFile) -> dict[str, bytes]:
+    """The files of an archive by their paths, links with what they lead to."""
+    found: dict[str, bytes] = {}
+    links: dict[str, str] = {}
+    for member in archive:
+        file = archive.extractfile(member) if member.isreg() else None
+        if member.name in found or member.name in links:
+            raise Refused(f"{member.name} is there twice")
+        if file is not None:
+            found[member.name] = file.read()
+        elif member.issym():
+            links[member.name] = posixpath.normpath(posixpath.join(posixpath.dirname(member.name), member.linkname))
+        elif not member.isdir():
+            raise Refused(f"{member.name} is no file, folder or symbolic link")
+    for path, target in links.items():
+        if target not in found:
+            raise Refused(f"{path} leads to {target}, which is no file of it")
+    return {**found, **{path: found[target] for path, target in links.items()}}
+
+
+def check_files(files: dict[str, bytes], top: str) -> None:
+    """Refuses files that aren't the ones that PROVED lists, with their checksums, in the folder `top`."""
+    if f"{top}/{PROVED}" not in files:
+        raise Refused(f"it has no {top}/{PROVED}")
+    listed = evidence.files_of(files[f"{top}/{PROVED}"].decode("utf-8", "replace"))
+    if PROGRAM not in listed:
+        raise Refused(f"its {PROVED} lists no {PROGRAM}")
+    wanted = {f"{top}/{path}": checksum for path, checksum in listed.items()}
+    for path in sorted({*wanted, *files} - {f"{top}/{PROVED}"}):
+        if path not in files:
+            raise Refused(f"{path} is missing, which its {PROVED} lists")
+        if path not in wanted:
+            raise Refused(f"{path} is in it, which its {PROVED} doesn't list")
+        if checksum(files[path]) != wanted[path]:
+            raise Refused(f"{path} has the checksum {checksum(files[path])}; its {PROVED} lists {wanted[path]}")
+
+
+def read(release: pathlib.Path, top: str) -> tuple[dict[str, bytes], int]:
+    """The files of a release by their paths, as its PROVED lists them, and the time of its program."""
+    try:
+        with tarfile.open(release, "r:gz") as archive:
+            files = files_of(archive)
+            check_files(files, top)
+            time = int(archive.getmember(f"{top}/{PROGRAM}").mtime)
+    except (Refused, EOFError, zlib.error, tarfile.TarError) as fault:
+        found = str(fault).replace("\n", "\\n")
+        raise Refused(f"{release}: {found}; expected an archive as bin/release makes it") from None
+    return {path.removeprefix(f"{top}/"): content for path, content in files.items()}, time
 
 
 class Blobs(dict):
@@ -77,14 +123,12 @@ def made_of(release: pathlib.Path) -> pathlib.Path:
     name = ARCHIVE.fullmatch(release.name)
     if name is None:
         raise Refused(f"{release}: expected a file argo_judge-VERSION-linux-x86_64.tar.gz, as bin/release makes it")
-    with tarfile.open(release) as archive:
-        proved, _ = member_of(archive, "PROVED")
-        program, time = member_of(archive, PROGRAM)
-    commit = re.search(r"^commit: (\w+)$", proved.decode("utf-8"), re.M)
+    files, time = read(release, release.name.removesuffix(".tar.gz"))
+    commit = re.search(r"^commit: (\w+)$", files[PROVED].decode("utf-8", "replace"), re.M)
     if commit is None:
-        raise Refused(f"{release}: its PROVED names no commit")
+        raise Refused(f"{release}: its {PROVED} names no commit")
     file = release.with_name(f"{name[1]}-image.tar")
-    file.write_bytes(image(program, name[2], commit[1], time))
+    file.write_bytes(image(files[PROGRAM], name[2], commit[1], time))
     return file
 
 

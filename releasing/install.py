@@ -5,8 +5,11 @@
 
 PREFIX/bin gets argo_judge and kubectl-argo_judge, PREFIX/lib/argo_judge the recipes, their package and docs/use. What
 is installed needs neither this checkout nor the kit: the program the C library, the recipes python3. The program has to
-be that of the sources as they are, which bin/prove argo_judge proves and builds. Status 2 where it isn't, or where
-PREFIX has files of these names that were not installed so.
+be that of the sources as they are, which bin/prove argo_judge proves and builds. Status 2 where it isn't, where PREFIX
+has files of these names that were not installed so, and while another start works on PREFIX.
+
+A second start replaces what the first one installed, the program last. A copy that fails changes nothing; after a later
+stop, the next start completes it.
 """
 import contextlib
 import pathlib

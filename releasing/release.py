@@ -1,13 +1,15 @@
 """Makes a release of the program that the gate proved and ran: dist/argo_judge-VERSION-linux-x86_64.tar.gz.
 
-    bin/release                refuses where the gate hasn't ended well on this program, or git has uncommitted changes
+    bin/release                refuses where the gate hasn't ended well on this program and on HEAD, or git has
+                               uncommitted changes
     bin/release --trial        makes one all the same, whose file PROVED says that it is a trial, and why
     bin/release .. --to FOLDER puts it into another folder than dist
 
 The object file that the program was linked of is linked again as the kit does, which has to give the same bytes. Then
 it gets the commit and the kit into the text of --version, and is linked statically. `bin/prove --object argo_judge`
-makes the object file where the proof left none. The archive's bytes depend on the sources, the program, the C compiler
-and the C library alone; its time is SOURCE_DATE_EPOCH, else that of the commit. A refusal is one line, with status 2.
+makes the object file where the proof left none. The archive has files that git tracks and what is made of the program,
+and PROVED with their checksums. Its bytes depend on these, the C compiler and the C library alone; its time is
+SOURCE_DATE_EPOCH, else that of the commit. A refusal is one line, with status 2.
 """
 import os
 import pathlib
@@ -15,16 +17,19 @@ import re
 import subprocess
 import sys
 import tempfile
+from itertools import dropwhile
 
-from releasing import ROOT, evidence, installing, linking
+from releasing import ROOT, evidence, installing, linking, pages
 from releasing.archives import compressed, file_of, tar
-from releasing.evidence import OBJECT, PROGRAM, git
+from releasing.evidence import OBJECT, PROGRAM
 from releasing.installing import Refused
 from releasing.scripts import CommandLine, checksum, ended
 from releasing.stamps import stamp_of, stamped
+from releasing.tracked import git
 from releasing.tree import files_of, make, version_of
 
 TIME = re.compile(r"[0-9]{1,10}", re.ASCII)
+LICENCE = re.compile(r"\blicence\b", re.I)
 
 
 def time_of_release() -> int:
@@ -56,7 +61,7 @@ def static_program(scratch: pathlib.Path, stamp: str) -> pathlib.Path:
 
 
 def lines_of_proved(tree: pathlib.Path, commit: str, doubts: list[str]) -> dict[str, str]:
-    """The names and values of PROVED before the sources."""
+    """The names and values of PROVED before the checksums of files."""
     found = evidence.gate()
     gate = found if found is not None and found.program == checksum(PROGRAM.read_bytes()) else None
     lines = {"trial": "; ".join(doubts)} if doubts else {}
@@ -78,20 +83,22 @@ def lines_of_proved(tree: pathlib.Path, commit: str, doubts: list[str]) -> dict[
 
 
 def licence() -> str:
-    """What README.md says of the licence."""
-    found = [line for line in (ROOT / "README.md").read_text(encoding="utf-8").splitlines() if "licence" in line]
-    if len(found) != 1:
-        raise Refused(f"README.md has {len(found)} lines on the licence; expected one")
-    return found[0]
+    """What README.md says of the licence: of the one line that names it, the sentence that does, and those after it."""
+    text = (ROOT / "README.md").read_text(encoding="utf-8")
+    lines = [line for line in text.splitlines() if LICENCE.search(line)]
+    if len(lines) != 1:
+        raise Refused(f"README.md has {len(lines)} lines on the licence; expected one")
+    sentences = re.split(r"(?<=\.) ", lines[0])
+    return " ".join(dropwhile(lambda sentence: not LICENCE.search(sentence), sentences))
 
 
-def write_own_files(tree: pathlib.Path, version: str, proved: str) -> None:
-    """The files at the top of a release, which aren't installed."""
-    page = (ROOT / "packaging/README.release").read_text(encoding="utf-8")
-    (tree / "README.md").write_text(page.replace("VERSION", version).replace("LICENCE", licence()), encoding="utf-8")
-    (tree / "PROVED").write_text(proved, encoding="utf-8")
+def write_own_files(tree: pathlib.Path, version: str) -> None:
+    """The files at the top of a release but for PROVED, which aren't installed."""
     (tree / "install").write_bytes(pathlib.Path(installing.__file__).read_bytes())
     (tree / "install").chmod(0o755)
+    page = (ROOT / "packaging/README.release").read_text(encoding="utf-8")
+    page = page.replace("VERSION", version).replace("LICENCE", licence())
+    (tree / "README.md").write_text(pages.packed("README.md", page, files_of(tree)), encoding="utf-8")
 
 
 def release(is_trial: bool, folder: pathlib.Path) -> pathlib.Path:
@@ -110,8 +117,10 @@ def release(is_trial: bool, folder: pathlib.Path) -> pathlib.Path:
         check_object(scratch)
         stamp = stamp_of(commit, linking.kit_line().split()[0])
         make(tree, static_program(scratch, stamp), stamp)
-        proved = evidence.proved(lines_of_proved(tree, commit, doubts))
-        write_own_files(tree, version, proved)
+        write_own_files(tree, version)
+        sums = {path: checksum((tree / path).read_bytes()) for path in files_of(tree)}
+        proved = evidence.proved(lines_of_proved(tree, commit, doubts), sums)
+        (tree / "PROVED").write_text(proved, encoding="utf-8")
         top = f"argo_judge-{version}-linux-x86_64"
         files = {f"{top}/{path}": file_of(tree / path) for path in files_of(tree)}
     content = compressed(tar(files, time_of_release()))

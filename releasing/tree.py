@@ -1,6 +1,7 @@
 """The files that a release and an installation have, and where: the one table of them, and how they are made.
 
-A tree has the same form as a folder into which it is installed, with the list of its files.
+A tree has the same form as a folder into which it is installed, with the list of its files. What is copied is what git
+tracks, with its uncommitted changes; from sources that have no .git, all but what Python and tools keep next to them.
 """
 import os
 import pathlib
@@ -8,20 +9,22 @@ import shutil
 import subprocess
 import sys
 
-from releasing import ROOT, completions, library
+from releasing import ROOT, completions, library, pages, tracked
 from releasing.helps import helps_of
 from releasing.installing import LIBRARY, LIST
 from releasing.manual import manual
 
 PLUGIN = pathlib.PurePath("bin/kubectl-argo_judge")
-# The recipes and the package that they start, and what of these folders isn't for users.
-FOLDERS = ("recipes", "python")
+# The recipes and the package that they start, callers of the C library, and the documents of README.md.
+COPIED = ("recipes", "python", "examples/embed", "examples/bundles/success-rate.json", "examples/analysisrun.json")
+# The pages for users, and where files are that they link to, which are copied, too.
+PAGES = "docs/use"
+LINKED = ("docs", "examples")
+# What of COPIED isn't for users, and what Python keeps next to sources.
 TESTS = ("tests", "check", "setup.cfg", "build")
 MADE_BY_PYTHON = ("__pycache__", ".egg-info")
 # The C library.
 LIBRARY_FILES = ("include/argo_judge.h", "lib/libargo_judge.a", "lib/libargo_judge.so")
-# The documents of README.md, for a first start.
-EXAMPLES = ("examples/bundles/success-rate.json", "examples/analysisrun.json")
 
 
 def version_of(program: pathlib.Path) -> str:
@@ -41,23 +44,23 @@ def made_texts(program: pathlib.Path) -> dict[str, str]:
     }
 
 
-def is_for_users(parts: tuple[str, ...]) -> bool:
-    """Whether a file of FOLDERS is no test, and nothing that Python or a tool keeps next to sources."""
-    return parts[0] not in TESTS and not any(part.startswith(".") or part.endswith(MADE_BY_PYTHON) for part in parts)
+def is_for_users(name: str) -> bool:
+    """Whether a file is no test, and nothing that Python or a tool keeps next to sources."""
+    parts = pathlib.PurePosixPath(name).parts
+    return parts[1] not in TESTS and not any(part.startswith(".") or part.endswith(MADE_BY_PYTHON) for part in parts)
 
 
-def copied_files(program: pathlib.Path) -> dict[str, pathlib.Path]:
-    """The files that are copied, by their paths."""
-    files = [
-        path
-        for name in FOLDERS
-        for path in sorted((ROOT / name).rglob("*"))
-        if is_for_users(path.relative_to(ROOT / name).parts)
-    ]
-    files += [*sorted((ROOT / "docs/use").glob("*.md")), ROOT / "docs/report.schema.json"]
-    files += [ROOT / name for name in EXAMPLES]
-    found = {str(LIBRARY / path.relative_to(ROOT)): path for path in files if path.is_file()}
-    return {"bin/argo_judge": program, **found}
+def copied_files(root: pathlib.Path = ROOT) -> list[str]:
+    """The files that are copied, by their paths in a checkout."""
+    users = [name for name in tracked.files(PAGES, root=root) if name.endswith(".md")]
+    wanted = {link for page in users for link in pages.linked(page, (root / page).read_text(encoding="utf-8"))}
+    found = {*users, *filter(is_for_users, tracked.files(*COPIED, root=root))}
+    return sorted(found | wanted.intersection(tracked.files(*LINKED, root=root)))
+
+
+def left_out(root: pathlib.Path = ROOT) -> list[str]:
+    """The files that would be copied if git tracked them."""
+    return list(filter(is_for_users, tracked.untracked(PAGES, *COPIED, root=root)))
 
 
 def is_current(crate: str) -> bool:
@@ -79,15 +82,30 @@ def files_of(folder: pathlib.Path) -> list[str]:
     return sorted(path.relative_to(folder).as_posix() for path in found)
 
 
+def copy_files(tree: pathlib.Path, root: pathlib.Path = ROOT) -> None:
+    """Copies what a checkout has for users; pages have no links to what isn't copied."""
+    names = copied_files(root)
+    for name in names:
+        source, file = root / name, tree / LIBRARY / name
+        file.parent.mkdir(parents=True, exist_ok=True)
+        if name.endswith(".md"):
+            file.write_text(pages.packed(name, source.read_text(encoding="utf-8"), names), encoding="utf-8")
+        else:
+            shutil.copyfile(source, file)
+        file.chmod(0o755 if os.access(source, os.X_OK) else 0o644)
+
+
 def make(tree: pathlib.Path, program: pathlib.Path, stamp: str | None = None) -> None:
     """Makes the tree with that program in an empty folder; the C library gets the stamp that the program has."""
-    for path, source in copied_files(program).items():
-        (tree / path).parent.mkdir(parents=True, exist_ok=True)
-        shutil.copyfile(source, tree / path)
-        (tree / path).chmod(0o755 if os.access(source, os.X_OK) else 0o644)
+    copy_files(tree)
+    if missing := left_out():
+        print(f"without {', '.join(missing)}, which git doesn't track", file=sys.stderr)
+    (tree / PLUGIN).parent.mkdir()
+    (tree / PLUGIN).symlink_to(os.path.join("..", LIBRARY, "recipes", PLUGIN.name))
+    shutil.copyfile(program, tree / "bin/argo_judge")
+    (tree / "bin/argo_judge").chmod(0o755)
     for path, text in made_texts(program).items():
         (tree / path).parent.mkdir(parents=True, exist_ok=True)
         (tree / path).write_text(text, encoding="utf-8")
-    (tree / PLUGIN).symlink_to(os.path.join("..", LIBRARY, "recipes", PLUGIN.name))
     add_library(tree, stamp)
     (tree / LIST).write_text("".join(f"{path}\n" for path in [*files_of(tree), LIST]), encoding="utf-8")

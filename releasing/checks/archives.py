@@ -2,6 +2,7 @@
 import pathlib
 import shutil
 import subprocess
+from typing import NamedTuple
 
 from releasing import ROOT
 from releasing.checks.starts import ended
@@ -39,7 +40,16 @@ def archive_in(folder: pathlib.Path) -> pathlib.Path:
     return next(folder.glob("*.tar.gz"))
 
 
-def values_of(tree: pathlib.Path) -> tuple[dict[str, str], str]:
-    """What PROVED says before the sources, by its names, and the sources."""
-    head, _, sources = (tree / "PROVED").read_text(encoding="utf-8").partition("\nsources: ")
-    return dict(line.partition(": ")[::2] for line in head.splitlines()), sources.partition("\n")[2]
+class Proved(NamedTuple):
+    """What PROVED says: its lines by their names, the checksums of the release's files, and those of the sources."""
+
+    lines: dict[str, str]
+    files: str
+    sources: str
+
+
+def values_of(tree: pathlib.Path) -> Proved:
+    head, _, listed = (tree / "PROVED").read_text(encoding="utf-8").partition("\nfiles: ")
+    files, _, sources = listed.partition("\nsources: ")
+    lines = dict(line.partition(": ")[::2] for line in head.splitlines())
+    return Proved(lines, files.partition("\n")[2] + "\n", sources.partition("\n")[2])

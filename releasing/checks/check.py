@@ -1,5 +1,5 @@
-"""Tries what is made of the program's help, the wheel of python/, bin/install into a scratch folder, bin/release and
-packaging/image.
+"""Tries what is made of the program's help, the wheel of python/, which files are packed, bin/install into a scratch
+folder, bin/release and packaging/image.
 
     packaging/check [PROGRAM]    with that program in the place of the one last built, and only what is made of its help
 
@@ -10,9 +10,12 @@ that are the whole system, where the system allows that. What isn't tried is sai
 import pathlib
 import sys
 import tempfile
+from itertools import chain
 
 from checks.harness import Counts, built
+from releasing.checks.contents import of_contents
 from releasing.checks.helps import of_helps
+from releasing.checks.images import of_users
 from releasing.checks.installs import of_install, prepare
 from releasing.checks.releases import of_release
 from releasing.checks.starts import BUILT, Tried, side_by_side
@@ -24,7 +27,8 @@ def checks(program: pathlib.Path, folder: pathlib.Path) -> Tried:
         yield from of_helps(program, folder)
         return
     prepare(folder)
-    yield from side_by_side(of_helps(program, folder), of_wheel(folder), of_install(folder), of_release(folder))
+    quick = chain(of_users(), of_contents(folder), of_helps(program, folder))
+    yield from side_by_side(quick, of_wheel(folder), of_install(folder), of_release(folder))
 
 
 def main(words: list[str]) -> int:

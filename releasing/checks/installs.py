@@ -1,10 +1,25 @@
-"""Tries bin/install, and what is installed: by it, or from a release."""
+"""Tries bin/install, what is installed by it or from a release, and the installer on small releases."""
 import pathlib
 import shutil
 import subprocess
 
 from releasing import ROOT
-from releasing.checks.starts import BUILT, Tried, Words, ended, hidden, is_current, note, own_environment
+from releasing.checks.prefixes import of_words_and_locks
+from releasing.checks.replaced import of_replaced
+from releasing.checks.small import Releases
+from releasing.checks.starts import (
+    ALLOWED,
+    BUILT,
+    Tried,
+    Words,
+    ended,
+    hidden,
+    is_allowed,
+    is_current,
+    note,
+    own_environment,
+    side_by_side,
+)
 
 DOCUMENT = ROOT / "examples/bundles/success-rate.json"
 TEMPLATE = "objects/kind/default/analysistemplate/success-rate.json"
@@ -66,7 +81,32 @@ def of_removal(what: str, install: Words, prefix: pathlib.Path) -> Tried:
     yield f"{what}, alone", [path.name for path in prefix.rglob("*")] == ["bin", "argo_judge"]
 
 
-def of_install(folder: pathlib.Path) -> Tried:
+def of_stops(folder: pathlib.Path, *words: str) -> Tried:
+    """Tries the installer where it fails, on a disk of its own where the system allows that."""
+    disk = folder / "-".join(["stops", *words])
+    disk.mkdir()
+    start: Words = [ROOT / "bin/module", "releasing.checks.stops", *words, disk]
+    if is_allowed():
+        start = [*ALLOWED, "sh", "-c", 'mount -t tmpfs none "$0" && exec "$@"', disk, *start]
+    found = ended(start)
+    lines = found.stdout.splitlines()
+    yield from ((line, False) for line in lines[:-1])
+    yield f"the installer where it fails: {lines[-1:]}", found.returncode == 0
+
+
+def of_small_releases(folder: pathlib.Path) -> Tried:
+    groups = [of_stops(folder)]
+    if is_allowed():
+        groups.append(of_stops(folder, "--disks"))
+    else:
+        note("no name space is allowed here, so nothing is installed on a full or a read-only disk")
+    for name, group in (("words", of_words_and_locks), ("replaced", of_replaced)):
+        (folder / name).mkdir()
+        groups.append(group(Releases(folder / name)))
+    yield from side_by_side(*groups)
+
+
+def of_checkout(folder: pathlib.Path) -> Tried:
     what, prefix, install = "by bin/install", folder / "prefix", [ROOT / "bin/install"]
     if not is_current("argo_judge"):
         yield "a program of other sources is refused", ended([*install, prefix]).returncode == 2
@@ -76,3 +116,7 @@ def of_install(folder: pathlib.Path) -> Tried:
         yield f"{what}, {turn}", ended([*install, prefix]).returncode == 0
     yield from of_prefix(what, prefix, folder)
     yield from of_removal(what, install, prefix)
+
+
+def of_install(folder: pathlib.Path) -> Tried:
+    yield from side_by_side(of_checkout(folder), of_small_releases(folder))

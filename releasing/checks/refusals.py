@@ -1,18 +1,12 @@
-"""Tries what bin/release refuses, in a copy of this checkout, and the release that it doesn't refuse there."""
-import hashlib
+"""Tries what bin/release refuses in a copy of this checkout, whatever the gate said; a trial, too."""
 import pathlib
-import subprocess
 
 from releasing import linking
-from releasing.checks.archives import archive_in, in_copy, unpacked, values_of
-from releasing.checks.starts import Tried, ended, own_environment
-from releasing.evidence import GATE, OBJECT, PROGRAM
+from releasing.checks.archives import in_copy
+from releasing.checks.starts import Tried, ended
+from releasing.evidence import OBJECT, PROGRAM
 from releasing.installing import Refused
 from releasing.stamps import PLACEHOLDER, stamp_of
-
-TIME = 1_000_000_000
-LAST_LINE = "3 passed, 0 failed"
-AUTHOR = ["-c", "user.name=check", "-c", "user.email=check@example.com", "-c", "commit.gpgsign=false"]
 
 
 def of_stamps() -> Tried:
@@ -35,28 +29,6 @@ def refusal(copy: pathlib.Path, *words: str) -> str:
     found = ended([copy / "bin/release", *words, "--to", copy / "dist"])
     is_one_line = found.stdout.startswith("release: ") and found.stdout.count("\n") == 1
     return found.stdout if found.returncode == 2 and is_one_line else ""
-
-
-def of_last_line(copy: pathlib.Path, folder: pathlib.Path) -> Tried:
-    """A release needs the last line of the gate, of this program, and everything committed."""
-    gate = in_copy(copy, GATE)
-    gate.unlink(missing_ok=True)
-    yield "without the gate's last line there is no release", "argo_judge.gate" in refusal(copy)
-    gate.write_text(f"{'0' * 64} {'0' * 40} {LAST_LINE}\n", encoding="utf-8")
-    yield "with that of another program neither", "another program" in refusal(copy)
-    checksum = hashlib.sha256(PROGRAM.read_bytes()).hexdigest()
-    gate.write_text(f"{checksum} {'0' * 40} {LAST_LINE}\n", encoding="utf-8")
-    (copy / "uncommitted").write_text("", encoding="utf-8")
-    yield "with uncommitted changes neither", "uncommitted" in refusal(copy)
-    subprocess.run(["git", "-C", copy, "add", "--all"], check=True)
-    subprocess.run(["git", *AUTHOR, "-C", copy, "commit", "--quiet", "-m", "a check"], check=True)
-    given = {**own_environment(), "SOURCE_DATE_EPOCH": str(TIME)}
-    made = ended([copy / "bin/release", "--to", folder / "released"], env=given)
-    yield "a release", made.returncode == 0
-    tree = unpacked(archive_in(folder / "released"), folder / "of the release")
-    yield "a release has the time that it is given", {path.lstat().st_mtime for path in tree.rglob("*")} == {TIME}
-    values, _ = values_of(tree)
-    yield "PROVED has the gate's last line", values["gate"] == LAST_LINE and "trial" not in values
 
 
 def of_refusals(copy: pathlib.Path) -> Tried:

@@ -8,10 +8,13 @@ from itertools import chain
 
 from releasing import ROOT, library
 from releasing.checks.archives import archive_in, copy_of_checkout, unpacked, values_of
+from releasing.checks.contents import add_ignored, of_checksums, of_links
+from releasing.checks.gates import of_gate
 from releasing.checks.images import of_images
-from releasing.checks.installs import LINT, LINTED, of_prefix, of_program, of_removal
-from releasing.checks.refusals import of_last_line, of_refusals, of_stamps
+from releasing.checks.installs import LINT, LINTED, of_prefix, of_program, of_removal, reported
+from releasing.checks.refusals import of_refusals, of_stamps
 from releasing.checks.starts import (
+    BUILT,
     Tried,
     ended,
     hidden,
@@ -30,7 +33,7 @@ from releasing.tree import LIBRARY_FILES
 
 
 def of_proved(tree: pathlib.Path) -> Tried:
-    values, sources = values_of(tree)
+    values, _, sources = values_of(tree)
     program = (tree / "bin/argo_judge").read_bytes()
     commit = ended(["git", "-C", ROOT, "rev-parse", "HEAD"]).stdout.strip()
     yield "PROVED names the program", values["sha256 of bin/argo_judge"] == hashlib.sha256(program).hexdigest()
@@ -43,8 +46,8 @@ def of_proved(tree: pathlib.Path) -> Tried:
     yield "no file names this folder", not any(os.fsencode(ROOT) + b"/" in text for text in texts)
 
 
-def of_library(tree: pathlib.Path) -> Tried:
-    """The C library, where it is built, has the stamp of the program."""
+def of_library(tree: pathlib.Path, folder: pathlib.Path) -> Tried:
+    """The C library, where it is built, has the stamp of the program, and examples/embed calls it."""
     if not library.BUILT.is_file() or not is_current("argo_judge_c"):
         note("the C library isn't built of the sources as they are, so it is tried in no release")
         return
@@ -52,6 +55,13 @@ def of_library(tree: pathlib.Path) -> Tried:
     yield "the C library is in a release", all((tree / path).is_file() for path in LIBRARY_FILES)
     for path in LIBRARY_FILES[1:]:
         yield f"{path} has the commit and the kit", (tree / path).read_bytes().count(stamp.encode()) == 1
+    embed, caller = tree / "lib/argo_judge/examples/embed", folder / "caller"
+    built = ended(["cc", "-I", tree / "include", embed / "judge.c", tree / LIBRARY_FILES[1], "-o", caller])
+    yield "a caller in C is built of what a release has", built.returncode == 0
+    wanted = reported([BUILT, "run", "--plain"])
+    yield "a caller in C reports as the program", reported(hidden([caller])) == wanted
+    by_python = [embed / "judge.py", tree / LIBRARY_FILES[2]]
+    yield "a caller in Python reports as the program", reported(hidden(by_python)) == wanted
 
 
 def of_page(tree: pathlib.Path) -> Tried:
@@ -89,7 +99,9 @@ def of_python(prefix: pathlib.Path, folder: pathlib.Path) -> Tried:
 
 def of_tree(tree: pathlib.Path, folder: pathlib.Path) -> Tried:
     yield from of_proved(tree)
-    yield from of_library(tree)
+    yield from of_checksums(tree)
+    yield from of_links("in a release", tree)
+    yield from of_library(tree, folder)
     yield from of_page(tree)
     yield from of_program("unpacked", hidden([tree / "bin/argo_judge"]))
     yield "unpacked, a recipe", LINTED in ended(hidden([tree / LINT, folder / "template.json"])).stdout
@@ -137,6 +149,7 @@ def of_release(folder: pathlib.Path) -> Tried:
         return
     copy, one, two = folder / "copy", folder / "one", folder / "two"
     copy_of_checkout(copy)
+    add_ignored(copy)
     trials = list(side_by_side(of_trial(ROOT, one), of_trial(copy, two)))
     yield from trials
     if not all(passed for _, passed in trials):
@@ -148,5 +161,5 @@ def of_release(folder: pathlib.Path) -> Tried:
     yield from side_by_side(
         of_images(archive_in(one), archive_in(two), tree, folder),
         of_tree(tree, folder),
-        chain(of_stamps(), of_last_line(copy, folder), of_refusals(copy)),
+        chain(of_stamps(), of_gate(copy, folder), of_refusals(copy)),
     )

@@ -34,7 +34,7 @@ def own_environment(*without: str) -> dict[str, str]:
 
 def ended(words: Words, **more: Any) -> "subprocess.CompletedProcess[str]":
     """How a start ended that finds no module of this checkout but by itself."""
-    given: dict[str, Any] = {"env": own_environment(), "check": False, **more}
+    given: dict[str, Any] = {"env": own_environment(), "check": False, "errors": "backslashreplace", **more}
     return subprocess.run(words, stdout=subprocess.PIPE, stderr=subprocess.STDOUT, text=True, **given)
 
 
