@@ -22,7 +22,7 @@ from checks.layout import words as layout
 MOST = {
     "README.md": 1145,
     "CONTRIBUTING.md": 1600,
-    "CHANGELOG.md": 1110,
+    "CHANGELOG.md": 1130,
     "docs/use/recipes.md": 1670,
     "docs/use/formats.md": 3690,
     "docs/use/json.md": 875,
@@ -30,7 +30,7 @@ MOST = {
     "docs/use/backtest.md": 730,
     "docs/use/embed.md": 530,
     "docs/use/install.md": 800,
-    "docs/use/lint.md": 965,
+    "docs/use/lint.md": 1110,
     "docs/use/language.md": 3500,
     "docs/use/phases.md": 1220,
     "docs/use/shapes.md": 1000,

@@ -3,6 +3,7 @@
 import pytest
 
 from argo_judge.jsontext import NumberText
+from argo_judge.lint.answers import divisions, scales
 from argo_judge.lint.arguments import unknown_arguments
 from argo_judge.lint.fields import close_to, refused_values, unknown_fields
 from argo_judge.lint.limits import is_duration, refused_by_controller, unreachable_limits
@@ -247,3 +248,29 @@ def test_of_many_refused_items_the_first_are_looked_at() -> None:
     found = list(refused_values(subject_of({"provider": {"web": {"url": "x", "headers": [0] * 20_000}}})))
     assert len(found) == 51
     assert found[-1].message == "there are 19950 more values of web.headers that the API server refuses"
+
+
+@pytest.mark.parametrize(
+    ("query", "condition", "found"),
+    [
+        ("a / b", "result[0] > 95", 1),
+        ("a / b", "result[0] > 0.95", 0),
+        ("100 * a / b", "result[0] > 95", 0),
+        ("a / b > 100", "result[0] > 95", 1),
+        ("a / b * 100", "result[0] > 95", 0),
+        ("a / b * 100", "result[0] > 0.95", 1),
+        ("a / b * 1000", "result[0] > 0.95", 0),
+        ('a{path="/x"} * 100', "result[0] > 0.95", 0),
+        ("a / b", "result[0] > 0", 0),
+        ("a / b", "len(result) > 5", 0),
+    ],
+)
+def test_scales(query: str, condition: str, found: int) -> None:
+    metric = {"provider": {"prometheus": {"query": query}}, "successCondition": condition}
+    assert len(list(scales(subject_of(metric)))) == found
+
+
+def test_long_queries_take_no_longer() -> None:
+    queries = [piece * 100_000 for piece in ('"', "{", "\\'", "* ", "a / ")]
+    metrics = [{"provider": {"prometheus": {"query": query}}, "failureCondition": "result > 1"} for query in queries]
+    assert len(list(scales(subject_of(*metrics)))) + len(list(divisions(subject_of(*metrics)))) <= 10

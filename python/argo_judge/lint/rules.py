@@ -1,6 +1,7 @@
 """All findings of a template, in the order of its lines or fields."""
 from collections.abc import Collection, Iterator
 
+from argo_judge.lint.answers import divisions, scales, texts_for_numbers
 from argo_judge.lint.arguments import arguments_without_value, unknown_arguments, unused_arguments
 from argo_judge.lint.conditions import conditions_missing, findings_of_texts
 from argo_judge.lint.fields import refused_values, unknown_fields
@@ -22,6 +23,9 @@ OF_TEXT = (
     conditions_missing,
     findings_of_shapes,
     findings_of_texts,
+    texts_for_numbers,
+    scales,
+    divisions,
     unreachable_limits,
     unknown_arguments,
     unused_arguments,
