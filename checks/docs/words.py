@@ -30,7 +30,7 @@ MOST = {
     "docs/use/backtest.md": 730,
     "docs/use/embed.md": 530,
     "docs/use/install.md": 800,
-    "docs/use/lint.md": 1110,
+    "docs/use/lint.md": 1115,
     "docs/use/language.md": 3500,
     "docs/use/phases.md": 1220,
     "docs/use/shapes.md": 1000,
