@@ -3,7 +3,7 @@ from collections.abc import Iterator
 from typing import NamedTuple
 
 from argo_judge.engine.refusals import Refusal
-from argo_judge.lint.findings import Finding, error, warning
+from argo_judge.lint.findings import Finding, error, info, warning
 from argo_judge.lint.questions import Question
 from argo_judge.lint.references import STAND_IN, bound, pieces, referred_in
 from argo_judge.lint.shaping import shapes_of_metrics
@@ -208,5 +208,5 @@ def refused(asked: Asked, refusal: Refusal, declared: str) -> Finding | None:
         )
     rule = "text-and-number" if text_and_number(refusal) else RULES_OF_FAULTS.get(refusal.name, "refused-condition")
     mend = MENDS_OF_RULES.get(rule, MENDS.get(refusal.name, DOCS))
-    kind = warning if asked.has_stand_in else error
+    kind = info if asked.has_stand_in else error  # the argument may be an operator, or all of the condition
     return kind(rule, asked.pointer, f"{asked.title} is refused{asked.noted}: {refusal.text}", mend)
